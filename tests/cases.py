@@ -205,6 +205,9 @@ class Case(unittest.TestCase):
 
     quiet = QUIET
 
+    # What a load asks for where its test says nothing else.
+    usual = "first.lda"
+
     def run(self, result=None):
         result = result if result is not None else self.defaultTestResult()
         noted, watch = Noted(), HeldUp()
@@ -248,6 +251,21 @@ class Case(unittest.TestCase):
         """Runs the program in the test's folder; words that stand in one text have no spaces in them."""
         words = words.split() if isinstance(words, str) else words
         return run(words, keys, cwd=self.room, seconds=300, **more)
+
+    def words_at(self, line, command, quiet=None):
+        """The words of a command at a line, for which LINE stands."""
+        return [*(line.address if it == "LINE" else it for it in command.split()), "--quiet", str(quiet or self.quiet)]
+
+    def load_words(self, line, words=None, quiet=None):
+        """The words of a load at a line; these are the tape and all that stands behind LINE."""
+        tape, _, more = (words or self.usual).partition(" ")
+        return self.words_at(line, f"load {tape} LINE {more}", quiet)
+
+    def load(self, line, words=None, quiet=None, **more):
+        """Loads at a line."""
+        given = self.ldaodt(self.load_words(line, words, quiet), **more)
+        line.settle()
+        return given
 
     def begin(self, words):
         """Begins a run of the program in the test's folder, which the test then meets on its way, and which ends with it."""

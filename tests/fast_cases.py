@@ -420,15 +420,10 @@ def wrong_with(machine, record):
 class FastCase(Case):
     """A test of loads with stubs."""
 
+    usual = "a.lda --fast"
+
     def put_tape(self, name, image, start=START):
         self.put(name, tape(image, start))
-
-    def load(self, line, words="a.lda --fast", **more):
-        """Loads: `words` are the tape and all that stands behind the address."""
-        first, *rest = words.split()
-        given = self.ldaodt(["load", first, line.address, "--quiet", str(self.quiet), *rest], **more)
-        line.settle()
-        return given
 
     def recorded(self, name="a.record"):
         return bytes_of(self.path(name)).decode()

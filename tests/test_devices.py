@@ -44,16 +44,6 @@ class Devices(Case):
         super().setUp()
         self.put_tapes("first.lda")
 
-    def words_of(self, device, words="first.lda", quiet=None):
-        tape, *rest = words.split()
-        return ["load", tape, device.address, "--quiet", str(quiet or self.quiet), *rest]
-
-    def load(self, device, words="first.lda", quiet=None, **more):
-        given = self.ldaodt(self.words_of(device, words, quiet), **more)
-        device.settle()
-        self.assertLessEqual(device.machine.typed.count("G"), 1)
-        return given
-
     def finish(self, process, seconds=60):
         out, err = process.communicate(timeout=seconds)
         return Answer(process.returncode, out, err)
@@ -118,7 +108,7 @@ class Loads(Devices):
         28 words takes some three seconds."""
         shutil.copyfile(HELLO, self.path("hello.lda"))
         device = self.device_at(Console(), baud=9600)
-        process = self.begin(self.words_of(device, "hello.lda", quiet=max(1000, self.quiet)))
+        process = self.begin(self.load_words(device, "hello.lda", quiet=max(1000, self.quiet)))
         for keys in (20, 150, 400):
             self.until(lambda keys=keys: len(device.machine.typed) >= keys)
             process.send_signal(signal.SIGSTOP)
@@ -185,7 +175,7 @@ class Refusals(Devices):
     def test_a_second_load(self):
         """It is refused, and the first goes on."""
         device = self.device_at(Console())
-        first = self.begin(self.words_of(device))
+        first = self.begin(self.load_words(device))
         self.until(lambda: is_locked(device))
         self.is_refused(device.name, why=IN_USE)
         self.ends(self.finish(first), 0, STARTED)
@@ -239,7 +229,7 @@ class Failures(Devices):
     def test_a_hang_up_while_it_listens(self):
         """The quiet time is a minute, and the load is over long before."""
         device = self.device_at(Console())
-        process = self.begin(self.words_of(device, quiet=60000))
+        process = self.begin(self.load_words(device, quiet=60000))
         self.until(lambda: is_locked(device))
         device.hang_up()
         self.ends(self.finish(process, seconds=30), 4, "sent 0 spent 0 verified 0 of 1\nend LineFailed\n", FAILED)
@@ -257,7 +247,7 @@ class Failures(Devices):
         """What the machine prints is typed back at it, for ever: the load types nothing that could change memory, and
         says that it listens."""
         device = self.device_at(Console(), settings="raw echo")
-        process = self.begin(self.words_of(device))
+        process = self.begin(self.load_words(device))
         time.sleep(3)
         self.assertIsNone(process.poll())
         process.kill()
@@ -319,7 +309,7 @@ class Listening(Devices):
     def test_a_hang_up(self):
         """A machine that prints for ever is heard until it hangs up, and that is no fault of the load."""
         device = self.device_at(Console(says=[(0.1, "END PASS\r\n")] * 1000))
-        process = self.begin(self.words_of(device, "first.lda --listen 60"))
+        process = self.begin(self.load_words(device, "first.lda --listen 60"))
         self.read(process, STARTED + "END PASS\r\n" * 3)
         device.hang_up()
         rest, err = process.communicate(timeout=60)
@@ -329,7 +319,7 @@ class Listening(Devices):
     def test_each_character_comes_at_once(self):
         """What is said is read before listening is over, and a reader that goes then is told of."""
         device = self.device_at(Console(says=[(0, HELLO_TEXT), (1, HELLO_TEXT)]))
-        process = self.begin(self.words_of(device, "first.lda --listen 60"))
+        process = self.begin(self.load_words(device, "first.lda --listen 60"))
         self.read(process, STARTED + HELLO_TEXT)
         process.stdout.close()
         process.stdout = None

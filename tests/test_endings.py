@@ -42,8 +42,8 @@ class Mishaps(Case):
     def ended(self, mishaps, quiet, words, machine, close_after):
         """Does a run with so many mishaps, which is all its patience where they are many; returns its answer."""
         peer = self.console_at(machine(mishaps), close_after=None if close_after is None else close_after + mishaps, takes_last=True)
-        words = words.replace("LINE", peer.address) + f" --quiet {quiet} --patience {max(mishaps, 8)}"
-        return self.ldaodt(words, file_size=9 if "short.record" in words else None)
+        given = self.words_at(peer, f"{words} --patience {max(mishaps, 8)}", quiet)
+        return self.ldaodt(given, file_size=9 if "short.record" in words else None)
 
     def test_few(self):
         for mishaps in (0, 9, 10):

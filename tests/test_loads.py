@@ -34,14 +34,6 @@ class Loads(Case):
         super().setUp()
         self.put_tapes("first.lda", "no-word.lda", "two-words.lda")
 
-    def load(self, peer, words, quiet=None, **more):
-        """Loads at a console: `words` are the tape and all that stands behind the address."""
-        tape, *rest = words.split()
-        given = self.ldaodt(["load", tape, peer.address, "--quiet", str(quiet or self.quiet), *rest], **more)
-        peer.settle()
-        self.assertLessEqual(peer.machine.typed.count("G"), 1)
-        return given
-
     def recorded(self, peer, tape="first.lda", **more):
         return self.load(peer, f"{tape} --record a.record", **more)
 

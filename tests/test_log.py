@@ -67,7 +67,7 @@ class Logs(Case):
         """Does a run at a machine of its own; in what it answers the line's address is LINE."""
         peer = self.console_at(machine, **named)
         self.begun = time.time()
-        given = self.ldaodt(f"{words.replace('LINE', peer.address)} --quiet {self.quiet}", **(more or {}))
+        given = self.ldaodt(self.words_at(peer, words), **(more or {}))
         peer.settle()
         return given._replace(err=given.err.replace(peer.address, "LINE"))
 

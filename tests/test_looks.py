@@ -55,15 +55,10 @@ class Looks(Case):
         super().setUp()
         self.put_tapes("first.lda", "no-word.lda", "two-words.lda")
 
-    def words_of(self, line, command):
-        """The words of a command, in which LINE stands for the line."""
-        name, *rest = command.split()
-        return [name, *(line.address if it == "LINE" else it for it in rest), "--quiet", str(self.quiet)]
-
     def look(self, line, command, **more):
         """Looks; whatever came of it, only looking keys were typed, and memory is what it was."""
         before = list(line.machine.words)
-        given = self.ldaodt(self.words_of(line, command), **more)
+        given = self.ldaodt(self.words_at(line, command), **more)
         line.settle()
         self.has_looked(line, before)
         return given
@@ -155,7 +150,7 @@ class Verify(Looks):
         """Long before the look is over; and one that is killed leaves what it has found."""
         self.put("many.lda", as_tape(0o1000, [1] * 33))
         line = self.console_at(SlowConsole(memory=as_memory(0o1000, [0, 1, 0] + [1] * 30)))
-        process = self.begin(self.words_of(line, "verify many.lda LINE"))
+        process = self.begin(self.words_at(line, "verify many.lda LINE"))
         for address in (0o1000, 0o1004):
             self.is_so(process.stdout.readline(), f"{address:06o} 177777 000001 differs 000000\n")
             self.assertLess(len(line.machine.typed), 8 * 33)
@@ -222,7 +217,7 @@ class Save(Looks):
         self.ends(self.look(line, "save a.lda LINE 1000 1116"), 0, "sent 321 spent 0 read 40 of 40\nend Saved\n")
         for address, word in as_memory(0o1000, numbers("after", 40)).items():
             line.machine.words[address // 2] = word
-        given = self.ldaodt(self.words_of(line, "load a.lda LINE"))
+        given = self.ldaodt(self.words_at(line, "load a.lda LINE"))
         self.is_so((given.status, given.out.split("\n")[1], given.err), (0, "end Loaded", ""))
         line.settle()
         self.is_so({it: line.machine.word(it) for it in memory}, memory)
@@ -308,7 +303,7 @@ class Files(Looks):
     def test_a_file_that_somebody_makes_meanwhile(self):
         """It is as it was, and nothing is reported; the tape stays beside it."""
         line = self.console_at(SlowConsole())
-        process = self.begin(self.words_of(line, "save a.lda LINE 1000 1100"))
+        process = self.begin(self.words_at(line, "save a.lda LINE 1000 1100"))
         self.until(lambda: len(line.machine.typed) > 20)
         self.put("a.lda", b"hello")
         out, err = process.communicate(timeout=60)
@@ -318,7 +313,7 @@ class Files(Looks):
     def test_two_saves_of_one_name(self):
         """The second is refused, and the first goes on."""
         line, other = self.console_at(SlowConsole()), self.console_at(Console())
-        process = self.begin(self.words_of(line, "save a.lda LINE 1000 1100"))
+        process = self.begin(self.words_at(line, "save a.lda LINE 1000 1100"))
         self.until(lambda: len(line.machine.typed) > 20)
         self.ends(self.look(other, "save a.lda LINE 1000 1000"), 4, "", "ldaodt: a.lda.part is there already\n")
         self.is_so(other.connections, 0)
@@ -437,7 +432,7 @@ class Failures(Looks):
         def trial(keys):
             line = self.device_at(SlowConsole(memory=as_memory(0o1000, words)))
             before = list(line.machine.words)
-            process = self.begin(self.words_of(line, f"save {keys}.lda LINE 1000 1100"))
+            process = self.begin(self.words_at(line, f"save {keys}.lda LINE 1000 1100"))
             self.until(lambda: len(line.machine.typed) >= keys)
             process.send_signal(signal.SIGKILL)
             process.wait()
@@ -461,7 +456,7 @@ class Failures(Looks):
         """A device that sends back what it hears never falls silent: nothing is typed but one `Z`."""
         line = self.device_at(Console(), settings="raw echo")
         before = list(line.machine.words)
-        process = self.begin(self.words_of(line, "verify first.lda LINE"))
+        process = self.begin(self.words_at(line, "verify first.lda LINE"))
         time.sleep(2)
         self.assertIsNone(process.poll())
         process.kill()
@@ -470,9 +465,9 @@ class Failures(Looks):
 
     def test_a_device_that_a_load_has(self):
         line = self.device_at(SlowConsole())
-        load = self.begin(self.words_of(line, "load first.lda LINE"))
+        load = self.begin(self.words_at(line, "load first.lda LINE"))
         self.until(lambda: len(line.machine.typed) > 3)
-        given = self.ldaodt(self.words_of(line, "verify first.lda LINE"))
+        given = self.ldaodt(self.words_at(line, "verify first.lda LINE"))
         self.ends(given, 4, "", fault(f"cannot connect to {line.address}", IN_USE))
         out, err = load.communicate(timeout=60)
         self.is_so((load.returncode, out, err), (0, "sent 30 spent 0 verified 1 of 1\nend Started\n", ""))

@@ -27,16 +27,11 @@ GOING_ON = "going on behind 1 of 2 words, listening; power lost? use --recheck"
 class Loads(Case):
     """A load of two words."""
 
+    usual = "two-words.lda --record a.record"
+
     def setUp(self):
         super().setUp()
         self.put_tapes("two-words.lda", "no-word.lda", "first.lda")
-
-    def load(self, peer, words="two-words.lda --record a.record", **more):
-        tape, *rest = words.split()
-        given = self.ldaodt(["load", tape, peer.address, "--quiet", str(self.quiet), *rest], **more)
-        peer.settle()
-        self.assertLessEqual(peer.machine.typed.count("G"), 1)
-        return given
 
 
 class PowerLoss(Loads):

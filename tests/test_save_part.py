@@ -74,7 +74,7 @@ class Part(Looks):
     def refuses_a_second(self, report):
         """A save goes to its end and reports this, while a second one of the same name is refused."""
         line, other = self.machine(SlowBegin), self.machine()
-        process = self.begin(self.words_of(line, SAVE))
+        process = self.begin(self.words_at(line, SAVE))
         self.until(lambda: len(line.machine.typed) > 20)
         self.ends(self.look(other, SAVE), 4, "", "ldaodt: a.lda.part is there already\n")
         self.is_so(other.connections, 0)
@@ -98,7 +98,7 @@ class Left(Part):
             with self.subTest(number):
                 line = self.machine(SlowEnd)
                 before = list(line.machine.words)
-                process = self.begin(self.words_of(line, SAVE))
+                process = self.begin(self.words_at(line, SAVE))
                 self.until(lambda: len(line.machine.typed) > 8 * 260)
                 process.send_signal(number)
                 self.is_so(process.wait(), -number)
@@ -113,7 +113,7 @@ class Left(Part):
     def test_before_the_first_block(self):
         """There is room, and nothing in it."""
         line = self.machine(SlowBegin)
-        process = self.begin(self.words_of(line, SAVE))
+        process = self.begin(self.words_at(line, SAVE))
         self.until(lambda: len(line.machine.typed) > 8 * 20)
         self.is_left(0)
         self.is_so(self.part(), bytes(ROOM))
@@ -124,7 +124,7 @@ class Left(Part):
     def test_the_block_is_there_with_its_last_word(self):
         """As soon as the next word is asked for."""
         line = self.machine(SlowEnd)
-        self.begin(self.words_of(line, SAVE))
+        self.begin(self.words_at(line, SAVE))
         self.until(lambda: len(line.machine.typed) > 1 + 8 * 257)
         self.is_so(self.part()[:BLOCK], TAPE[:BLOCK])
 
@@ -282,7 +282,7 @@ class GoesOn(Part):
     def test_a_line_that_fails_in_the_looks(self):
         self.leave()
         line = self.device_at(SlowBegin(memory=as_memory(0o1000, WORDS)))
-        process = self.begin(self.words_of(line, SAVE))
+        process = self.begin(self.words_at(line, SAVE))
         self.until(lambda: len(line.machine.typed) > 20)
         line.hang_up()
         out, err = process.communicate(timeout=60)
@@ -310,7 +310,7 @@ class Ended(Part):
     def test_a_line_that_fails(self):
         """Behind the first block."""
         line = self.device_at(SlowEnd(memory=as_memory(0o1000, WORDS)))
-        process = self.begin(self.words_of(line, SAVE))
+        process = self.begin(self.words_at(line, SAVE))
         self.until(lambda: len(line.machine.typed) > 8 * 270)
         line.hang_up()
         out, err = process.communicate(timeout=60)
@@ -326,7 +326,7 @@ class Ended(Part):
     def test_a_file_that_somebody_makes_meanwhile(self):
         """It is as it was, and the part stays, with the whole tape in it."""
         line = self.machine(SlowEnd)
-        process = self.begin(self.words_of(line, SAVE))
+        process = self.begin(self.words_at(line, SAVE))
         self.until(lambda: len(line.machine.typed) > 8 * 270)
         self.put("a.lda", b"hello")
         out, err = process.communicate(timeout=120)
@@ -363,7 +363,7 @@ class AtEachCall(Part):
         line = self.machine()
         words = list(line.machine.words)
         try:
-            given = traced.run([*SAVE.replace("LINE", line.address).split(), "--quiet", str(self.quiet)], before, cwd=self.room)
+            given = traced.run(self.words_at(line, SAVE), before, cwd=self.room)
         except ProcessLookupError:
             given = None
         line.settle()

@@ -53,18 +53,11 @@ def looked_at(typed):
 class Stale(Case):
     """A load with a record, of words one behind another."""
 
+    usual = "a.lda --record a.record"
+
     def setUp(self):
         super().setUp()
         self.put_tapes("first.lda", "two-words.lda", "no-word.lda")
-
-    def words_of(self, line, words="a.lda --record a.record"):
-        tape, *rest = words.split()
-        return ["load", tape, line.address, "--quiet", str(self.quiet), *rest]
-
-    def load(self, line, words="a.lda --record a.record", **more):
-        given = self.ldaodt(self.words_of(line, words), **more)
-        line.settle()
-        return given
 
     def recorded(self):
         return bytes_of(self.path("a.record")).decode()
@@ -294,7 +287,7 @@ class Mishaps(Stale):
             with open(os.path.join(room, name), "wb") as file:
                 file.write(data)
         peer = self.console_at(LossyConsole(memory=memory, **lost))
-        given = subprocess.run([PROGRAM, *self.words_of(peer)], cwd=room, capture_output=True, text=True, timeout=120)
+        given = subprocess.run([PROGRAM, *self.load_words(peer)], cwd=room, capture_output=True, text=True, timeout=120)
         peer.settle()
         return given, peer.machine, bytes_of(os.path.join(room, "a.record")).decode()
 
@@ -389,7 +382,7 @@ class Kills(Stale):
                 self.put_words(values, 4)
                 peer = self.console_at(SlowConsole(memory=memory))
                 before = list(peer.machine.words)
-                process = self.begin(self.words_of(peer))
+                process = self.begin(self.load_words(peer))
                 self.until(lambda: len(peer.machine.typed) >= keys)
                 process.send_signal(signal.SIGKILL)
                 self.is_so(process.wait(60), -signal.SIGKILL)
@@ -405,7 +398,7 @@ class Kills(Stale):
         values = numbered(8)
         self.put_words(values, 8)
         peer = self.console_at(SlowConsole())
-        process = self.begin(self.words_of(peer))
+        process = self.begin(self.load_words(peer))
         self.until(lambda: len(peer.machine.typed) >= 3)
         other = self.console_at(Console())
         self.ends(self.load(other), 4, "", "ldaodt: record in use: a.record\n")

@@ -41,7 +41,7 @@ class Calls(Case):
 
     def ask(self, line, words, before):
         """Runs the program at a line, with its calls told to `before`."""
-        given = traced.run([*words.replace("LINE", line.address).split(), "--quiet", str(self.quiet)], before, cwd=self.room)
+        given = traced.run(self.words_at(line, words), before, cwd=self.room)
         line.settle()
         return given
 

@@ -113,10 +113,8 @@ class Terminal(Case):
 
     def load_at_a_terminal(self, machine=None, words="first.lda", quiet=None, close_after=None, baud=None, **more):
         self.put_tapes("first.lda", "two-words.lda")
-        tape, *rest = words.split()
         peer = self.console_at(machine or Console(), close_after=close_after, baud=baud)
-        words = ["load", tape, peer.address, "--quiet", str(quiet or self.quiet), *rest]
-        return self.at_a_terminal(lambda terminal: self.ldaodt(words, stderr=terminal, **more))
+        return self.at_a_terminal(lambda terminal: self.load(peer, words, quiet, stderr=terminal, **more))
 
     def test_a_load_is_shown(self):
         given, shown = self.load_at_a_terminal()
@@ -147,7 +145,7 @@ class Terminal(Case):
         """Does what the words ask for at a machine, and interrupts it as soon as that is due; returns how it ended, and what was shown."""
         self.put_tapes("first.lda", "two-words.lda")
         peer = self.console_at(machine)
-        words = [*words.replace("LINE", peer.address).split(), "--quiet", str(self.quiet)]
+        words = self.words_at(peer, words)
 
         def done(terminal):
             process = subprocess.Popen([PROGRAM, *words], cwd=self.room, stderr=terminal, stdout=subprocess.PIPE,
@@ -286,7 +284,7 @@ class Looks(Case):
 
     def look_at_a_terminal(self, machine, words, quiet=None):
         self.put_tapes("first.lda", "two-words.lda")
-        words = [*words.replace("LINE", self.console_at(machine).address).split(), "--quiet", str(quiet or self.quiet)]
+        words = self.words_at(self.console_at(machine), words, quiet)
         return self.at_a_terminal(lambda terminal: self.ldaodt(words, stderr=terminal))
 
     def test_each_word_that_was_read_counts(self):

@@ -14,6 +14,8 @@
 #[cfg(test)]
 mod attempts;
 #[cfg(test)]
+mod commands;
+#[cfg(test)]
 mod failing_commands;
 #[cfg(test)]
 mod failing_keys;

@@ -2,6 +2,7 @@
 //! there is a simulated one.
 
 use crate::attempts::{Ended, OUT_OF_MEMORY, run};
+use crate::commands::{COMMANDS, Command, STALE};
 use endings::Status;
 use odt_machine::{LARGEST_WORDS, PLAIN_STYLE};
 use request_values::{
@@ -9,18 +10,19 @@ use request_values::{
     Stage, TapeRequest,
 };
 use scarce_memory::{Famine, ROOMS};
-use simulated_system::{NOTHING, ONE_WORD, ONE_WORD_DIALOGUE, ONE_WORD_TEXT, PADDED, WRONG_SUM};
+use simulated_system::{NOTHING, ONE_WORD, ONE_WORD_TEXT, PADDED, WRONG_SUM};
 use std::alloc::{AllocError, Global};
 use std::test::Fail;
 use std::{fs, io};
 use tape_image::Start;
 
 // The files that the requests name.
-const FILES: [(&str, &[u8]); 6] = [
+const FILES: [(&str, &[u8]); 7] = [
     ("scarce-one-word.lda", &ONE_WORD),
     ("scarce-wrong-sum.lda", &WRONG_SUM),
     ("scarce-nothing.lda", &NOTHING),
     ("scarce.script", b"clean"),
+    ("scarce-stale.script", STALE),
     ("scarce-loss.script", b"to 4\ndown 0\nquiet\nclean\n"),
     ("scarce.record", b"LDAODT 1\n001000 177777 011064\nG\n"),
 ];
@@ -86,6 +88,7 @@ const DIGIT_LOST: &str =
 // What is asked for, with the names that a request has in a vector.
 #[derive(Clone, Copy)]
 enum Asked {
+    Plain(Command),
     CheckInput,
     Check(&'static [&'static str]),
     Dialogue(&'static [&'static str], Console),
@@ -98,6 +101,9 @@ enum Asked {
 // The request of a row.
 fn request_of(alloc: Global, asked: Asked) -> Result<Request<'static>, AllocError> {
     Ok(match asked {
+        Asked::Plain(command) => {
+            command.request(alloc, "scarce-one-word.lda", "scarce-stale.script")?
+        }
         Asked::CheckInput => Request::Tape(TapeRequest::CheckInput),
         Asked::Check(tapes) => Request::Tape(TapeRequest::Check(
             Vec::from_slice(alloc, tapes)?,
@@ -131,8 +137,8 @@ fn request_of(alloc: Global, asked: Asked) -> Result<Request<'static>, AllocErro
 // the line on standard error.
 type Row = (Asked, &'static [u8], Status, &'static str, &'static str);
 
-// Requests of each command, some of them refused behind their growths.
-static REQUESTS: [Row; 14] = [
+// Requests that one command alone has, some of them refused behind their growths.
+static REQUESTS: [Row; 13] = [
     (
         Asked::CheckInput,
         &ONE_WORD,
@@ -180,13 +186,6 @@ static REQUESTS: [Row; 14] = [
         &[],
         Status::NotLoaded,
         SMALL_MACHINE,
-        "",
-    ),
-    (
-        Asked::Dialogue(&["scarce-one-word.lda"], LARGEST),
-        &[],
-        Status::Done,
-        ONE_WORD_DIALOGUE,
         "",
     ),
     (
@@ -301,6 +300,16 @@ fn ends_at_last(rt: &HostRuntime, row: &Row) -> bool {
 #[test]
 fn each_growth_is_refused_in_turn(rt: HostRuntime) -> Result<(), Fail> {
     put_files(&rt)?;
+    for (place, command) in COMMANDS.iter().enumerate() {
+        let row = (
+            Asked::Plain(*command),
+            [].as_slice(),
+            Status::Done,
+            command.text(),
+            "",
+        );
+        assert!(rt; ends_at_last(&rt, &row), "command {place}");
+    }
     for (place, row) in REQUESTS.iter().enumerate() {
         assert!(rt; ends_at_last(&rt, row), "row {place}");
     }

@@ -88,6 +88,12 @@ class SmallLoads(FastCase):
         with ThreadPoolExecutor(AT_ONCE) as pool:
             self.is_so([it for it in pool.map(told, enumerate(rows)) if it], [])
 
+    def goes_on(self, peer):
+        """The next load with the record comes to its end."""
+        given = self.load(peer, "a.lda --fast --record a.record")
+        self.is_so((given.status, given.err, self.recorded()), (0, "", WHOLE))
+        self.is_right(peer.machine)
+
 
 class BadMemory(SmallLoads):
     """Words of which a bit does not hold."""
@@ -311,9 +317,7 @@ class Lines(SmallLoads):
             self.is_so(len(kept) if verified is not None else len(kept) > GAIN, verified if verified is not None else True)
             self.is_right(peer.machine)
             peer.close_after = None
-            given = self.load(peer, "a.lda --fast --record a.record")
-            self.is_so((given.status, given.err, self.recorded()), (0, "", WHOLE))
-            self.is_right(peer.machine)
+            self.goes_on(peer)
             self.put("a.record", b"")
 
 
@@ -333,9 +337,7 @@ class Records(SmallLoads):
                 self.assertTrue(len(kept) < verified <= len(kept) + 8, (given.out, len(kept)))
                 self.assertTrue(len(peer.machine.typed) < sent <= len(peer.machine.typed) + 32, given.out)
                 self.is_right(peer.machine)
-                given = self.load(peer, "a.lda --fast --record a.record")
-                self.is_so((given.status, given.err, self.recorded()), (0, "", WHOLE))
-                self.is_right(peer.machine)
+                self.goes_on(peer)
             self.put("a.record", b"")
 
     def test_a_disk_that_is_full(self):

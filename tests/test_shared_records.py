@@ -235,14 +235,19 @@ class SecondLoads(Shared):
             self.is_so(it.load().status, 0)
             self.is_loaded_once(it)
 
+    def loads_beside(self, it, record):
+        """A load of another machine, with such a record, comes to its end beside the one under way."""
+        other = self.console_at(Console())
+        given = self.ldaodt(["load", f"{it.room}/{TAPE}", other.address, *it.quiet, "--record", f"{it.room}/{record}"])
+        other.settle()
+        self.is_so((given.status, other.machine.starts), (0, [0o1000]))
+
     def test_two_records_are_two(self):
         """A load with another record, in the same folder, is none of its business."""
         it = Round(self, "absent", "two", HeldConsole(30))
         under_way = it.begin("the same name")
         self.assertTrue(it.peer.machine.has_come.wait(60))
-        other = self.console_at(Console())
-        given = self.ldaodt(["load", f"{it.room}/{TAPE}", other.address, *it.quiet, "--record", f"{it.room}/b.record"])
-        self.is_so(given.status, 0)
+        self.loads_beside(it, "b.record")
         it.peer.machine.may_go_on.set()
         self.is_so(it.answer(under_way).status, 0)
         self.is_so(it.files(), {"a.record": WHOLE, "b.record": WHOLE})
@@ -253,9 +258,7 @@ class SecondLoads(Shared):
         os.symlink("/dev/null", f"{it.room}/a.record")
         under_way = it.begin("the same name")
         self.assertTrue(it.peer.machine.has_come.wait(60))
-        other = self.console_at(Console())
-        given = self.ldaodt(["load", f"{it.room}/{TAPE}", other.address, *it.quiet, "--record", f"{it.room}/a.record"])
-        self.is_so((given.status, other.machine.starts), (0, [0o1000]))
+        self.loads_beside(it, "a.record")
         it.peer.machine.may_go_on.set()
         self.is_so(it.answer(under_way).status, 0)
         self.is_so(os.readlink(f"{it.room}/a.record"), "/dev/null")

@@ -42,12 +42,16 @@ FAILED = shown_as(line_failed("closed"))
 GOES_ON = "the same line goes on where it was; power lost? add --recheck\r\n"
 
 
-class SlowConsole(Console):
-    """It takes its time for each key behind some: a line is shown a tenth of a second after the one before it, or later."""
+class ChangingConsole(Console):
+    """It does otherwise behind so many keys."""
 
     def __init__(self, keys, **named):
         super().__init__(**named)
         self.keys = keys
+
+
+class SlowConsole(ChangingConsole):
+    """It takes its time for each key then: a line is shown a tenth of a second after the one before it, or later."""
 
     def take(self, key):
         answer = super().take(key)
@@ -56,12 +60,8 @@ class SlowConsole(Console):
         return answer
 
 
-class SilentConsole(Console):
-    """It answers so many keys, and no more."""
-
-    def __init__(self, keys, **named):
-        super().__init__(**named)
-        self.keys = keys
+class SilentConsole(ChangingConsole):
+    """It answers no key then."""
 
     def take(self, key):
         answer = super().take(key)

@@ -12,6 +12,7 @@ import unittest
 from concurrent.futures import ProcessPoolExecutor, ThreadPoolExecutor
 
 from cases import Case, Console, timeless
+from commands import AT_A_MACHINE, READING
 from outside import FIRST, PAGE, PROGRAM, Answer, block, bytes_of, is_want, run, sweep
 
 # Words of a large tape, which is loaded at 001000 and starts there: more than what the program has room for at once.
@@ -30,30 +31,26 @@ FILES = {
     "large.record": "".join(["LDAODT 1\n", *(f"{address:06o} 177777 {value:06o}\n" for address, value in LARGE), "G\n"]).encode(),
 }
 
-# Words for each command, for help and for a refusal, what stands on standard input, and the status with ample memory.
-# Nothing is connected to: a load or a look has its end already, or nobody answers.
+# Command lines, what stands on standard input, and the status with ample memory. Nothing is connected to: a load or a look has its
+# end already, or nobody answers. First those of each command of a kind, then those of one alone, of help and of refusals.
 LINES = (
+    *((it.line("small.lda", "small.lda", script="small.script"), b"", 0) for it in READING),
+    *((it.line("large.lda", "large.lda", script="large.script"), b"", 0) for it in READING),
+    *((it.line("small.lda", line="127.0.0.1:1"), b"", 4) for it in AT_A_MACHINE),
+    *((it.line("full.lda", line="./nothing"), b"", 4) for it in AT_A_MACHINE),
     ("", FILES["small.lda"], 0),
     ("", FILES["large.lda"], 0),
-    ("check small.lda small.lda", b"", 0),
-    ("check large.lda large.lda", b"", 0),
     ("check --blocks large.lda blocks.lda", b"", 0),
     ("make new.lda", b"1000/1\n" * 5000 + b"1001 1\n", 3),
     ("make small.lda", b"0 " + b"125 " * 28672, 4),
     ("dialogue small.lda --words 512", b"", 0),
-    ("dialogue large.lda", b"", 0),
-    ("rehearse small.lda small.script", b"", 0),
-    ("rehearse large.lda large.script small.lda", b"", 0),
     ("type --words 512", b"001000/", 0),
     ("type", b"001000/" * 10000, 0),
     ("load --record small.record small.lda [::1]:1", b"", 6),
     ("load --record large.record large.lda [::1]:1", b"", 6),
-    ("load small.lda 127.0.0.1:1", b"", 4),
     ("load full.lda 127.0.0.1:1 --record none.record", b"", 4),
     ("verify wordless.lda [::1]:1", b"", 0),
-    ("verify full.lda ./nothing", b"", 4),
     ("save new.lda 127.0.0.1:1 0 157776", b"", 4),
-    ("probe 127.0.0.1:1", b"", 4),
     ("help load", b"", 0),
     ("load small.lda", b"", 2),
     ("x" * 100000, b"", 2),

@@ -1,4 +1,4 @@
-"""Each ending of a load, a `verify` and a `save`, behind no mishap, nine, ten and a thousand, and each number of mishaps
+"""Each ending of a load and of a look at memory, behind no mishap, nine, ten and a thousand, and each number of mishaps
 and each quiet time that may be asked for, at its ends and between.
 
 A mishap is here a `Z` that is not answered: it costs one key and one quiet time, and changes nothing else. So a run has
@@ -19,6 +19,7 @@ NO_PROMPT = 'prompt no\nheard nothing\nhelp: docs/REAL-MACHINE.md, "Nothing answ
 
 # The tape that `save` makes of the word at 001000: it starts nothing.
 SAVED = tape_of([(0o1000, b"\x34\x12")])
+
 
 class Mishaps(Case):
     """Every ending, behind mishaps."""

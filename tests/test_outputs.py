@@ -9,7 +9,7 @@ import unittest
 
 import commands
 from cases import Case, Console
-from outside import LOST_DIGIT, NO_OUTPUT, NO_PORT, PROGRAM, Answer, bytes_of, fault, tape_of, text_of
+from outside import LOST_DIGIT, NO_OUTPUT, NO_PORT, PROGRAM, Answer, fault, tape_of, text_of
 
 NO_INPUT = fault("cannot read standard input", errno.EBADF)
 

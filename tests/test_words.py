@@ -122,8 +122,8 @@ class Commands(Case):
             self.ends(self.ldaodt(words), 2, "", f"error: {why}\n\nUsage: ldaodt {words[0]}{usage}\n\nFor more information, try '--help'.\n")
 
     def test_the_table_has_each_command(self):
-        orders = {name: usage.replace("[OPTIONS]", "").replace("...", "..").translate({ord(it): None for it in "<>"}).strip() for name, usage in self.USAGES.items()}
-        self.is_so([(it.name, it.order) for it in self.NAMED], list(orders.items()))
+        orders = [(name, re.sub(r"\[OPTIONS\]|[<>]", "", usage).replace("...", "..").strip()) for name, usage in self.USAGES.items()]
+        self.is_so([(it.name, it.order) for it in self.NAMED], orders)
 
     def test_none_at_all(self):
         """`--` alone asks for nothing."""

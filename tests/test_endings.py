@@ -10,7 +10,7 @@ import time
 import unittest
 from concurrent.futures import ThreadPoolExecutor
 
-from cases import Case, Console, DeafConsole
+from cases import Case, Console, DeafConsole, as_closed
 from commands import AT_A_MACHINE, RUNS, FalteringConsole
 from outside import Answer, bytes_of, fault, tape_of
 
@@ -68,7 +68,7 @@ class Mishaps(Case):
             for quiet, runs in tries:
                 *run, wanted = runs[number]
                 answer = self.ended(1000, quiet, *run)
-                if answer == wanted:
+                if as_closed(answer) == as_closed(wanted):
                     return None
             return wanted, answer
         numbers = range(len(tries[0][1]))

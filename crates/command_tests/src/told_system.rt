@@ -3,6 +3,7 @@ ghost use Rattle.std.specs.Prelude.{◌≡◌, ℕ, List, []};
 ghost use Rattle.requests.specs.Asked.{asked_of};
 ghost use Rattle.requests.specs.Attempt.{IsAttempted};
 ghost use Rattle.requests.specs.Moment.{moment};
+ghost use Rattle.request_values.specs.Change.{◌⇒◌};
 ghost use Rattle.simulated_system.specs.ToldSteps.{steps_of};
 ghost use Rattle.command_tests.specs.ToldSystem.{asked_told, held_told};
 
@@ -52,8 +53,8 @@ pub(crate) fn attempt_told<'a, R: Abort + Files + Clock>(
 ) -> (ToldSystem<'a, R>, Ended)
     ensures { (rest : List ℕ) × IsAttempted request.now
         (moment (asked_told system.entry.inputs.opened.items (steps_of system.entry.disk.asked)
-        system.entry.consoles.asked.items system.entry.consoles.given_back.items) (held_told input.now [] []))
-        (moment (asked_told result.0.inputs.opened.items (steps_of result.0.disk.asked)
+        system.entry.consoles.asked.items system.entry.consoles.given_back.items) (held_told input.now [] [])
+        ⇒ moment (asked_told result.0.inputs.opened.items (steps_of result.0.disk.asked)
         result.0.consoles.asked.items result.0.consoles.given_back.items) (held_told rest result.1.out.items result.1.err.items))
         result.1.status }
 {

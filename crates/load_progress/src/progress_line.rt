@@ -2,9 +2,9 @@
 ghost use Rattle.std.specs.Prelude.{◌≡◌, IfSome};
 ghost use Rattle.load_progress.specs.ProgressText.{above_line, forecast_text, going_on_text, on_line, showing_text};
 
+use crate::headway::Headway;
 use crate::pace::is_due;
 use crate::showing::{Forecast, GoingOn, KeptIn, Showing};
-use crate::headway::Headway;
 use arrayvec::ArrayString;
 use load_devices::{Onlooker, Sight};
 use std::cell::Cell;

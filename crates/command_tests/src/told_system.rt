@@ -4,8 +4,7 @@ ghost use Rattle.requests.specs.Asked.{asked_of};
 ghost use Rattle.requests.specs.Attempt.{IsAttempted};
 ghost use Rattle.requests.specs.Moment.{moment};
 ghost use Rattle.request_values.specs.Change.{◌⇒◌};
-ghost use Rattle.simulated_system.specs.ToldSteps.{steps_of};
-ghost use Rattle.command_tests.specs.ToldSystem.{asked_told, held_told};
+ghost use Rattle.command_tests.specs.ToldSystem.{held_told};
 
 use crate::attempts::{Ended, NOBODY};
 use crate::told_consoles::ToldConsoles;
@@ -15,6 +14,7 @@ use request_values::Request;
 use requests::{Kinds, System, attempt};
 use simulated_system::ToldDisk;
 use std::alloc::Global;
+use std::marker::Model;
 use std::process::Abort;
 use std::rt::Files;
 use std::time::Clock;
@@ -43,6 +43,16 @@ pub(crate) struct ToldSystem<'a, R: Abort + Files> {
     pub(crate) consoles: ToldConsoles<'a, R>,
 }
 
+impl<'a, R: Abort + Files> Model for ToldSystem<'a, R> {
+    ghost use Rattle.requests.specs.Asked.{SystemAsked};
+    ghost use Rattle.simulated_system.specs.ToldSteps.{steps_of};
+    ghost use Rattle.command_tests.specs.ToldSystem.{asked_told};
+
+    ghost Value = { SystemAsked };
+
+    ghost view = { λ s. asked_told s.inputs.opened.items (steps_of s.disk.asked) s.consoles.asked.items s.consoles.given_back.items };
+}
+
 /// Does a request in it, with this input. What `attempt` promises of a system that tells is so of this one.
 pub(crate) fn attempt_told<'a, R: Abort + Files + Clock>(
     rt: &'a R,
@@ -52,10 +62,7 @@ pub(crate) fn attempt_told<'a, R: Abort + Files + Clock>(
     input: &[u8],
 ) -> (ToldSystem<'a, R>, Ended)
     ensures { (rest : List ℕ) × IsAttempted request.now
-        (moment (asked_told system.entry.inputs.opened.items (steps_of system.entry.disk.asked)
-        system.entry.consoles.asked.items system.entry.consoles.given_back.items) (held_told input.now [] [])
-        ⇒ moment (asked_told result.0.inputs.opened.items (steps_of result.0.disk.asked)
-        result.0.consoles.asked.items result.0.consoles.given_back.items) (held_told rest result.1.out.items result.1.err.items))
+        (moment system.entry (held_told input.now [] []) ⇒ moment result.0 (held_told rest result.1.out.items result.1.err.items))
         result.1.status }
 {
     let ToldSystem {

@@ -7,10 +7,10 @@ use Rattle.std.proofs.lemmas.Bool.Decides.{nat_tests}
 use Rattle.tape_values.specs.Block.{BlockValue, IsBlock, block_at, low_first, top}
 use Rattle.tape_making.specs.declared.refusal.WordsWhy.{WordsWhy}
 use Rattle.tape_making.specs.declared.refusal.WordsWhy.TheVariants.{BadNumber, NoWords, OddAddress, PastTop}
-use Rattle.tape_making.specs.declared.refusal.LineFault.{LineFault}
-use Rattle.tape_making.specs.declared.refusal.LineFault.TheVariants.{Wrong, Memory}
+use Rattle.tape_making.specs.declared.refusal.RowFault.{RowFault}
+use Rattle.tape_making.specs.declared.refusal.RowFault.TheVariants.{Wrong, Memory}
 use Rattle.tape_making.specs.Words.{AreNumbers, HasNumbers, Says, is_slash, judged, without_remark}
-use Rattle.tape_making.specs.Reading.{IsNone, IsLineFault, said_by}
+use Rattle.tape_making.specs.Reading.{IsNone, IsRowFault, said_by}
 use Rattle.tape_making.proofs.Numbers.{same_numbers, found_at, found_nowhere}
 
 -- ---- a line without a slash
@@ -82,16 +82,16 @@ not_both line row why is wrong = let same : Ok row ≡ Err why = says_one line (
 
 -- ---- want of numbers
 
-line_fault : (line text : List ℕ) (fault : LineFault) → text ≡ without_remark line → IsNone (HasNumbers text) fault → IfSome (said_by (Err fault)) (Says line)
+line_fault : (line text : List ℕ) (fault : RowFault) → text ≡ without_remark line → IsNone (HasNumbers text) fault → IfSome (said_by (Err fault)) (Says line)
 line_fault line text (Wrong why) is none = inr (subst (λ t. (numbers : List ℕ) → HasNumbers t numbers → ⊥) is none.1, ap Err none.0)
 line_fault line text Memory is none = tt
 
-pub said_wrong : (line text : List ℕ) (fault : LineFault) (r : Result (Option BlockValue) LineFault) → text ≡ without_remark line → IsErrAnd r (λ e. e ≡ fault) → IsNone (HasNumbers text) fault
+pub said_wrong : (line text : List ℕ) (fault : RowFault) (r : Result (Option BlockValue) RowFault) → text ≡ without_remark line → IsErrAnd r (λ e. e ≡ fault) → IsNone (HasNumbers text) fault
     → IfSome (said_by r) (Says line)
 said_wrong line text fault (Ok row) is error none = absurd error
 said_wrong line text fault (Err e) is error none = subst (λ f. IfSome (said_by (Err f)) (Says line)) (sym error) (line_fault line text fault is none)
 
-pub fault_said : (line : List ℕ) (fault : LineFault) → IfSome (said_by (Err fault)) (Says line) → IsLineFault line fault
+pub fault_said : (line : List ℕ) (fault : RowFault) → IfSome (said_by (Err fault)) (Says line) → IsRowFault line fault
 fault_said line (Wrong why) said = said
 fault_said line Memory said = tt
 

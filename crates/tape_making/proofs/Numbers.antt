@@ -5,8 +5,8 @@ use Rattle.std.specs.Prelude.{IsErrAnd, IfSome, IfNone}
 use Rattle.octal.specs.Octal.{IsOct6}
 use Rattle.std.proofs.lemmas.List.{take_all}
 use Rattle.std.proofs.lemmas.Bool.Decides.{nat_tests}
-use Rattle.tape_making.specs.declared.refusal.LineFault.{LineFault}
-use Rattle.tape_making.specs.declared.refusal.LineFault.TheVariants.{Wrong, Memory}
+use Rattle.tape_making.specs.declared.refusal.RowFault.{RowFault}
+use Rattle.tape_making.specs.declared.refusal.RowFault.TheVariants.{Wrong, Memory}
 use Rattle.tape_making.specs.Words.{IsNumber, AreNumbers, fields}
 use Rattle.tape_making.specs.Reading.{IsNone}
 use Rattle.tape_making.proofs.Zips.{zip_push, zip_at, zip_same, at_found, many_found, front_more}
@@ -61,7 +61,7 @@ match_as (Ok x) P Q F G ok err holds = ok x holds
 match_as (Err e) P Q F G ok err holds = err e holds
 
 -- where one thing has no numbers, what would give it some has none
-pub none_from : (P Q : List ℕ → Type 0) → ((ns : List ℕ) → Q ns → (ms : List ℕ) × P ms) → (fault : LineFault) → IsNone P fault → IsNone Q fault
+pub none_from : (P Q : List ℕ → Type 0) → ((ns : List ℕ) → Q ns → (ms : List ℕ) × P ms) → (fault : RowFault) → IsNone P fault → IsNone Q fault
 none_from P Q back (Wrong why) none = (none.0, λ ns holds. none.1 (back ns holds).0 (back ns holds).1)
 none_from P Q back Memory none = tt
 

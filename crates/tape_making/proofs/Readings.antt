@@ -5,12 +5,12 @@ use Rattle.std.specs.Option.{option_to_list}
 use Rattle.std.proofs.lemmas.List.{take_all}
 use Rattle.std.proofs.lemmas.List.Concat.{flat_map-append}
 use Rattle.tape_values.specs.Block.{BlockValue}
-use Rattle.tape_making.specs.declared.refusal.LineFault.{LineFault}
-use Rattle.tape_making.specs.declared.refusal.LineFault.TheVariants.{Wrong, Memory}
+use Rattle.tape_making.specs.declared.refusal.RowFault.{RowFault}
+use Rattle.tape_making.specs.declared.refusal.RowFault.TheVariants.{Wrong, Memory}
 use Rattle.tape_making.specs.declared.sheet.Sheet.{Sheet}
 use Rattle.tape_making.specs.Words.{AllSay, Says, lines, words_limit}
 use Rattle.tape_making.specs.Sheet.{HoldsRows}
-use Rattle.tape_making.specs.Reading.{HoldsText, IsLineFault, IsWordsFault, LaysLine, fault_at}
+use Rattle.tape_making.specs.Reading.{HoldsText, IsRowFault, IsWordsFault, LaysLine, fault_at}
 use Rattle.tape_making.proofs.Zips.{zip_push, many_found, front_more, at_found}
 
 -- the sheet has what the first k lines say
@@ -52,8 +52,8 @@ around xs i within =
     let next : suc i ≡ i + 1 = omega arith in
     sym (take-append-drop i xs) ∙ ap (λ t. take i xs ++ t) (drop-cons xs i [] within ∙ ap (λ n. get_or xs i [] ∷ drop n xs) next)
 
-pub read_wrong : (text : List ℕ) (found : List (Bor (List ℕ))) (i : ℕ) (d : Bor (List ℕ)) (sheet : Sheet) (fault : LineFault) → map (λ f. f.now) found ≡ lines text → i < length found
-    → length text ≤ words_limit → IsReadTo text i sheet → IsLineFault (get_or found i d).now fault → IsWordsFault text (fault_at (i + 1) fault)
+pub read_wrong : (text : List ℕ) (found : List (Bor (List ℕ))) (i : ℕ) (d : Bor (List ℕ)) (sheet : Sheet) (fault : RowFault) → map (λ f. f.now) found ≡ lines text → i < length found
+    → length text ≤ words_limit → IsReadTo text i sheet → IsRowFault (get_or found i d).now fault → IsWordsFault text (fault_at (i + 1) fault)
 read_wrong text found i d sheet (Wrong why) is within short so wrong =
     inr (
       short,

@@ -4,8 +4,8 @@ use Rattle.std.specs.Option.{option_to_list}
 use Rattle.tape_values.specs.Block.{BlockValue}
 use Rattle.tape_making.specs.declared.refusal.WordsWhy.{WordsWhy}
 use Rattle.tape_making.specs.declared.refusal.WordsWhy.TheVariants.{BadNumber}
-use Rattle.tape_making.specs.declared.refusal.LineFault.{LineFault}
-use Rattle.tape_making.specs.declared.refusal.LineFault.TheVariants.{Wrong, Memory}
+use Rattle.tape_making.specs.declared.refusal.RowFault.{RowFault}
+use Rattle.tape_making.specs.declared.refusal.RowFault.TheVariants.{Wrong, Memory}
 use Rattle.tape_making.specs.declared.refusal.WordsFault.{WordsFault}
 use Rattle.tape_making.specs.declared.refusal.WordsFault.TheVariants as fault
 use Rattle.tape_making.specs.declared.sheet.Sheet.{Sheet}
@@ -13,20 +13,20 @@ use Rattle.tape_making.specs.Words.{HasRows, IsReading, Says}
 use Rattle.tape_making.specs.Sheet.{HoldsRows}
 
 -- no numbers are such, or memory was wanting
-abbrev pub IsNone : (List ℕ → Type 0) → LineFault → Type 0
+abbrev pub IsNone : (List ℕ → Type 0) → RowFault → Type 0
 IsNone Are (Wrong why) = (why ≡ BadNumber) × ((numbers : List ℕ) → Are numbers → ⊥)
 IsNone Are Memory = ⊤
 
 -- what a line was found to say; want of memory finds nothing
-abbrev pub said_by : Result (Option BlockValue) LineFault → Option (Result (Option BlockValue) WordsWhy)
+abbrev pub said_by : Result (Option BlockValue) RowFault → Option (Result (Option BlockValue) WordsWhy)
 said_by (Ok row) = Some (Ok row)
 said_by (Err (Wrong why)) = Some (Err why)
 said_by (Err Memory) = None
 
 -- why a line was not read: it is wrong, or memory was wanting
-abbrev pub IsLineFault : List ℕ → LineFault → Type 0
-IsLineFault line (Wrong why) = Says line (Err why)
-IsLineFault line Memory = ⊤
+abbrev pub IsRowFault : List ℕ → RowFault → Type 0
+IsRowFault line (Wrong why) = Says line (Err why)
+IsRowFault line Memory = ⊤
 
 -- what a line says was laid over what a sheet had
 pub record LaysLine (line : List ℕ) (old new : Sheet) : Type 0 where
@@ -35,7 +35,7 @@ pub record LaysLine (line : List ℕ) (old new : Sheet) : Type 0 where
   pub lays : (rows : List BlockValue) → HoldsRows rows old → HoldsRows (rows ++ option_to_list row) new
 
 -- why the text is not read where this is wrong with the line of this number
-abbrev pub fault_at : ℕ → LineFault → WordsFault
+abbrev pub fault_at : ℕ → RowFault → WordsFault
 fault_at line (Wrong why) = fault.Refused (record { line = line; why = why })
 fault_at line Memory = fault.Memory
 

@@ -6,7 +6,7 @@ ghost use Rattle.tape_making.specs.Words.{HasNumbers, Says, is_remark, is_slash,
 ghost use Rattle.tape_making.specs.Reading.{IsNone, said_by};
 
 use crate::number::numbers_in;
-use crate::refusal::{LineFault, WordsWhy};
+use crate::refusal::{RowFault, WordsWhy};
 use std::alloc::{AllocError, Global};
 use tape_values::{Block, TOP};
 
@@ -14,7 +14,7 @@ use tape_values::{Block, TOP};
 ///
 /// `Wrong` is a line of no form, or with an address that no word can have; `Memory` a growth that was
 /// refused.
-pub(crate) fn read_line(alloc: Global, line: &[u8]) -> Result<Option<Block>, LineFault>
+pub(crate) fn read_line(alloc: Global, line: &[u8]) -> Result<Option<Block>, RowFault>
     ensures { IfSome (said_by result) (Says line.now) }
 {
     let numbers = numbers_of(alloc, without_remark(line))?;
@@ -53,7 +53,7 @@ fn slash_place(text: &[u8]) -> Option<usize>
 }
 
 // The numbers of a line, of which a slash may follow the first.
-fn numbers_of(alloc: Global, text: &[u8]) -> Result<Vec<u16>, LineFault>
+fn numbers_of(alloc: Global, text: &[u8]) -> Result<Vec<u16>, RowFault>
     ensures { MatchResult result (λ numbers. HasNumbers text.now numbers.items) (IsNone (HasNumbers text.now)) }
 {
     let Some(slash) = slash_place(text) else {
@@ -61,7 +61,7 @@ fn numbers_of(alloc: Global, text: &[u8]) -> Result<Vec<u16>, LineFault>
     };
     let mut numbers = numbers_in(alloc, &text[..slash])?;
     if numbers.len() != 1 {
-        return Err(LineFault::Wrong(WordsWhy::BadNumber));
+        return Err(RowFault::Wrong(WordsWhy::BadNumber));
     }
     let words = numbers_in(alloc, &text[slash + 1..])?;
     numbers.extend_from_slice(&words)?;
@@ -69,20 +69,20 @@ fn numbers_of(alloc: Global, text: &[u8]) -> Result<Vec<u16>, LineFault>
 }
 
 // What the numbers of a line say.
-fn row_of(alloc: Global, numbers: &[u16]) -> Result<Option<Block>, LineFault>
+fn row_of(alloc: Global, numbers: &[u16]) -> Result<Option<Block>, RowFault>
     ensures { IfSome (said_by result) (λ said. said ≡ judged numbers.now) }
 {
     let [address, words @ ..] = numbers else {
         return Ok(None);
     };
     if words.is_empty() {
-        return Err(LineFault::Wrong(WordsWhy::NoWords));
+        return Err(RowFault::Wrong(WordsWhy::NoWords));
     }
     if *address % 2 == 1 {
-        return Err(LineFault::Wrong(WordsWhy::OddAddress));
+        return Err(RowFault::Wrong(WordsWhy::OddAddress));
     }
     if words.len() > TOP.saturating_sub(usize::from(*address)) / 2 {
-        return Err(LineFault::Wrong(WordsWhy::PastTop));
+        return Err(RowFault::Wrong(WordsWhy::PastTop));
     }
     Ok(Some(Block {
         address: *address,

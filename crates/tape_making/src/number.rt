@@ -3,7 +3,7 @@ ghost use Rattle.std.specs.Prelude.{◌≡◌, ◌≤◌, ◌-◌, ◌++◌, ℕ
 ghost use Rattle.tape_making.specs.Words.{AreNumbers, IsNumber, fields, is_blank};
 ghost use Rattle.tape_making.specs.Reading.{IsNone};
 
-use crate::refusal::{LineFault, WordsWhy};
+use crate::refusal::{RowFault, WordsWhy};
 use octal::read_oct6;
 use std::alloc::{AllocError, Global};
 
@@ -13,14 +13,14 @@ const MOST_DIGITS: usize = 6;
 /// The numbers that a text is, with blanks between them and around.
 ///
 /// `BadNumber` is a text that is something else, `Memory` a growth that was refused.
-pub(crate) fn numbers_in(alloc: Global, text: &[u8]) -> Result<Vec<u16>, LineFault>
+pub(crate) fn numbers_in(alloc: Global, text: &[u8]) -> Result<Vec<u16>, RowFault>
     ensures { MatchResult result (λ numbers. AreNumbers text.now numbers.items) (IsNone (AreNumbers text.now)) }
 {
     let fields = fields_of(alloc, text)?;
     let mut numbers = Vec::new(alloc);
     for field in &fields {
         let Some(number) = number(field) else {
-            return Err(LineFault::Wrong(WordsWhy::BadNumber));
+            return Err(RowFault::Wrong(WordsWhy::BadNumber));
         };
         numbers.push(number)?;
     }

@@ -99,9 +99,9 @@ impl From<AllocError> for WordsFault {
     }
 }
 
-/// Why a line was not read.
+/// Why no row was read from a line.
 #[derive(Clone, Copy, Debug, PartialEq, Eq)]
-pub(crate) enum LineFault {
+pub(crate) enum RowFault {
     /// It is wrong.
     Wrong(WordsWhy),
 
@@ -109,24 +109,24 @@ pub(crate) enum LineFault {
     Memory,
 }
 
-impl From<AllocError> for LineFault {
+impl From<AllocError> for RowFault {
     ghost use Rattle.std.specs.Prelude.{◌≡◌};
-    ghost use Rattle.tape_making.specs.declared.refusal.LineFault.TheVariants.{Memory};
+    ghost use Rattle.tape_making.specs.declared.refusal.RowFault.TheVariants.{Memory};
 
     ghost from_gives = { λ _ fault. fault ≡ Memory };
 
-    fn from(_refused: AllocError) -> LineFault {
-        LineFault::Memory
+    fn from(_refused: AllocError) -> RowFault {
+        RowFault::Memory
     }
 }
 
-impl<T: Drop> From<AllocFailed<T>> for LineFault {
+impl<T: Drop> From<AllocFailed<T>> for RowFault {
     ghost use Rattle.std.specs.Prelude.{◌≡◌};
-    ghost use Rattle.tape_making.specs.declared.refusal.LineFault.TheVariants.{Memory};
+    ghost use Rattle.tape_making.specs.declared.refusal.RowFault.TheVariants.{Memory};
 
     ghost from_gives = { λ _ fault. fault ≡ Memory };
 
-    fn from(_refused: AllocFailed<T>) -> LineFault {
-        LineFault::Memory
+    fn from(_refused: AllocFailed<T>) -> RowFault {
+        RowFault::Memory
     }
 }

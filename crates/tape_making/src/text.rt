@@ -3,10 +3,10 @@ ghost use Rattle.std.specs.Prelude.{◌≡◌, map, length, IfOk, MatchResult};
 ghost use Rattle.tape_values.specs.Block.{top};
 ghost use Rattle.tape_making.specs.Words.{lines};
 ghost use Rattle.tape_making.specs.Sheet.{bytes_on};
-ghost use Rattle.tape_making.specs.Reading.{HoldsText, IsLineFault, IsWordsFault, LaysLine, fault_at};
+ghost use Rattle.tape_making.specs.Reading.{HoldsText, IsRowFault, IsWordsFault, LaysLine, fault_at};
 
 use crate::line::read_line;
-use crate::refusal::{LineFault, Refusal, WordsFault, WordsWhy};
+use crate::refusal::{Refusal, RowFault, WordsFault, WordsWhy};
 use crate::sheet::Sheet;
 use std::alloc::{AllocError, Global};
 
@@ -21,7 +21,7 @@ pub fn read_words(alloc: Global, text: &[u8]) -> Result<Sheet, WordsFault>
     ensures { MatchResult result (HoldsText text.now) (IsWordsFault text.now) }
 {
     if text.len() > WORDS_LIMIT {
-        return Err(fault_at(0, LineFault::Wrong(WordsWhy::TooLong)));
+        return Err(fault_at(0, RowFault::Wrong(WordsWhy::TooLong)));
     }
     let lines = lines_of(alloc, text)?;
     let mut sheet = Sheet::new(alloc)?;
@@ -42,9 +42,9 @@ fn lines_of(alloc: Global, text: &[u8]) -> Result<Vec<&[u8]>, AllocError>
 }
 
 // Lays what a line says on a sheet.
-fn lay_line(alloc: Global, line: &[u8], sheet: &mut Sheet) -> Result<(), LineFault>
+fn lay_line(alloc: Global, line: &[u8], sheet: &mut Sheet) -> Result<(), RowFault>
     requires { length (bytes_on sheet.old) ≡ top }
-    ensures { MatchResult result (λ _. LaysLine line.now sheet.old sheet.new) (IsLineFault line.now) }
+    ensures { MatchResult result (λ _. LaysLine line.now sheet.old sheet.new) (IsRowFault line.now) }
 {
     let said = read_line(alloc, line)?;
     match said {
@@ -57,11 +57,11 @@ fn lay_line(alloc: Global, line: &[u8], sheet: &mut Sheet) -> Result<(), LineFau
 }
 
 // What is wrong with the line of this number.
-fn fault_at(line: usize, fault: LineFault) -> WordsFault
+fn fault_at(line: usize, fault: RowFault) -> WordsFault
     ensures { result ≡ fault_at line fault }
 {
     match fault {
-        LineFault::Wrong(why) => WordsFault::Refused(Refusal { line, why }),
-        LineFault::Memory => WordsFault::Memory,
+        RowFault::Wrong(why) => WordsFault::Refused(Refusal { line, why }),
+        RowFault::Memory => WordsFault::Memory,
     }
 }

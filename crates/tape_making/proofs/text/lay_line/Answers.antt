@@ -1,7 +1,7 @@
 use Rattle.std.proofs.Common.{List, sym, subst, Some, None, append-nil}
 use Rattle.tape_values.specs.Block.{BlockValue}
 use Rattle.tape_making.specs.Sheet.{HoldsRows}
-use Rattle.tape_making.specs.Reading.{IsLineFault, LaysLine}
+use Rattle.tape_making.specs.Reading.{IsRowFault, LaysLine}
 use Rattle.tape_making.proofs.Numbers.{error_is}
 use Rattle.tape_making.proofs.Lines.{row_block, fault_said}
 use Rattle.tape_making.proofs.Readings.{says_so}
@@ -9,7 +9,7 @@ use Rattle.tape_making.proofs.text.lay_line.Goals as goal
 
 pub returns-in_err-said : goal.returns-in_err-said
 returns-in_err-said c =
-    error_is c.from_residual.result c.in_err-said.field-0.0 (λ _. LaysLine c.args.line.now c.args.sheet.now c.args.sheet.now) (IsLineFault c.args.line.now) c.from_residual.ensures.1
+    error_is c.from_residual.result c.in_err-said.field-0.0 (λ _. LaysLine c.args.line.now c.args.sheet.now c.args.sheet.now) (IsRowFault c.args.line.now) c.from_residual.ensures.1
     (fault_said c.args.line.now c.in_err-said.field-0.0 c.in_err-said.ensures)
 
 pub lay-requires-clause-within : goal.lay-requires-clause-within

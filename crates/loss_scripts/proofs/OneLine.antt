@@ -11,8 +11,8 @@ use Rattle.loss_scripts.specs.declared.line.Step.{Step}
 use Rattle.loss_scripts.specs.declared.line.Step.TheVariants.{Times, Until, Clean}
 use Rattle.loss_scripts.specs.declared.line.Setting.{Setting}
 use Rattle.loss_scripts.specs.declared.line.Setting.TheVariants.{Words, OfStyle, Patience, Wait, Put}
-use Rattle.loss_scripts.specs.declared.line.Line.{Line}
-use Rattle.loss_scripts.specs.declared.line.Line.TheVariants as line
+use Rattle.loss_scripts.specs.declared.line.ScriptLine.{ScriptLine}
+use Rattle.loss_scripts.specs.declared.line.ScriptLine.TheVariants as line
 use Rattle.loss_scripts.specs.Line.{HasNumber, AreCodes, IsSetting, IsStep, IsLine}
 use Rattle.loss_scripts.proofs.Forms.{put_parts}
 
@@ -48,7 +48,7 @@ abbrev count_in : List ℕ → ℕ
 count_in text = if length text == 4 then 1 else digits_value 10 (drop 5 text)
 
 -- what a line says that says something, by its first two characters
-abbrev by_letter : ℕ → ℕ → List ℕ → Line
+abbrev by_letter : ℕ → ℕ → List ℕ → ScriptLine
 by_letter first second text =
     if first == 35 then line.Blank else (
     if first == 119 then (if second == 111 then line.Setting (Words (digits_value 10 (drop 6 text))) else line.Setting (Wait (record { items = codes_in (drop 4 text) }))) else (
@@ -61,13 +61,13 @@ by_letter first second text =
     if first == 114 then line.Step (Times (Restart (digits_value 10 (drop 8 text))) 1) else (
     if first == 113 then line.Step (Times Quiet 1) else line.Step Clean)))))))))
 
-abbrev meaning : List ℕ → Line
+abbrev meaning : List ℕ → ScriptLine
 meaning text = by_letter (get_or text 0 35) (get_or text 1 0) text
 
-numbered : (text keyword : List ℕ) (low high n : ℕ) (said : ℕ → Line) → ((rest : List ℕ) → meaning (keyword ++ rest) ≡ said (digits_value 10 rest)) → HasNumber text keyword low high n → meaning text ≡ said n
+numbered : (text keyword : List ℕ) (low high n : ℕ) (said : ℕ → ScriptLine) → ((rest : List ℕ) → meaning (keyword ++ rest) ≡ said (digits_value 10 rest)) → HasNumber text keyword low high n → meaning text ≡ said n
 numbered text keyword low high n said computes has = ap meaning has.spelled ∙ computes has.rest ∙ ap said has.number.value
 
-counted : (text keyword : List ℕ) (n : ℕ) (said : ℕ → Line) → ((rest : List ℕ) → 0 < length rest → meaning (keyword ++ rest) ≡ said (digits_value 10 rest)) → HasNumber text keyword 1 1000000 n → meaning text ≡ said n
+counted : (text keyword : List ℕ) (n : ℕ) (said : ℕ → ScriptLine) → ((rest : List ℕ) → 0 < length rest → meaning (keyword ++ rest) ≡ said (digits_value 10 rest)) → HasNumber text keyword 1 1000000 n → meaning text ≡ said n
 counted text keyword n said computes has = ap meaning has.spelled ∙ computes has.rest has.number.some ∙ ap said has.number.value
 
 take_times : (rest : List ℕ) → 0 < length rest → meaning (codes "take " ++ rest) ≡ line.Step (Times Take (digits_value 10 rest))
@@ -101,12 +101,12 @@ settings text (Put address value) h =
     let parts = put_parts text rest address value h.spelled h in
     ap meaning h.spelled ∙ ap (λ a. line.Setting (Put a (octal_value (drop 7 rest)))) parts.address_is.value ∙ ap (λ v. line.Setting (Put address v)) parts.value_is.value
 
-meanings : (text : List ℕ) (said : Line) → IsLine text said → meaning text ≡ said
+meanings : (text : List ℕ) (said : ScriptLine) → IsLine text said → meaning text ≡ said
 meanings [] line.Blank h = refl
 meanings (c ∷ cs) line.Blank h = ap (λ d. by_letter d (get_or cs 0 0) (d ∷ cs)) h
 meanings text (line.Step said) h = steps text said h
 meanings text (line.Setting said) h = settings text said h
 
 -- a text says one thing
-pub one_meaning : (text : List ℕ) (a b : Line) → IsLine text a → IsLine text b → a ≡ b
+pub one_meaning : (text : List ℕ) (a b : ScriptLine) → IsLine text a → IsLine text b → a ≡ b
 one_meaning text a b is_a is_b = sym (meanings text a is_a) ∙ meanings text b is_b

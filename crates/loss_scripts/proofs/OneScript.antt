@@ -5,7 +5,7 @@ use Rattle.std.specs.Str.Lines.{lines}
 use Rattle.std.proofs.lemmas.Bool.Decides.{nat_tests}
 use Rattle.std.proofs.lemmas.List.{length-append}
 use Rattle.std.proofs.Math.Seq.{take-append_seam, get_or-append_seam}
-use Rattle.loss_scripts.specs.declared.line.Line.{Line}
+use Rattle.loss_scripts.specs.declared.line.ScriptLine.{ScriptLine}
 use Rattle.loss_scripts.specs.declared.script.Script.{Script}
 use Rattle.loss_scripts.specs.Line.{IsLine}
 use Rattle.odt_machine.specs.Style.{plain_style}
@@ -14,7 +14,7 @@ use Rattle.loss_scripts.specs.Law.{IsOnlyScript, IsOnlyRefusal}
 use Rattle.loss_scripts.proofs.OneLine.{one_meaning}
 
 -- lines say one list of things
-same_said : (ls : List (List ℕ)) (a b : List Line) → AllZip IsLine ls a → AllZip IsLine ls b → a ≡ b
+same_said : (ls : List (List ℕ)) (a b : List ScriptLine) → AllZip IsLine ls a → AllZip IsLine ls b → a ≡ b
 same_said [] [] [] is_a is_b = refl
 same_said [] [] (y ∷ b) is_a is_b = absurd is_b
 same_said [] (x ∷ a) b is_a is_b = absurd is_a
@@ -23,15 +23,15 @@ same_said (l ∷ ls) (x ∷ a) [] is_a is_b = absurd is_b
 same_said (l ∷ ls) (x ∷ a) (y ∷ b) is_a is_b = ap (λ s. s ∷ a) (one_meaning l x y is_a.0 is_b.0) ∙ ap (λ s. y ∷ s) (same_said ls a b is_a.1 is_b.1)
 
 -- what lines say of which one stands behind others
-record SaidAround (before : List (List ℕ)) (l : List ℕ) (said : List Line) : Type 0 where
-  first : List Line
-  line : Line
-  more : List Line
+record SaidAround (before : List (List ℕ)) (l : List ℕ) (said : List ScriptLine) : Type 0 where
+  first : List ScriptLine
+  line : ScriptLine
+  more : List ScriptLine
   whole : said ≡ first ++ line ∷ more
   spelled : AllZip IsLine before first
   is_line : IsLine l line
 
-said_around : (before : List (List ℕ)) (l : List ℕ) (after : List (List ℕ)) (said : List Line) → AllZip IsLine (before ++ l ∷ after) said → SaidAround before l said
+said_around : (before : List (List ℕ)) (l : List ℕ) (after : List (List ℕ)) (said : List ScriptLine) → AllZip IsLine (before ++ l ∷ after) said → SaidAround before l said
 said_around [] l after [] are = absurd are
 said_around [] l after (s ∷ said) are = record { first = []; line = s; more = said; whole = refl; spelled = tt; is_line = are.0 }
 said_around (b ∷ before) l after [] are = absurd are
@@ -40,7 +40,7 @@ said_around (b ∷ before) l after (s ∷ said) are =
     record { first = s ∷ so.first; line = so.line; more = so.more; whole = ap (λ rest. s ∷ rest) so.whole; spelled = (are.0, so.spelled); is_line = so.is_line }
 
 -- a line in order may come after those before it
-may_come_there : (first : List Line) (line : Line) (more said : List Line) → said ≡ first ++ line ∷ more → IsInOrder said → MayCome first line
+may_come_there : (first : List ScriptLine) (line : ScriptLine) (more said : List ScriptLine) → said ≡ first ++ line ∷ more → IsInOrder said → MayCome first line
 may_come_there first line more said whole in_order =
     let within : length first < length said = omega (arith, ap length whole, length-append first (line ∷ more)) in
     let there = in_order (length first) line within in
@@ -48,7 +48,7 @@ may_come_there first line more said whole in_order =
     (subst (λ s. MayCome s (get_or said (length first) line)) (ap (take (length first)) whole ∙ take-append_seam first (line ∷ more)) there)
 
 -- lines in order of which one is wrong are none
-none_wrong : (text : List ℕ) (number : ℕ) (after : List (List ℕ)) (said : List Line) (r : IsRefusedLine text number) → AllZip IsLine (r.before ++ r.refused ∷ after) said → IsInOrder said → ⊥
+none_wrong : (text : List ℕ) (number : ℕ) (after : List (List ℕ)) (said : List ScriptLine) (r : IsRefusedLine text number) → AllZip IsLine (r.before ++ r.refused ∷ after) said → IsInOrder said → ⊥
 none_wrong text number after said r are in_order =
     let so = said_around r.before r.refused after said are in
     let same : so.first ≡ r.said = same_said r.before so.first r.said so.spelled r.spelled in

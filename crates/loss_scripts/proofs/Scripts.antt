@@ -4,8 +4,8 @@ use Rattle.std.proofs.lemmas.Bool.{false≢true}
 use Rattle.std.specs.List.{AllZip}
 use Rattle.std.specs.Str.Lines.{lines}
 use Rattle.std.proofs.lemmas.List.{length-append}
-use Rattle.loss_scripts.specs.declared.line.Line.{Line}
-use Rattle.loss_scripts.specs.declared.line.Line.TheVariants as line
+use Rattle.loss_scripts.specs.declared.line.ScriptLine.{ScriptLine}
+use Rattle.loss_scripts.specs.declared.line.ScriptLine.TheVariants as line
 use Rattle.loss_scripts.specs.declared.line.Setting.TheVariants.{Words, OfStyle, Patience, Wait, Put}
 use Rattle.loss_scripts.specs.declared.script.Script.{Script}
 use Rattle.loss_scripts.specs.declared.script.Draft.{Draft}
@@ -14,13 +14,13 @@ use Rattle.loss_scripts.specs.Script.{MayCome, IsInOrder, first_in, words_in, Is
 use Rattle.loss_scripts.specs.Draft.{HasNamed, Joins}
 use Rattle.loss_scripts.proofs.Drafts.{order_more}
 
-zip_length : (ls : List (List ℕ)) (said : List Line) → AllZip IsLine ls said → length ls ≡ length said
+zip_length : (ls : List (List ℕ)) (said : List ScriptLine) → AllZip IsLine ls said → length ls ≡ length said
 zip_length [] [] are = refl
 zip_length [] (s ∷ said) are = absurd are
 zip_length (l ∷ ls) [] are = absurd are
 zip_length (l ∷ ls) (s ∷ said) are = ap (λ n. suc n) (zip_length ls said are.1)
 
-zip_more : (ls : List (List ℕ)) (said : List Line) (l : List ℕ) (s : Line) → AllZip IsLine ls said → IsLine l s → AllZip IsLine (ls ++ l ∷ []) (said ++ s ∷ [])
+zip_more : (ls : List (List ℕ)) (said : List ScriptLine) (l : List ℕ) (s : ScriptLine) → AllZip IsLine ls said → IsLine l s → AllZip IsLine (ls ++ l ∷ []) (said ++ s ∷ [])
 zip_more [] [] l s are is = (is, tt)
 zip_more [] (x ∷ said) l s are is = absurd are
 zip_more (x ∷ ls) [] l s are is = absurd are
@@ -30,7 +30,7 @@ zip_more (x ∷ ls) (y ∷ said) l s are is = (are.0, zip_more ls said l s are.1
 pub record IsReading (text rest : List ℕ) (draft : Draft) (number : ℕ) : Type 0 where
   pub before : List (List ℕ)
   pub all : lines text ≡ before ++ lines rest
-  pub said : List Line
+  pub said : List ScriptLine
   pub spelled : AllZip IsLine before said
   pub in_order : IsInOrder said
   pub holds : HasNamed said draft
@@ -53,7 +53,7 @@ reading_none text draft holds = record {
 pub next_number : (text rest : List ℕ) (draft : Draft) (number : ℕ) (so : IsReading text rest draft number) → number + 1 ≡ length so.said + 1
 next_number text rest draft number so = omega (arith, so.count, zip_length so.before so.said so.spelled)
 
-pub reading_more : (text rest line after : List ℕ) (old new : Draft) (number : ℕ) (said : Line) (so : IsReading text rest old number)
+pub reading_more : (text rest line after : List ℕ) (old new : Draft) (number : ℕ) (said : ScriptLine) (so : IsReading text rest old number)
     → lines rest ≡ line ∷ lines after → length after < length rest → IsLine line said → Joins so.said said new → IsReading text after new (number + 1)
 reading_more text rest line after old new number said so first shorter is joins = record {
   before = so.before ++ line ∷ [];
@@ -68,7 +68,7 @@ reading_more text rest line after old new number said so first shorter is joins 
 
 -- the next line is wrong
 pub reading_wrong : (text rest line after : List ℕ) (draft : Draft) (number : ℕ) (so : IsReading text rest draft number)
-    → lines rest ≡ line ∷ lines after → ((said : Line) → IsLine line said → MayCome so.said said → ⊥) → length text ≤ 1048576 → IsRefusedScript text (number + 1)
+    → lines rest ≡ line ∷ lines after → ((said : ScriptLine) → IsLine line said → MayCome so.said said → ⊥) → length text ≤ 1048576 → IsRefusedScript text (number + 1)
 reading_wrong text rest line after draft number so first wrong within = inr (
   within,
   record {
@@ -99,7 +99,7 @@ comes_not_by P Q true off known = absurd (false≢true (sym off))
 comes_not_by P Q false off known = known
 
 -- no line asks for a machine that is too large
-size_below : (ls : List (List ℕ)) (said : List Line) → AllZip IsLine ls said → unwrap_or (first_in words_in said) 28672 ≤ 28672
+size_below : (ls : List (List ℕ)) (said : List ScriptLine) → AllZip IsLine ls said → unwrap_or (first_in words_in said) 28672 ≤ 28672
 size_below [] [] are = omega arith
 size_below [] (s ∷ said) are = absurd are
 size_below (l ∷ ls) [] are = absurd are

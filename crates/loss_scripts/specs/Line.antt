@@ -7,8 +7,8 @@ use Rattle.odt_machine.specs.Machine.{largest_words}
 use Rattle.odt_machine.specs.Style.{largest_style, style_number}
 use Rattle.line_world.specs.declared.event.Event.TheVariants.{Take, Hear, LoseDown, LoseUp, Quiet, Restart}
 use Rattle.line_world.specs.Wire.{most_waiting}
-use Rattle.loss_scripts.specs.declared.line.Line.{Line}
-use Rattle.loss_scripts.specs.declared.line.Line.TheVariants as line
+use Rattle.loss_scripts.specs.declared.line.ScriptLine.{ScriptLine}
+use Rattle.loss_scripts.specs.declared.line.ScriptLine.TheVariants as line
 use Rattle.loss_scripts.specs.declared.line.Setting.{Setting}
 use Rattle.loss_scripts.specs.declared.line.Setting.TheVariants.{Words, OfStyle, Patience, Wait, Put}
 use Rattle.loss_scripts.specs.declared.line.Step.{Step}
@@ -100,7 +100,7 @@ IsBlank [] = ⊤
 IsBlank (c ∷ cs) = c ≡ 35
 
 -- what a line of a script says
-abbrev pub IsLine : List ℕ → Line → Type 0
+abbrev pub IsLine : List ℕ → ScriptLine → Type 0
 IsLine text line.Blank = IsBlank text
 IsLine text (line.Setting s) = IsSetting text s
 IsLine text (line.Step s) = IsStep text s

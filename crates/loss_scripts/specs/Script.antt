@@ -8,8 +8,8 @@ use Rattle.host_core.specs.Core.{plain_patience}
 use Rattle.odt_machine.specs.declared.style.Style.{Style}
 use Rattle.odt_machine.specs.Machine.{largest_words}
 use Rattle.odt_machine.specs.Style.{plain_style}
-use Rattle.loss_scripts.specs.declared.line.Line.{Line}
-use Rattle.loss_scripts.specs.declared.line.Line.TheVariants as line
+use Rattle.loss_scripts.specs.declared.line.ScriptLine.{ScriptLine}
+use Rattle.loss_scripts.specs.declared.line.ScriptLine.TheVariants as line
 use Rattle.loss_scripts.specs.declared.line.Setting.{Setting}
 use Rattle.loss_scripts.specs.declared.line.Setting.TheVariants.{Words, OfStyle, Patience, Wait, Put}
 use Rattle.loss_scripts.specs.declared.script.PutLine.{PutLine}
@@ -25,53 +25,53 @@ abbrev pub script_limit : ℕ
 script_limit = 1048576
 
 -- the size of the machine that a line names
-abbrev pub words_in : Line → Option ℕ
+abbrev pub words_in : ScriptLine → Option ℕ
 words_in (line.Setting (Words n)) = Some n
 words_in said = None
 
 -- the style that a line names
-abbrev pub style_in : Line → Option Style
+abbrev pub style_in : ScriptLine → Option Style
 style_in (line.Setting (OfStyle style)) = Some style
 style_in said = None
 
 -- the patience that a line names
-abbrev pub patience_in : Line → Option ℕ
+abbrev pub patience_in : ScriptLine → Option ℕ
 patience_in (line.Setting (Patience n)) = Some n
 patience_in said = None
 
 -- the characters that a line lets wait
-abbrev pub waiting_in : Line → Option (ArrayVec ℕ)
+abbrev pub waiting_in : ScriptLine → Option (ArrayVec ℕ)
 waiting_in (line.Setting (Wait waiting)) = Some waiting
 waiting_in said = None
 
 -- the word that a line, by its number, puts into memory
-abbrev pub put_in : ℕ × Line → Option PutLine
+abbrev pub put_in : ℕ × ScriptLine → Option PutLine
 put_in (number, line.Setting (Put address value)) = Some (record { line = number; address = address; value = value })
 put_in (number, said) = None
 
 -- what an event line, by its number, lets happen
-abbrev pub step_in : ℕ × Line → Option StepLine
+abbrev pub step_in : ℕ × ScriptLine → Option StepLine
 step_in (number, line.Step step) = Some (record { line = number; step = step })
 step_in (number, said) = None
 
 -- the lines with their numbers, from 1
-abbrev pub numbered : List Line → List (ℕ × Line)
+abbrev pub numbered : List ScriptLine → List (ℕ × ScriptLine)
 numbered said = enumerate_from 1 said
 
 -- the event lines
-abbrev pub steps_of : List Line → List StepLine
+abbrev pub steps_of : List ScriptLine → List StepLine
 steps_of said = filter_map step_in (numbered said)
 
 -- the lines that put words into memory
-abbrev pub puts_of : List Line → List PutLine
+abbrev pub puts_of : List ScriptLine → List PutLine
 puts_of said = filter_map put_in (numbered said)
 
 -- what the lines name first, where they do
-abbrev pub first_in : {A : Type 0} → (Line → Option A) → List Line → Option A
+abbrev pub first_in : {A : Type 0} → (ScriptLine → Option A) → List ScriptLine → Option A
 first_in named said = slice_get (filter_map named said) 0
 
 -- each setup line but that of a word stands at most once
-abbrev pub IsNew : List Line → Setting → Type 0
+abbrev pub IsNew : List ScriptLine → Setting → Type 0
 IsNew before (Words n) = first_in words_in before ≡ None
 IsNew before (OfStyle style) = first_in style_in before ≡ None
 IsNew before (Patience n) = first_in patience_in before ≡ None
@@ -79,17 +79,17 @@ IsNew before (Wait waiting) = first_in waiting_in before ≡ None
 IsNew before (Put address value) = ⊤
 
 -- a line may come after these: a setup line only before all event lines, and where it repeats none
-abbrev pub MayCome : List Line → Line → Type 0
+abbrev pub MayCome : List ScriptLine → ScriptLine → Type 0
 MayCome before (line.Setting s) = (steps_of before ≡ []) × IsNew before s
 MayCome before said = ⊤
 
 -- each line may come after those before it
-abbrev pub IsInOrder : List Line → Type 0
-IsInOrder said = (k : ℕ) (d : Line) → k < length said → MayCome (take k said) (slice_index_or said k d)
+abbrev pub IsInOrder : List ScriptLine → Type 0
+IsInOrder said = (k : ℕ) (d : ScriptLine) → k < length said → MayCome (take k said) (slice_index_or said k d)
 
 -- the text is this script: lines in order, and what they name, with the defaults of what none names
 pub record IsScript (text : List ℕ) (script : Script) : Type 0 where
-  pub said : List Line
+  pub said : List ScriptLine
   pub within : length text ≤ script_limit
   pub spelled : AllZip IsLine (lines text) said
   pub in_order : IsInOrder said
@@ -107,10 +107,10 @@ pub record IsRefusedLine (text : List ℕ) (number : ℕ) : Type 0 where
   pub after : List (List ℕ)
   pub all : lines text ≡ before ++ refused ∷ after
   pub number_is : number ≡ length before + 1
-  pub said : List Line
+  pub said : List ScriptLine
   pub spelled : AllZip IsLine before said
   pub in_order : IsInOrder said
-  pub wrong : (line : Line) → IsLine refused line → MayCome said line → ⊥
+  pub wrong : (line : ScriptLine) → IsLine refused line → MayCome said line → ⊥
 
 -- the text is refused at a line: at 0 where it is too long, else at the first that is wrong
 abbrev pub IsRefusedScript : List ℕ → ℕ → Type 0

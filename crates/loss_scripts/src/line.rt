@@ -61,7 +61,7 @@ pub enum Step {
 
 /// What a line of a script says.
 #[derive(Drop)]
-pub(crate) enum Line {
+pub(crate) enum ScriptLine {
     /// Nothing: it is empty or a comment.
     Blank,
 
@@ -253,18 +253,18 @@ fn read_step(text: &[u8]) -> Option<Step>
 }
 
 /// What a line says, without the characters that end it: `None` where it is of no form.
-pub(crate) fn read_line(text: &[u8]) -> Option<Line>
+pub(crate) fn read_line(text: &[u8]) -> Option<ScriptLine>
     ensures found { IfSome result (IsLine text.now) }
-    ensures none { IfNone result ((said : Line) → IsLine text.now said → ⊥) }
+    ensures none { IfNone result ((said : ScriptLine) → IsLine text.now said → ⊥) }
 {
     if text.is_empty() || text[0] == b'#' {
-        return Some(Line::Blank);
+        return Some(ScriptLine::Blank);
     }
     if let Some(said) = read_step(text) {
-        return Some(Line::Step(said));
+        return Some(ScriptLine::Step(said));
     }
     match read_setting(text) {
-        Some(said) => Some(Line::Setting(said)),
+        Some(said) => Some(ScriptLine::Setting(said)),
         None => None,
     }
 }

@@ -3,14 +3,14 @@ ghost use Rattle.std.specs.Prelude.{◌≡◌, ℕ, ◌+◌, ◌*◌, ◌<◌, �
 ghost use Rattle.std.specs.Prelude.{length, IfOk, MatchResult, MatchBool, position, ◌==◌};
 ghost use Rattle.std.specs.List.{AllZip};
 ghost use Rattle.std.specs.Str.Lines.{lines, strip_carriage_return};
-ghost use Rattle.loss_scripts.specs.declared.line.Line.{Line};
+ghost use Rattle.loss_scripts.specs.declared.line.ScriptLine.{ScriptLine};
 ghost use Rattle.loss_scripts.specs.Line.{IsLine};
 ghost use Rattle.odt_machine.specs.Machine.{largest_words};
 ghost use Rattle.loss_scripts.specs.Script.{MayCome, IsInOrder, IsScript, IsScriptFault, script_limit};
 ghost use Rattle.loss_scripts.specs.Law.{IsOnlyScript, IsOnlyFault};
 ghost use Rattle.loss_scripts.specs.Draft.{HasNamed, Joins};
 
-use crate::line::{Line, Setting, Step, Waiting, read_line};
+use crate::line::{ScriptLine, Setting, Step, Waiting, read_line};
 use host_core::PLAIN_PATIENCE;
 use odt_machine::{LARGEST_WORDS, PLAIN_STYLE, Style};
 use std::alloc::{AllocError, Global};
@@ -110,17 +110,17 @@ impl Draft {
     }
 
     // Takes what the next line says, by its number. Answers whether the line may come.
-    fn add(&mut self, number: u32, said: Line) -> Result<bool, AllocError>
-        ensures { IfOk result (λ added. (before : List Line) → HasNamed before self.old → number ≡ length before + 1 →
+    fn add(&mut self, number: u32, said: ScriptLine) -> Result<bool, AllocError>
+        ensures { IfOk result (λ added. (before : List ScriptLine) → HasNamed before self.old → number ≡ length before + 1 →
             MatchBool added (Joins before said self.new) (MayCome before said → ⊥)) }
     {
         match said {
-            Line::Blank => Ok(true),
-            Line::Step(step) => {
+            ScriptLine::Blank => Ok(true),
+            ScriptLine::Step(step) => {
                 self.steps.push(StepLine { line: number, step })?;
                 Ok(true)
             }
-            Line::Setting(setting) => {
+            ScriptLine::Setting(setting) => {
                 if !self.steps.is_empty() {
                     return Ok(false);
                 }
@@ -132,8 +132,8 @@ impl Draft {
     // Takes what a setup line names. Answers whether it repeats no other.
     fn set(&mut self, number: u32, setting: Setting) -> Result<bool, AllocError>
         requires { self.old.steps.items ≡ [] }
-        ensures { IfOk result (λ added. (before : List Line) → HasNamed before self.old → number ≡ length before + 1 →
-            MatchBool added (Joins before (Line.Setting setting) self.new) (MayCome before (Line.Setting setting) → ⊥)) }
+        ensures { IfOk result (λ added. (before : List ScriptLine) → HasNamed before self.old → number ≡ length before + 1 →
+            MatchBool added (Joins before (ScriptLine.Setting setting) self.new) (MayCome before (ScriptLine.Setting setting) → ⊥)) }
     {
         match setting {
             Setting::Words(n) => Ok(self.words.replace(n).is_none()),
@@ -153,8 +153,8 @@ impl Draft {
 
     // The script, with the defaults of what no line named.
     fn finish(self) -> Script
-        ensures { (text : List ℕ) (said : List Line) → length text ≤ script_limit → AllZip IsLine (lines text) said → IsInOrder said → HasNamed said self →
-            IsScript text result }
+        ensures { (text : List ℕ) (said : List ScriptLine) → length text ≤ script_limit → AllZip IsLine (lines text) said → IsInOrder said →
+            HasNamed said self → IsScript text result }
     {
         let Draft {
             words,

@@ -11,8 +11,10 @@ use Rattle.tape_blocks.specs.Fault.{fault_text, refused_tape_text}
 use Rattle.tape_blocks.specs.OutOfMemory.{memory_text}
 use Rattle.endings.specs.FaultOutput.{StandardError, IsSaidOnError}
 use Rattle.endings.specs.declared.failure.Failure.{Failure}
-use Rattle.endings.specs.declared.failure.Failure.TheVariants.{CannotRead, CannotWrite, CannotWriteFile, FileIsThere, PartIsThere, PartNotOfSave, PartStale, RecordInUse, CannotConnect}
-use Rattle.endings.specs.declared.failure.Failure.TheVariants.{LineFailed, StartInDoubt, TapeRefused, OneTapeRefused, ScriptRefused, WordsRefused, RecordRefused}
+use Rattle.endings.specs.declared.failure.Failure.TheVariants.{CannotRead, CannotWrite, CannotWriteFile, CannotConnect}
+use Rattle.endings.specs.declared.failure.Failure.TheVariants.{FileIsThere, PartIsThere, PartNotOfSave, PartStale, RecordInUse}
+use Rattle.endings.specs.declared.failure.Failure.TheVariants.{LineFailed, StartInDoubt, TapeRefused, OneTapeRefused, ScriptRefused}
+use Rattle.endings.specs.declared.failure.Failure.TheVariants.{WordsRefused, RecordRefused}
 use Rattle.endings.specs.declared.failure.Failure.TheVariants.{RecordStale, TooLarge, Misplaced, BadWord, NoMemory}
 use Rattle.endings.specs.LineReason.{line_failed}
 use Rattle.endings.specs.declared.place.Place.{Place}

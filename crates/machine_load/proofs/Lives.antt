@@ -10,7 +10,6 @@ use Rattle.host_core.specs.Console.{go}
 use Rattle.host_core.specs.Core.{Core, begun}
 use Rattle.host_core.specs.Laws.{led}
 use Rattle.load_devices.specs.declared.item.Item.{Item}
-use Rattle.load_devices.specs.declared.item.Kept.{Kept}
 use Rattle.load_devices.specs.Dialogue.{dialogue, keys_of}
 use Rattle.load_devices.specs.Turns.{most_turns}
 use Rattle.load_engine.specs.declared.stop.Stop.{Stop}
@@ -51,7 +50,7 @@ use Rattle.machine_load.specs.Load.{SurroundingsTold, Finish, IsBusyLife, IsHeld
 use Rattle.machine_load.specs.Looks.{AreLooks, vouched_for}
 use Rattle.machine_load.specs.Parts.{AreBrought, AreKept, AreParts, IsDrivenUnless, IsKeptBehind, Unless, course, stubs_of, told_by, turns_of}
 use Rattle.load_engine.specs.Driven.{IsDriven, IsKeptBy, turns_give}
-use Rattle.machine_load.specs.Stubs.{hindrance_of, host_behind}
+use Rattle.machine_load.specs.Stubs.{hindrance_of}
 use Rattle.machine_load.proofs.Renewed.{EachKept, HoldsFront, host_holds, stubs_front, stubs_held}
 
 -- no more words count as verified than the record says

@@ -14,7 +14,7 @@ use Rattle.host_core.proofs.Turns.{begun_kept}
 use Rattle.load_devices.specs.declared.item.Item.{Item}
 use Rattle.load_devices.specs.declared.item.Kept.{Kept}
 use Rattle.load_devices.specs.declared.item.Kept.TheVariants.{Word}
-use Rattle.load_devices.specs.Dialogue.{dialogue, keys_of, news_between}
+use Rattle.load_devices.specs.Dialogue.{dialogue, keys_of}
 use Rattle.load_devices.specs.Turns.{most_turns}
 use Rattle.load_engine.specs.declared.stop.Stop.{Stop}
 use Rattle.load_engine.specs.Driven.{turns_give}

@@ -1,7 +1,6 @@
 -- What an engine gives a keeper to keep, and what it makes of it.
-use Rattle.std.specs.Prelude.{ℕ, ◌+◌, ◌-◌, ◌<◌, List, length, map, take, drop, Option, Some, None}
+use Rattle.std.specs.Prelude.{ℕ, ◌+◌, ◌-◌, ◌<◌, List, length, map, take, drop, Option}
 use Rattle.tape_image.specs.Word.{WordValue}
-use Rattle.load_devices.specs.declared.fault.KeepFault.{KeepFault}
 use Rattle.load_devices.specs.declared.item.Kept.{Kept}
 use Rattle.load_devices.specs.declared.item.Kept.TheVariants.{Word}
 use Rattle.load_devices.specs.Devices.{KeeperCalls}

@@ -16,6 +16,8 @@ BAD_SUM = "refused at 9: BadSum"
 
 # Words that name files, and what is told of them. `folder` opens, and then can't be read; m1 to m3 are not there.
 TAPES = [
+    ("m1", "cannot read m1"),
+    ("folder", "cannot read folder"),
     ("m1 m2", "cannot read m1"),
     ("m2 m1", "cannot read m2"),
     ("m1 m2 m3", "cannot read m1"),
@@ -36,6 +38,11 @@ TAPES = [
 
 # TAPE SCRIPT MORE: opened in this order; the script is read last.
 REHEARSALS = [
+    ("m1 m2", "cannot read m1"),
+    (f"{BAD} m2", "cannot read m2"),
+    (f"{BAD} bad.script", f"tape {BAD_SUM}"),
+    (f"{GOOD} bad.script", "script refused at line 1"),
+    (f"{GOOD} folder", "cannot read folder"),
     ("m1 m2 m3", "cannot read m1"),
     (f"{GOOD} m2 m3", "cannot read m2"),
     (f"{GOOD} good.script m3", "cannot read m3"),
@@ -43,7 +50,8 @@ REHEARSALS = [
     (f"{BAD} bad.script m3", "cannot read m3"),
     (f"{GOOD} bad.script {BAD}", f"tape 2 {BAD_SUM}"),
     (f"{GOOD} folder {BAD}", f"tape 2 {BAD_SUM}"),
-    (f"{GOOD} folder folder", "cannot read folder"),
+    ("folder bad.script ./folder", "cannot read folder"),
+    (f"{GOOD} folder ./folder", "cannot read ./folder"),
     (f"{GOOD} bad.script {OTHER}", "script refused at line 1"),
     (f"{GOOD} folder {OTHER}", "cannot read folder"),
 ]

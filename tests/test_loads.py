@@ -178,13 +178,17 @@ class Starts(Loads):
         self.was_typed(peer, "", connections=0)
 
     def test_another_start(self):
-        """Written with one digit or six, as the tape's it is typed with six; it may lie above memory, as a boot ROM does."""
-        for start, typed in (("2", "000002"), ("001002", "001002"), ("173000", "173000")):
+        """Written with one digit or six, as the tape's it is typed with six; it may lie above memory, as a boot ROM does. A record's
+        mark is there for it as for the tape's."""
+        for start, typed in (("0", "000000"), ("2", "000002"), ("001002", "001002"), ("173000", "173000"), ("177776", "177776")):
             with self.subTest(start):
                 peer = self.console_at(Console())
-                self.ends(self.load(peer, f"first.lda --start {start}"), 0, STARTED)
+                self.ends(self.recorded(peer, f"first.lda --start {start}"), 0, STARTED)
                 self.was_typed(peer, f"Z001000/011064\r001000/\r{typed}G")
                 self.is_so(peer.machine.starts, [int(start, 8)])
+                self.holds({"a.record": MARKED})
+                self.ends(self.recorded(peer, f"first.lda --start {start}"), 6, "sent 0 spent 0 verified 1 of 1\nend MaybeStarted\n")
+                os.remove(self.path("a.record"))
 
     def test_a_start_where_the_tape_has_none(self):
         peer = self.console_at(Console())
@@ -203,6 +207,8 @@ class Starts(Loads):
         for words, behind in (
             ("", ["001000G -> 001000G", "sent 30 lost 0 spent 0 verified 1 of 1", "end Started", "odt Running 001000"]),
             ("--start 1002", ["001002G -> 001002G", "sent 30 lost 0 spent 0 verified 1 of 1", "end Started", "odt Running 001002"]),
+            ("--start 177776 no-word.lda", ["177776G -> 177776G", "sent 30 lost 0 spent 0 verified 1 of 1", "end Started", "odt Running 177776"]),
+            ("no-word.lda --start 0", ["000000G -> 000000G", "sent 30 lost 0 spent 0 verified 1 of 1", "end Started", "odt Running 000000"]),
             ("--no-start", ["sent 23 lost 0 spent 0 verified 1 of 1", "end Loaded", "odt Prompt"]),
         ):
             given = self.ldaodt(f"dialogue first.lda {words}")

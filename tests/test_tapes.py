@@ -229,6 +229,19 @@ class Readings(Compared):
     def test_what_follows_a_tape_is_left_alone(self):
         self.agree(([data + tail] for data in SAMPLES.values() for tail in (b"", *TAILS)), judge_input)
 
+    def test_what_follows_a_tape_stays_in_a_pipe(self):
+        """For whoever reads on there; also where standard input is called `-`."""
+        data = SAMPLES["first"]
+        for words in ([], ["check", "-"]):
+            for tail in (it for it in TAILS if len(it) < 1000):
+                reading, writing = os.pipe()
+                os.write(writing, data + tail)
+                os.close(writing)
+                with os.fdopen(reading, "rb", buffering=0) as pipe:
+                    given = run_often(words, stdin=pipe)
+                    left = pipe.read()
+                self.is_so((words, given, left), (words, checked([data]), tail))
+
     def test_a_tape_that_comes_in_two_pieces(self):
         data = SAMPLES["overlapping"]
         for place in range(1, len(data)):

@@ -44,7 +44,7 @@ class Words(Case):
 
     def test_so_does_an_address(self):
         self.put_tapes("first.lda")
-        for name, shown in SHOWN[1:-1]:
+        for name, shown in (("", ""), *SHOWN[1:-1]):
             with self.subTest(shown):
                 self.ends(self.ldaodt(["load", "first.lda", "--", f"{name}:"]), 4, "", fault(f"cannot connect to {shown}:", NO_PORT))
 

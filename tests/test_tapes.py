@@ -8,6 +8,7 @@ import multiprocessing
 import os
 import random
 import re
+import shutil
 import subprocess
 import time
 import unittest
@@ -413,6 +414,14 @@ class ByHand(Case):
                 self.put("a.lda", bytes.fromhex(text))
                 self.ends(self.ldaodt("check a.lda"), 3, "", f"ldaodt: tape refused at {said}\n")
                 self.ends(self.ldaodt("check first.lda a.lda a.lda"), 3, "", f"ldaodt: tape 2 refused at {said}\n")
+
+    def test_what_srec_cat_writes_without_a_start(self):
+        """It has no transfer block."""
+        if not shutil.which("srec_cat"):
+            self.skipTest("srec_cat is not installed")
+        self.put("word.bin", b"\x34\x12")
+        subprocess.run("srec_cat word.bin -binary -offset 01000 -o word.lda -dec_binary".split(), cwd=self.room, check=True)
+        self.ends(self.ldaodt("check word.lda"), 3, "", "ldaodt: tape refused at 512: NoTransfer\n")
 
     def test_last_places(self):
         good = "blocks 0 data 0 read 1048576\nno start 000001\ncanonical no\nwords 0\n"

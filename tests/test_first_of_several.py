@@ -4,6 +4,7 @@ All files that the words name are opened in the order of the words, before any i
 their order, and last a script. The first fault of this row is the one that is told.
 """
 import errno
+import itertools
 import os
 import unittest
 
@@ -76,11 +77,11 @@ class Files(Several):
     """Files."""
 
     def test_tapes(self):
-        """Nothing is dialled where a line is named: nobody listens there, and that is not told. A script that is there, and says
-        nothing, is read behind them all."""
-        for command in OF_TAPES:
+        """Nothing is dialled where a line is named: nobody listens there, or it is no address, and that is not told. A script that
+        is there, and says nothing, is read behind them all."""
+        for command, line in itertools.product(OF_TAPES, ("127.0.0.1:1", ":")):
             for names, told in TAPES:
-                self.told(command.line(*names.split(), line="127.0.0.1:1", script="good.script"), told)
+                self.told(command.line(*names.split(), line=line, script="good.script"), told)
         for names, told in TAPES:
             first, *more = names.split()
             self.told(f"load --record a.record {first} 127.0.0.1:1 {' '.join(more)}", told)

@@ -246,6 +246,26 @@ class Answers(Calls):
         self.ends(given, 4, "", fault("cannot write a.record", errno.EIO))
         self.is_so((bytes_of(self.path("b.record")).decode(), line.machine.typed), (VERIFIED, LOOKED))
 
+    def test_what_was_made_in_vain_and_can_not_be_removed(self):
+        """A full disk takes no byte of a record or of a tape, or nobody listens: that is told, and not why what was made for it stays."""
+        nobody = self.taken_port()
+        for words, text, why, stays in (
+            ("load first.lda LINE --record a.record", "cannot write a.record", errno.ENOSPC, ["a.record", "a.record.ldaodt-new"]),
+            ("save a.lda LINE 1000 1000", "cannot write a.lda", errno.ENOSPC, ["a.lda.part"]),
+            (f"load first.lda {nobody} --record a.record", f"cannot connect to {nobody}", errno.ECONNREFUSED, ["a.record"]),
+        ):
+            def before(call, stays=stays):
+                if call.name == "unlink":
+                    return call.fails(errno.EROFS)
+                return call.fails(errno.ENOSPC) if call.name == "write" and call.file() in stays else None
+
+            with self.subTest(words):
+                given = self.ask(self.console_at(Console()), words, before)
+                self.holds(dict.fromkeys(stays, ""))
+                for name in stays:
+                    os.remove(self.path(name))
+                self.ends(given, 4, "", fault(text, why))
+
     def test_a_system_without_a_descriptor(self):
         """The process has too many files open, or the whole system has: the tape that is open is read and closed, and the next is
         tried once more. Behind another error it is not."""

@@ -8,7 +8,7 @@ import subprocess
 import unittest
 
 import commands
-from cases import Case, Console
+from cases import Case, Console, DeafConsole
 from outside import LOST_DIGIT, NO_OUTPUT, NO_PORT, PROGRAM, Answer, fault, tape_of, text_of
 
 NO_INPUT = fault("cannot read standard input", errno.EBADF)
@@ -159,6 +159,21 @@ class Descriptors(Case):
                     self.holds({"a.record": record})
                     self.is_so(peer.machine.starts, [] if close_after else [0o1000])
                     os.remove(self.path("a.record"))
+
+    def test_each_is_the_null_device_meanwhile(self):
+        """While a load that has its record waits for a console that says nothing."""
+        self.put_tapes("first.lda")
+        null = subprocess.DEVNULL
+        for closed in (0, 1, 2):
+            with self.subTest(closed):
+                peer = self.console_at(DeafConsole())
+                load = subprocess.Popen([PROGRAM, "load", "first.lda", peer.address, "--quiet", "60000", "--record", "a.record"], cwd=self.room,
+                                        stdin=null, stdout=null, stderr=null, preexec_fn=lambda: os.close(closed))
+                self.addCleanup(self.let_go, load)
+                self.until(lambda: os.path.exists(self.path("a.record")))
+                self.is_so(os.readlink(f"/proc/{load.pid}/fd/{closed}"), "/dev/null")
+                self.let_go(load)
+                os.remove(self.path("a.record"))
 
 
 class Writes(Case):

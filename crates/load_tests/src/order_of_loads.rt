@@ -28,6 +28,22 @@ fn steps_of_load<R: Abort>(
     }
 }
 
+// Whether such a load comes to this fault, or to none, and asks just these steps. Its line is none that was given back.
+fn asks<R: Abort>(
+    rt: &R,
+    alloc: Global,
+    has_machine: bool,
+    wanted: Option<LoadFault>,
+    steps: &[LoadStep],
+) -> bool {
+    match steps_of_load(rt, alloc, has_machine) {
+        Some((told, fault)) => {
+            fault == wanted && told.steps.as_slice() == steps && told.lines.is_empty()
+        }
+        None => false,
+    }
+}
+
 // What a load asks that comes to its end.
 const WHOLE: [LoadStep; 4] = [
     LoadStep::RecordRead(Writable::Anew),
@@ -41,17 +57,7 @@ const IN_VAIN: [LoadStep; 2] = [LoadStep::RecordRead(Writable::Anew), LoadStep::
 
 #[test]
 fn the_record_is_read_first_and_begun_behind_the_connection(rt: HostRuntime) {
-    let whole = steps_of_load(&rt, rt.alloc(), true);
-    assert!(rt;
-        whole.is_some_and(|(told, fault)| fault.is_none()
-            && told.steps.as_slice() == WHOLE.as_slice())
-    );
-    let vain = steps_of_load(&rt, rt.alloc(), false);
-    assert!(rt;
-        vain.is_some_and(|(told, fault)| {
-            fault == Some(LoadFault::Connect)
-                && told.steps.as_slice() == IN_VAIN.as_slice()
-                && told.lines.is_empty()
-        })
-    );
+    let alloc = rt.alloc();
+    assert!(rt; asks(&rt, alloc, true, None, &WHOLE));
+    assert!(rt; asks(&rt, alloc, false, Some(LoadFault::Connect), &IN_VAIN));
 }

@@ -7,7 +7,8 @@ use odt_machine::{LARGEST_WORDS, PLAIN_STYLE};
 use request_values::{CheckOptions, Console, Request, TapeRequest};
 use requests::{SharedSystem, attempt};
 use simulated_system::{
-    AMPLE, BrokenInput, BrokenOutput, NOWHERE, ONE_WORD, Setting, System, UnflushedOutput,
+    AMPLE, BrokenInput, BrokenOutput, NOWHERE, ONE_WORD, SimulatedSystem, SystemSetting,
+    UnflushedOutput,
 };
 use std::alloc::{AllocError, Global};
 use std::fs;
@@ -57,7 +58,7 @@ fn is_told_alone<W: Output>(
     let Ok(request) = request_of(rt.alloc(), asked) else {
         return false;
     };
-    let system = System::new(rt, Setting { reads, ..AMPLE });
+    let system = SimulatedSystem::new(rt, SystemSetting { reads, ..AMPLE });
     let system = SharedSystem::of(&system);
     let (_, status) = attempt(
         system,
@@ -163,7 +164,7 @@ fn is_said(rt: &HostRuntime, names: &[&str], line: &str) -> bool {
     let Ok(mut ended) = Ended::with_room(rt.alloc()) else {
         return false;
     };
-    let system = System::new(rt, AMPLE);
+    let system = SimulatedSystem::new(rt, AMPLE);
     run(
         &system,
         rt.alloc(),

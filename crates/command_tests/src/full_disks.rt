@@ -3,7 +3,7 @@
 
 use crate::attempts::{Ended, load_of, run};
 use endings::Status;
-use simulated_system::{AMPLE, ONE_WORD, Setting, System, remove};
+use simulated_system::{AMPLE, ONE_WORD, SimulatedSystem, SystemSetting, remove};
 use std::alloc::AllocError;
 use std::os::unix::fs::symlink;
 use std::test::Fail;
@@ -26,7 +26,7 @@ const WHOLE: &str = "LDAODT 2\n001000 011064\nG\n";
 type Row = (Option<&'static str>, bool, usize);
 
 // The word is in the machine's memory, so that a load may go on from each of these.
-const SETTING: Setting = Setting {
+const SETTING: SystemSetting = SystemSetting {
     memory: &[(0o001000, 0o011064)],
     ..AMPLE
 };
@@ -41,15 +41,15 @@ const ROWS: [Row; 6] = [
 ];
 
 // Loads the tape over a system. The error is that the request itself has no room.
-fn load(rt: &HostRuntime, setting: Setting, ended: &mut Ended) -> Result<(), AllocError> {
+fn load(rt: &HostRuntime, setting: SystemSetting, ended: &mut Ended) -> Result<(), AllocError> {
     let request = load_of(rt.alloc(), TAPE, Some(RECORD))?;
-    let system = System::new(rt, setting);
+    let system = SimulatedSystem::new(rt, setting);
     run(&system, rt.alloc(), request, &[], ended);
     Ok(())
 }
 
 // What a load leaves over a system of this setting, where there is memory for the request.
-fn loaded(rt: &HostRuntime, setting: Setting) -> Option<Ended> {
+fn loaded(rt: &HostRuntime, setting: SystemSetting) -> Option<Ended> {
     let mut ended = Ended::with_room(rt.alloc()).ok()?;
     load(rt, setting, &mut ended).ok()?;
     Some(ended)
@@ -100,7 +100,7 @@ fn is_full_so(rt: &HostRuntime, row: &Row, room: usize) -> bool {
     if put(rt, old, is_link).is_err() {
         return false;
     }
-    let Some(ended) = loaded(rt, Setting { room, ..SETTING }) else {
+    let Some(ended) = loaded(rt, SystemSetting { room, ..SETTING }) else {
         return false;
     };
     let is_told = if room < WHOLE.len() {
@@ -138,7 +138,7 @@ const IN_DOUBT: &str =
 // the line did not fail.
 fn failed_behind_mark(rt: &HostRuntime, reads: u32) -> Option<bool> {
     clear(rt);
-    let ended = loaded(rt, Setting { reads, ..AMPLE })?;
+    let ended = loaded(rt, SystemSetting { reads, ..AMPLE })?;
     let has_mark = is_left_so(rt, Some(WHOLE));
     let line = if has_mark { IN_DOUBT } else { FAILED };
     let is_told = ended.status == Status::DeviceFailed
@@ -171,7 +171,7 @@ const STARTED: &str = "sent 30 spent 0 verified 1 of 1\nend Started\n";
 // Whether a load of which the console answers so many reads ends so.
 fn ends_so(rt: &HostRuntime, reads: u32, status: Status, out: &str, err: &str) -> bool {
     clear(rt);
-    loaded(rt, Setting { reads, ..AMPLE }).is_some_and(|ended| ended.is(status, out, err))
+    loaded(rt, SystemSetting { reads, ..AMPLE }).is_some_and(|ended| ended.is(status, out, err))
 }
 
 #[test]

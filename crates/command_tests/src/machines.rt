@@ -6,7 +6,7 @@ use endings::Status;
 use request_values::{
     AddressRange, Load, LoadOptions, Look, MachineRequest, Probe, Request, Save, TapeRequest,
 };
-use simulated_system::{AMPLE, DEVICE, ONE_WORD, QUIET_MS, Setting, System, remove};
+use simulated_system::{AMPLE, DEVICE, ONE_WORD, QUIET_MS, SimulatedSystem, SystemSetting, remove};
 use std::alloc::{AllocError, Global};
 use std::fs;
 use std::test::Fail;
@@ -73,31 +73,38 @@ fn request_of(alloc: Global, asked: Asked) -> Result<Request<'static>, AllocErro
 }
 
 // A machine of which the tape's word stands.
-const LOADED: Setting = Setting {
+const LOADED: SystemSetting = SystemSetting {
     memory: &[(0o001000, 0o011064)],
     ..AMPLE
 };
 
 // A machine that has another word there.
-const OTHER: Setting = Setting {
+const OTHER: SystemSetting = SystemSetting {
     memory: &[(0o001000, 0o011065)],
     ..AMPLE
 };
 
 // A machine without memory there.
-const SMALL: Setting = Setting {
+const SMALL: SystemSetting = SystemSetting {
     words: 256,
     ..AMPLE
 };
 
 // A machine whose program greets.
-const GREETING: Setting = Setting {
+const GREETING: SystemSetting = SystemSetting {
     greeting: b"HELLO\r\n",
     ..AMPLE
 };
 
 // What is asked for, of which machine, and how it ends, with how many connections.
-type Row = (Asked, Setting, Status, &'static str, &'static str, u32);
+type Row = (
+    Asked,
+    SystemSetting,
+    Status,
+    &'static str,
+    &'static str,
+    u32,
+);
 
 // Loads with each start, and what is heard behind them.
 static LOADS: [Row; 7] = [
@@ -172,7 +179,7 @@ static LOADS: [Row; 7] = [
             line: DEVICE,
             ..LOAD
         }),
-        Setting { reads: 12, ..AMPLE },
+        SystemSetting { reads: 12, ..AMPLE },
         Status::DeviceFailed,
         "sent 0 spent 0 verified 0 of 1\nend LineFailed\n",
         "ldaodt: line failed\nldaodt: the other end closed it, or the adapter was pulled\n",
@@ -211,7 +218,7 @@ static LOOKS: [Row; 7] = [
     ),
     (
         Asked::Verify(LOOK),
-        Setting { reads: 0, ..AMPLE },
+        SystemSetting { reads: 0, ..AMPLE },
         Status::DeviceFailed,
         "",
         "ldaodt: cannot connect to 127.0.0.1:2323\n",
@@ -251,7 +258,7 @@ static LOOKS: [Row; 7] = [
 static PROBES: [Row; 6] = [
     (
         Asked::Probe(LOOK),
-        Setting { tick: 1, ..AMPLE },
+        SystemSetting { tick: 1, ..AMPLE },
         Status::Done,
         "prompt yes\nstyle 0\nforgets digits yes\nmemory 000000 to 157776\nkey 1.0 ms\na load of 28672 words takes 28 minutes at this pace\nend Probed\n",
         "",
@@ -265,7 +272,7 @@ static PROBES: [Row; 6] = [
             patience: 1,
             ..LOOK
         }),
-        Setting {
+        SystemSetting {
             words: 1024,
             loses: Some(14),
             tick: 100,
@@ -286,7 +293,7 @@ static PROBES: [Row; 6] = [
     ),
     (
         Asked::Probe(LOOK),
-        Setting {
+        SystemSetting {
             deaf: true,
             ..AMPLE
         },
@@ -297,7 +304,7 @@ static PROBES: [Row; 6] = [
     ),
     (
         Asked::Probe(LOOK),
-        Setting { reads: 12, ..AMPLE },
+        SystemSetting { reads: 12, ..AMPLE },
         Status::DeviceFailed,
         "prompt yes\nend LineFailed\n",
         "ldaodt: line failed\nldaodt: the other end closed it, or the adapter was pulled\n",
@@ -323,7 +330,7 @@ fn is_so(rt: &HostRuntime, row: &Row) -> bool {
     else {
         return false;
     };
-    let system = System::new(rt, setting);
+    let system = SimulatedSystem::new(rt, setting);
     run(&system, rt.alloc(), request, &[], &mut ended);
     ended.is(status, out, err) && system.connections.get() == connections
 }

@@ -5,7 +5,7 @@ use crate::attempts::{Ended, OUT_OF_MEMORY, load_of, run};
 use endings::Status;
 use request_values::{AddressRange, Look, MachineRequest, Request, Save, TapeRequest};
 use scarce_memory::{Famine, ROOMS};
-use simulated_system::{AMPLE, ONE_WORD, QUIET_MS, Setting, System};
+use simulated_system::{AMPLE, ONE_WORD, QUIET_MS, SimulatedSystem, SystemSetting};
 use std::alloc::{AllocError, Global};
 use std::fs;
 use std::test::Fail;
@@ -18,7 +18,7 @@ const WORDS: usize = 2000;
 const LOOKED: usize = 500;
 
 // A machine that is no larger than the long tape needs, since there is one for each room before memory is taken.
-const SETTING: Setting = Setting {
+const SETTING: SystemSetting = SystemSetting {
     words: 2256,
     ..AMPLE
 };
@@ -122,7 +122,7 @@ fn add_long_name(name: &mut String) -> Result<(), AllocError> {
 // Does what is asked for, in place of what the attempt before it left. The error is that the request itself has no
 // room.
 fn attempt(
-    system: &System<'_>,
+    system: &SimulatedSystem<'_>,
     alloc: Global,
     asked: Asked<'_>,
     ended: &mut Ended,
@@ -162,7 +162,7 @@ impl Refusals {
 // Does it in the room that is left, and answers how often memory was wanting, or None where it did not end for
 // want of memory as it has to.
 fn refusals_of(
-    system: &System<'_>,
+    system: &SimulatedSystem<'_>,
     rt: &HostRuntime,
     asked: Asked<'_>,
     ended: &mut Ended,
@@ -178,7 +178,7 @@ fn refusals_of(
 fn attempt_scarcely(
     rt: &HostRuntime,
     asked: Asked<'_>,
-    systems: &[System<'_>],
+    systems: &[SimulatedSystem<'_>],
     famine: &mut Famine,
     ended: &mut Ended,
 ) -> Refusals {
@@ -196,9 +196,12 @@ fn attempt_scarcely(
 }
 
 // Adds a system for each room.
-fn add_systems<'a>(rt: &'a HostRuntime, systems: &mut Vec<System<'a>>) -> Result<(), AllocError> {
+fn add_systems<'a>(
+    rt: &'a HostRuntime,
+    systems: &mut Vec<SimulatedSystem<'a>>,
+) -> Result<(), AllocError> {
     for _ in 0..ROOMS {
-        systems.push(System::new(rt, SETTING))?;
+        systems.push(SimulatedSystem::new(rt, SETTING))?;
     }
     Ok(())
 }

@@ -5,7 +5,7 @@ use host_core::{End, HostCore, Progress};
 use load_devices::{Keep, Unwatched};
 use load_engine::{Stop, drive};
 use load_record::FileKeep;
-use simulated_system::{AMPLE, Console, QUIET_MS, System, plan_of_one_word};
+use simulated_system::{AMPLE, QUIET_MS, SimulatedConsole, SimulatedSystem, plan_of_one_word};
 use std::alloc::Global;
 
 // A host that has verified nothing of the smallest tape, with a record that is begun so; or None where one of them
@@ -23,7 +23,7 @@ fn begun_with(alloc: Global, keeper: &mut FileKeep<Vec<u8>>) -> Option<HostCore>
 // Loads the smallest tape over a line with a new record, and answers how that stops and how many keys are sent.
 fn load_over(
     alloc: Global,
-    line: &mut SocketLine<Console>,
+    line: &mut SocketLine<SimulatedConsole>,
     keeper: &mut FileKeep<Vec<u8>>,
 ) -> Option<(Stop, u64)> {
     let core = begun_with(alloc, keeper)?;
@@ -32,14 +32,14 @@ fn load_over(
 }
 
 // The line to the console of a system, or None where there is no connection.
-fn line_to(system: &System<'_>) -> Option<SocketLine<Console>> {
+fn line_to(system: &SimulatedSystem<'_>) -> Option<SocketLine<SimulatedConsole>> {
     let mut network = system;
     SocketLine::connect(&mut network, "127.0.0.1:2323", QUIET_MS).ok()
 }
 
 // The same over a line to the console of a system.
 fn load_one_word(rt: &HostRuntime, keeper: &mut FileKeep<Vec<u8>>) -> Option<(Stop, u64)> {
-    let system = System::new(rt, AMPLE);
+    let system = SimulatedSystem::new(rt, AMPLE);
     let mut line = line_to(&system)?;
     load_over(rt.alloc(), &mut line, keeper)
 }

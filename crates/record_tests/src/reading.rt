@@ -5,7 +5,7 @@ use crate::record_steps::{
     held, is_left_so, is_row_so, is_taken_so, put, take,
 };
 use record_file::{RecordFault, RecordFile};
-use simulated_system::{AMPLE, Failing, Step, System, opened, plan_of_one_word};
+use simulated_system::{AMPLE, Failing, FileStep, SimulatedSystem, opened, plan_of_one_word};
 use std::fs;
 use std::fs::File;
 use std::io::ErrorKind;
@@ -16,7 +16,7 @@ use tape_image::Plan;
 const UNREAD: [Row; 16] = [
     (
         Before::Holds(OLD),
-        &[(Step::Look, 1, ErrorKind::PermissionDenied)],
+        &[(FileStep::Look, 1, ErrorKind::PermissionDenied)],
         Course::Unread(RecordFault::Read),
         1,
         &[],
@@ -25,47 +25,58 @@ const UNREAD: [Row; 16] = [
     // It is there after all, so it is looked at again.
     (
         Before::Holds(OLD),
-        &[(Step::Look, 1, ErrorKind::NotFound)],
+        &[(FileStep::Look, 1, ErrorKind::NotFound)],
         Course::LetGo,
         2,
-        &[Step::Look, Step::Open, Step::Hold, Step::Look],
+        &[
+            FileStep::Look,
+            FileStep::Open,
+            FileStep::Hold,
+            FileStep::Look,
+        ],
         Some(OLD),
     ),
     // It may be read alone.
     (
         Before::Holds(OLD),
-        &[(Step::Open, 1, ErrorKind::PermissionDenied)],
+        &[(FileStep::Open, 1, ErrorKind::PermissionDenied)],
         Course::Protected,
         2,
-        &[Step::Open, Step::Hold, Step::Look],
+        &[FileStep::Open, FileStep::Hold, FileStep::Look],
         Some(OLD),
     ),
     (
         Before::Holds(OLD),
         &[
-            (Step::Open, 1, ErrorKind::PermissionDenied),
-            (Step::Open, 2, ErrorKind::PermissionDenied),
+            (FileStep::Open, 1, ErrorKind::PermissionDenied),
+            (FileStep::Open, 2, ErrorKind::PermissionDenied),
         ],
         Course::Unread(RecordFault::Read),
         2,
-        &[Step::Open],
+        &[FileStep::Open],
         Some(OLD),
     ),
     // It went before it was opened, and came again.
     (
         Before::Holds(OLD),
         &[
-            (Step::Open, 1, ErrorKind::NotFound),
-            (Step::Open, 2, ErrorKind::NotFound),
+            (FileStep::Open, 1, ErrorKind::NotFound),
+            (FileStep::Open, 2, ErrorKind::NotFound),
         ],
         Course::LetGo,
         2,
-        &[Step::Open, Step::Look, Step::Open, Step::Hold, Step::Look],
+        &[
+            FileStep::Open,
+            FileStep::Look,
+            FileStep::Open,
+            FileStep::Hold,
+            FileStep::Look,
+        ],
         Some(OLD),
     ),
     (
         Before::Holds(OLD),
-        &[(Step::Hold, 1, ErrorKind::Other)],
+        &[(FileStep::Hold, 1, ErrorKind::Other)],
         Course::Unread(RecordFault::InUse),
         3,
         &[],
@@ -74,28 +85,33 @@ const UNREAD: [Row; 16] = [
     // Its name no longer leads to it, so the next one is opened.
     (
         Before::Holds(OLD),
-        &[(Step::Look, 2, ErrorKind::Other)],
+        &[(FileStep::Look, 2, ErrorKind::Other)],
         Course::LetGo,
         READ,
-        &[Step::Look, Step::Open, Step::Hold, Step::Look],
+        &[
+            FileStep::Look,
+            FileStep::Open,
+            FileStep::Hold,
+            FileStep::Look,
+        ],
         Some(OLD),
     ),
     // Somebody holds the next one.
     (
         Before::Holds(OLD),
         &[
-            (Step::Look, 2, ErrorKind::Other),
-            (Step::Hold, 2, ErrorKind::Other),
+            (FileStep::Look, 2, ErrorKind::Other),
+            (FileStep::Hold, 2, ErrorKind::Other),
         ],
         Course::Unread(RecordFault::InUse),
         READ,
-        &[Step::Look, Step::Open, Step::Hold],
+        &[FileStep::Look, FileStep::Open, FileStep::Hold],
         Some(OLD),
     ),
     // None can be made.
     (
         Before::Nothing,
-        &[(Step::Open, 1, ErrorKind::PermissionDenied)],
+        &[(FileStep::Open, 1, ErrorKind::PermissionDenied)],
         Course::Protected,
         2,
         &[],
@@ -103,16 +119,16 @@ const UNREAD: [Row; 16] = [
     ),
     (
         Before::Dangling,
-        &[(Step::Open, 2, ErrorKind::PermissionDenied)],
+        &[(FileStep::Open, 2, ErrorKind::PermissionDenied)],
         Course::Protected,
         2,
-        &[Step::Open],
+        &[FileStep::Open],
         None,
     ),
     // One was made, and somebody held it before.
     (
         Before::Nothing,
-        &[(Step::Hold, 1, ErrorKind::Other)],
+        &[(FileStep::Hold, 1, ErrorKind::Other)],
         Course::Unread(RecordFault::InUse),
         3,
         &[],
@@ -121,16 +137,16 @@ const UNREAD: [Row; 16] = [
     // Somebody made one in the meantime, which is gone again.
     (
         Before::Nothing,
-        &[(Step::Open, 1, ErrorKind::AlreadyExists)],
+        &[(FileStep::Open, 1, ErrorKind::AlreadyExists)],
         Course::LetGo,
         2,
         &[
-            Step::Look,
-            Step::Open,
-            Step::Hold,
-            Step::Look,
-            Step::Look,
-            Step::Remove,
+            FileStep::Look,
+            FileStep::Open,
+            FileStep::Hold,
+            FileStep::Look,
+            FileStep::Look,
+            FileStep::Remove,
         ],
         None,
     ),
@@ -155,10 +171,10 @@ const UNREAD: [Row; 16] = [
     // What was made and has lost its name by then stays.
     (
         Before::Nothing,
-        &[(Step::Look, 3, ErrorKind::Other)],
+        &[(FileStep::Look, 3, ErrorKind::Other)],
         Course::LetGo,
         READ,
-        &[Step::Look],
+        &[FileStep::Look],
         Some(""),
     ),
 ];
@@ -172,48 +188,48 @@ fn a_record_is_held_before_it_is_read(rt: HostRuntime) {
 }
 
 // All steps of reading, eight times: each time the name leads to another file by then.
-const EIGHT_TIMES: [Step; 28] = [
-    Step::Look,
-    Step::Open,
-    Step::Hold,
-    Step::Look,
-    Step::Look,
-    Step::Open,
-    Step::Hold,
-    Step::Look,
-    Step::Look,
-    Step::Open,
-    Step::Hold,
-    Step::Look,
-    Step::Look,
-    Step::Open,
-    Step::Hold,
-    Step::Look,
-    Step::Look,
-    Step::Open,
-    Step::Hold,
-    Step::Look,
-    Step::Look,
-    Step::Open,
-    Step::Hold,
-    Step::Look,
-    Step::Look,
-    Step::Open,
-    Step::Hold,
-    Step::Look,
+const EIGHT_TIMES: [FileStep; 28] = [
+    FileStep::Look,
+    FileStep::Open,
+    FileStep::Hold,
+    FileStep::Look,
+    FileStep::Look,
+    FileStep::Open,
+    FileStep::Hold,
+    FileStep::Look,
+    FileStep::Look,
+    FileStep::Open,
+    FileStep::Hold,
+    FileStep::Look,
+    FileStep::Look,
+    FileStep::Open,
+    FileStep::Hold,
+    FileStep::Look,
+    FileStep::Look,
+    FileStep::Open,
+    FileStep::Hold,
+    FileStep::Look,
+    FileStep::Look,
+    FileStep::Open,
+    FileStep::Hold,
+    FileStep::Look,
+    FileStep::Look,
+    FileStep::Open,
+    FileStep::Hold,
+    FileStep::Look,
 ];
 
 #[test]
 fn a_record_that_is_always_replaced_is_in_use(rt: HostRuntime) {
     let failing: Failing = &[
-        (Step::Look, 2, ErrorKind::Other),
-        (Step::Look, 4, ErrorKind::Other),
-        (Step::Look, 6, ErrorKind::Other),
-        (Step::Look, 8, ErrorKind::Other),
-        (Step::Look, 10, ErrorKind::Other),
-        (Step::Look, 12, ErrorKind::Other),
-        (Step::Look, 14, ErrorKind::Other),
-        (Step::Look, 16, ErrorKind::Other),
+        (FileStep::Look, 2, ErrorKind::Other),
+        (FileStep::Look, 4, ErrorKind::Other),
+        (FileStep::Look, 6, ErrorKind::Other),
+        (FileStep::Look, 8, ErrorKind::Other),
+        (FileStep::Look, 10, ErrorKind::Other),
+        (FileStep::Look, 12, ErrorKind::Other),
+        (FileStep::Look, 14, ErrorKind::Other),
+        (FileStep::Look, 16, ErrorKind::Other),
     ];
     let wanted = Course::Unread(RecordFault::InUse);
     let row: Row = (
@@ -241,7 +257,7 @@ fn is_in_use(rt: &HostRuntime, before: Before, name: &str) -> bool {
         && is_taken_so(rt, (RECORD, ".", Task::Begin), NO_FAULT, wanted, (3, &[]))
         && is_left_so(rt, before, Some(CURRENT));
     drop(file);
-    let system = System::new(rt, AMPLE);
+    let system = SimulatedSystem::new(rt, AMPLE);
     is_refused
         && take(&system, rt.alloc(), RECORD, Task::Begin) == Some(Course::Begun)
         && is_left_so(rt, before, Some(BEGUN))
@@ -258,7 +274,7 @@ fn a_record_that_somebody_holds_is_in_use(rt: HostRuntime) {
 // Whether the old file is held once it is read, and then the new one too.
 fn are_held(
     rt: &HostRuntime,
-    record: &mut RecordFile<'_, &System<'_>>,
+    record: &mut RecordFile<'_, &SimulatedSystem<'_>>,
     plan: &Plan,
     old: &File,
 ) -> Option<bool> {
@@ -274,7 +290,7 @@ fn are_held(
 fn is_held_to_the_end(rt: &HostRuntime) -> Option<bool> {
     let plan = plan_of_one_word(rt.alloc())?;
     let old = opened(rt, RECORD)?;
-    let system = System::new(rt, AMPLE);
+    let system = SimulatedSystem::new(rt, AMPLE);
     let mut record = RecordFile::new(&system, RECORD);
     let were_held = are_held(rt, &mut record, &plan, &old);
     record.close();

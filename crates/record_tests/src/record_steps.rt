@@ -1,7 +1,9 @@
 //! Records over a system that notes what is asked of it: what stands there, which steps fail, and what comes of it.
 
 use record_file::{RecordFault, RecordFile, Writable};
-use simulated_system::{AMPLE, Failing, Notes, Step, System, opened, plan_of_one_word, remove};
+use simulated_system::{
+    AMPLE, Failing, FileStep, SimulatedSystem, StepNotes, opened, plan_of_one_word, remove,
+};
 use std::alloc::Global;
 use std::fs::File;
 use std::os::unix::fs::symlink;
@@ -29,39 +31,39 @@ pub(crate) const BEGUN: &str = "LDAODT 2\n001000 011064";
 // The record is looked at, opened, held and looked at again before it is read. Then a new one is made beside
 // it and held, with the header and the word on the disk before it takes the old one's place; and then that,
 // too.
-const REPLACED: [Step; 14] = [
-    Step::Look,
-    Step::Open,
-    Step::Hold,
-    Step::Look,
-    Step::OpenFolder,
-    Step::OpenBeside,
-    Step::HoldBeside,
-    Step::Write,
-    Step::Write,
-    Step::Flush,
-    Step::SyncData,
-    Step::Look,
-    Step::Rename,
-    Step::SyncAll,
+const REPLACED: [FileStep; 14] = [
+    FileStep::Look,
+    FileStep::Open,
+    FileStep::Hold,
+    FileStep::Look,
+    FileStep::OpenFolder,
+    FileStep::OpenBeside,
+    FileStep::HoldBeside,
+    FileStep::Write,
+    FileStep::Write,
+    FileStep::Flush,
+    FileStep::SyncData,
+    FileStep::Look,
+    FileStep::Rename,
+    FileStep::SyncAll,
 ];
 
 /// How many of these steps come before the record is read.
 pub(crate) const READ: usize = 4;
 
 /// The record itself is written over, while its name still leads to it, and what it has more is cut off last.
-pub(crate) const IN_PLACE: &[Step] = &[
-    Step::Look,
-    Step::Write,
-    Step::Write,
-    Step::Flush,
-    Step::SyncData,
-    Step::Cut,
-    Step::SyncAll,
+pub(crate) const IN_PLACE: &[FileStep] = &[
+    FileStep::Look,
+    FileStep::Write,
+    FileStep::Write,
+    FileStep::Flush,
+    FileStep::SyncData,
+    FileStep::Cut,
+    FileStep::SyncAll,
 ];
 
 /// A record that was made goes, where its name still leads to it.
-pub(crate) const UNMADE: &[Step] = &[Step::Look, Step::Remove];
+pub(crate) const UNMADE: &[FileStep] = &[FileStep::Look, FileStep::Remove];
 
 /// What stands under the record's name beforehand.
 #[derive(Clone, Copy)]
@@ -113,14 +115,14 @@ pub(crate) type Row = (
     Failing,
     Course,
     usize,
-    &'static [Step],
+    &'static [FileStep],
     Option<&'static str>,
 );
 
 /// Reads a record, begins it anew with the smallest tape's word, and closes it; None where there is no memory for
 /// the tape.
 pub(crate) fn take<'x>(
-    system: &'x System<'x>,
+    system: &'x SimulatedSystem<'x>,
     alloc: Global,
     name: &'x str,
     task: Task,
@@ -134,7 +136,7 @@ pub(crate) fn take<'x>(
 
 // What comes of a record that is read, and begun anew.
 fn course_of(
-    record: &mut RecordFile<'_, &System<'_>>,
+    record: &mut RecordFile<'_, &SimulatedSystem<'_>>,
     alloc: Global,
     plan: &Plan,
     task: Task,
@@ -151,7 +153,7 @@ fn course_of(
 }
 
 // Whether just these steps were asked for, in this order: so many of a replacing, and then these.
-fn are_noted(notes: &Notes<'_>, count: usize, then: &[Step]) -> bool {
+fn are_noted(notes: &StepNotes<'_>, count: usize, then: &[FileStep]) -> bool {
     let (Ok(steps), Some(front)) = (notes.steps.try_borrow(), REPLACED.get(..count)) else {
         return false;
     };
@@ -165,10 +167,10 @@ pub(crate) fn is_taken_so(
     (name, folder, task): (&str, &str, Task),
     failing: Failing,
     wanted: Course,
-    (count, then): (usize, &[Step]),
+    (count, then): (usize, &[FileStep]),
 ) -> bool {
-    let notes = Notes::new(rt.alloc(), failing, folder);
-    let system = System::new(rt, AMPLE).noted(&notes);
+    let notes = StepNotes::new(rt.alloc(), failing, folder);
+    let system = SimulatedSystem::new(rt, AMPLE).noted(&notes);
     let course = take(&system, rt.alloc(), name, task);
     course == Some(wanted) && are_noted(&notes, count, then)
 }

@@ -4,7 +4,7 @@ use crate::record_steps::{
     BEGUN, BESIDE, Before, CURRENT, Course, IN_PLACE, NO_FAULT, OLD, OTHER, READ, RECORD, Row,
     Task, UNBEGUN, UNMADE, clear, held, holds, is_row_so, is_taken_so,
 };
-use simulated_system::{Failing, Step};
+use simulated_system::{Failing, FileStep};
 use std::io::ErrorKind;
 use std::os::unix::fs::symlink;
 use std::test::Fail;
@@ -16,65 +16,65 @@ const FOLDER: usize = 5;
 const RENAME: usize = 13;
 
 // The new record goes, which could not be renamed, and the old one is written in its place.
-const NOT_RENAMED: &[Step] = &[
-    Step::RemoveBeside,
-    Step::Look,
-    Step::Write,
-    Step::Write,
-    Step::Flush,
-    Step::SyncData,
-    Step::Cut,
-    Step::SyncAll,
+const NOT_RENAMED: &[FileStep] = &[
+    FileStep::RemoveBeside,
+    FileStep::Look,
+    FileStep::Write,
+    FileStep::Write,
+    FileStep::Flush,
+    FileStep::SyncData,
+    FileStep::Cut,
+    FileStep::SyncAll,
 ];
 
 // The same of a record that was made: that it was is on the disk first.
-const MADE_NOT_RENAMED: &[Step] = &[
-    Step::RemoveBeside,
-    Step::OpenFolder,
-    Step::SyncAll,
-    Step::Look,
-    Step::Write,
-    Step::Write,
-    Step::Flush,
-    Step::SyncData,
-    Step::Cut,
-    Step::SyncAll,
+const MADE_NOT_RENAMED: &[FileStep] = &[
+    FileStep::RemoveBeside,
+    FileStep::OpenFolder,
+    FileStep::SyncAll,
+    FileStep::Look,
+    FileStep::Write,
+    FileStep::Write,
+    FileStep::Flush,
+    FileStep::SyncData,
+    FileStep::Cut,
+    FileStep::SyncAll,
 ];
 
 // A record that was made is written where it is, once it is on the disk that it was made.
-const MADE_IN_PLACE: &[Step] = &[
-    Step::OpenFolder,
-    Step::SyncAll,
-    Step::Look,
-    Step::Write,
-    Step::Write,
-    Step::Flush,
-    Step::SyncData,
-    Step::Cut,
-    Step::SyncAll,
+const MADE_IN_PLACE: &[FileStep] = &[
+    FileStep::OpenFolder,
+    FileStep::SyncAll,
+    FileStep::Look,
+    FileStep::Write,
+    FileStep::Write,
+    FileStep::Flush,
+    FileStep::SyncData,
+    FileStep::Cut,
+    FileStep::SyncAll,
 ];
 
 // The same of one that was made behind a link, from the second opening on.
-const BEHIND_LINK: &[Step] = &[
-    Step::Open,
-    Step::Hold,
-    Step::Look,
-    Step::OpenFolder,
-    Step::SyncAll,
-    Step::Look,
-    Step::Write,
-    Step::Write,
-    Step::Flush,
-    Step::SyncData,
-    Step::Cut,
-    Step::SyncAll,
+const BEHIND_LINK: &[FileStep] = &[
+    FileStep::Open,
+    FileStep::Hold,
+    FileStep::Look,
+    FileStep::OpenFolder,
+    FileStep::SyncAll,
+    FileStep::Look,
+    FileStep::Write,
+    FileStep::Write,
+    FileStep::Flush,
+    FileStep::SyncData,
+    FileStep::Cut,
+    FileStep::SyncAll,
 ];
 
 // The new record goes.
-const GIVEN_UP: &[Step] = &[Step::RemoveBeside];
+const GIVEN_UP: &[FileStep] = &[FileStep::RemoveBeside];
 
 // The new record goes, and the one that was made.
-const BOTH_GO: &[Step] = &[Step::RemoveBeside, Step::Look, Step::Remove];
+const BOTH_GO: &[FileStep] = &[FileStep::RemoveBeside, FileStep::Look, FileStep::Remove];
 
 // A record that is there, or not, and nothing fails.
 const FORMS: [Row; 8] = [
@@ -142,7 +142,7 @@ fn a_record_is_on_the_disk_before_it_replaces_the_old_one(rt: HostRuntime) {
 const REPLACING: [Row; 17] = [
     (
         Before::Holds(CURRENT),
-        &[(Step::OpenFolder, 1, ErrorKind::PermissionDenied)],
+        &[(FileStep::OpenFolder, 1, ErrorKind::PermissionDenied)],
         Course::Begun,
         FOLDER,
         IN_PLACE,
@@ -150,7 +150,7 @@ const REPLACING: [Row; 17] = [
     ),
     (
         Before::Holds(OLD),
-        &[(Step::OpenFolder, 1, ErrorKind::PermissionDenied)],
+        &[(FileStep::OpenFolder, 1, ErrorKind::PermissionDenied)],
         UNBEGUN,
         FOLDER,
         &[],
@@ -158,7 +158,7 @@ const REPLACING: [Row; 17] = [
     ),
     (
         Before::Holds(OLD),
-        &[(Step::OpenBeside, 1, ErrorKind::PermissionDenied)],
+        &[(FileStep::OpenBeside, 1, ErrorKind::PermissionDenied)],
         UNBEGUN,
         6,
         &[],
@@ -166,7 +166,7 @@ const REPLACING: [Row; 17] = [
     ),
     (
         Before::Holds(OLD),
-        &[(Step::OpenBeside, 1, ErrorKind::StorageFull)],
+        &[(FileStep::OpenBeside, 1, ErrorKind::StorageFull)],
         UNBEGUN,
         6,
         &[],
@@ -174,7 +174,7 @@ const REPLACING: [Row; 17] = [
     ),
     (
         Before::Holds(OLD),
-        &[(Step::Write, 1, ErrorKind::Other)],
+        &[(FileStep::Write, 1, ErrorKind::Other)],
         UNBEGUN,
         8,
         GIVEN_UP,
@@ -182,7 +182,7 @@ const REPLACING: [Row; 17] = [
     ),
     (
         Before::Holds(OLD),
-        &[(Step::Write, 2, ErrorKind::Other)],
+        &[(FileStep::Write, 2, ErrorKind::Other)],
         UNBEGUN,
         9,
         GIVEN_UP,
@@ -190,7 +190,7 @@ const REPLACING: [Row; 17] = [
     ),
     (
         Before::Holds(OLD),
-        &[(Step::Flush, 1, ErrorKind::Other)],
+        &[(FileStep::Flush, 1, ErrorKind::Other)],
         UNBEGUN,
         10,
         GIVEN_UP,
@@ -198,7 +198,7 @@ const REPLACING: [Row; 17] = [
     ),
     (
         Before::Holds(OLD),
-        &[(Step::SyncData, 1, ErrorKind::Other)],
+        &[(FileStep::SyncData, 1, ErrorKind::Other)],
         UNBEGUN,
         11,
         GIVEN_UP,
@@ -206,7 +206,7 @@ const REPLACING: [Row; 17] = [
     ),
     (
         Before::Holds(OLD),
-        &[(Step::SyncData, 1, ErrorKind::InvalidInput)],
+        &[(FileStep::SyncData, 1, ErrorKind::InvalidInput)],
         Course::Begun,
         14,
         &[],
@@ -215,7 +215,7 @@ const REPLACING: [Row; 17] = [
     // The name no longer leads to the record that is held.
     (
         Before::Holds(OLD),
-        &[(Step::Look, 3, ErrorKind::Other)],
+        &[(FileStep::Look, 3, ErrorKind::Other)],
         UNBEGUN,
         12,
         GIVEN_UP,
@@ -223,7 +223,7 @@ const REPLACING: [Row; 17] = [
     ),
     (
         Before::Holds(CURRENT),
-        &[(Step::Rename, 1, ErrorKind::Other)],
+        &[(FileStep::Rename, 1, ErrorKind::Other)],
         Course::Begun,
         RENAME,
         NOT_RENAMED,
@@ -231,7 +231,7 @@ const REPLACING: [Row; 17] = [
     ),
     (
         Before::Holds(OLD),
-        &[(Step::Rename, 1, ErrorKind::Other)],
+        &[(FileStep::Rename, 1, ErrorKind::Other)],
         UNBEGUN,
         RENAME,
         GIVEN_UP,
@@ -240,28 +240,33 @@ const REPLACING: [Row; 17] = [
     (
         Before::Holds(CURRENT),
         &[
-            (Step::Rename, 1, ErrorKind::Other),
-            (Step::Write, 3, ErrorKind::Other),
+            (FileStep::Rename, 1, ErrorKind::Other),
+            (FileStep::Write, 3, ErrorKind::Other),
         ],
         UNBEGUN,
         RENAME,
-        &[Step::RemoveBeside, Step::Look, Step::Write],
+        &[FileStep::RemoveBeside, FileStep::Look, FileStep::Write],
         Some(CURRENT),
     ),
     (
         Before::Holds(CURRENT),
         &[
-            (Step::Rename, 1, ErrorKind::Other),
-            (Step::Write, 4, ErrorKind::Other),
+            (FileStep::Rename, 1, ErrorKind::Other),
+            (FileStep::Write, 4, ErrorKind::Other),
         ],
         UNBEGUN,
         RENAME,
-        &[Step::RemoveBeside, Step::Look, Step::Write, Step::Write],
+        &[
+            FileStep::RemoveBeside,
+            FileStep::Look,
+            FileStep::Write,
+            FileStep::Write,
+        ],
         Some(CURRENT),
     ),
     (
         Before::Holds(OLD),
-        &[(Step::SyncAll, 1, ErrorKind::Other)],
+        &[(FileStep::SyncAll, 1, ErrorKind::Other)],
         UNBEGUN,
         14,
         &[],
@@ -269,7 +274,7 @@ const REPLACING: [Row; 17] = [
     ),
     (
         Before::Holds(OLD),
-        &[(Step::SyncAll, 1, ErrorKind::InvalidInput)],
+        &[(FileStep::SyncAll, 1, ErrorKind::InvalidInput)],
         Course::Begun,
         14,
         &[],
@@ -278,16 +283,16 @@ const REPLACING: [Row; 17] = [
     // A second name is not left behind with the old record.
     (
         Before::Named(CURRENT),
-        &[(Step::Cut, 1, ErrorKind::Other)],
+        &[(FileStep::Cut, 1, ErrorKind::Other)],
         UNBEGUN,
         READ,
         &[
-            Step::Look,
-            Step::Write,
-            Step::Write,
-            Step::Flush,
-            Step::SyncData,
-            Step::Cut,
+            FileStep::Look,
+            FileStep::Write,
+            FileStep::Write,
+            FileStep::Flush,
+            FileStep::SyncData,
+            FileStep::Cut,
         ],
         Some(CURRENT),
     ),
@@ -305,7 +310,7 @@ fn each_step_of_a_replacing_fails(rt: HostRuntime) {
 const MADE: [Row; 13] = [
     (
         Before::Nothing,
-        &[(Step::OpenFolder, 1, ErrorKind::Other)],
+        &[(FileStep::OpenFolder, 1, ErrorKind::Other)],
         Course::Begun,
         FOLDER,
         MADE_IN_PLACE,
@@ -314,42 +319,47 @@ const MADE: [Row; 13] = [
     (
         Before::Nothing,
         &[
-            (Step::OpenFolder, 1, ErrorKind::Other),
-            (Step::OpenFolder, 2, ErrorKind::Other),
+            (FileStep::OpenFolder, 1, ErrorKind::Other),
+            (FileStep::OpenFolder, 2, ErrorKind::Other),
         ],
         UNBEGUN,
         FOLDER,
-        &[Step::OpenFolder, Step::Look, Step::Remove],
+        &[FileStep::OpenFolder, FileStep::Look, FileStep::Remove],
         None,
     ),
     (
         Before::Nothing,
         &[
-            (Step::OpenFolder, 1, ErrorKind::Other),
-            (Step::SyncAll, 1, ErrorKind::Other),
+            (FileStep::OpenFolder, 1, ErrorKind::Other),
+            (FileStep::SyncAll, 1, ErrorKind::Other),
         ],
         UNBEGUN,
         FOLDER,
-        &[Step::OpenFolder, Step::SyncAll, Step::Look, Step::Remove],
+        &[
+            FileStep::OpenFolder,
+            FileStep::SyncAll,
+            FileStep::Look,
+            FileStep::Remove,
+        ],
         None,
     ),
     (
         Before::Nothing,
         &[
-            (Step::OpenFolder, 1, ErrorKind::Other),
-            (Step::Cut, 1, ErrorKind::Other),
+            (FileStep::OpenFolder, 1, ErrorKind::Other),
+            (FileStep::Cut, 1, ErrorKind::Other),
         ],
         UNBEGUN,
         FOLDER,
         &[
-            Step::OpenFolder,
-            Step::SyncAll,
-            Step::Look,
-            Step::Write,
-            Step::Write,
-            Step::Flush,
-            Step::SyncData,
-            Step::Cut,
+            FileStep::OpenFolder,
+            FileStep::SyncAll,
+            FileStep::Look,
+            FileStep::Write,
+            FileStep::Write,
+            FileStep::Flush,
+            FileStep::SyncData,
+            FileStep::Cut,
         ],
         Some(BEGUN),
     ),
@@ -357,17 +367,17 @@ const MADE: [Row; 13] = [
     (
         Before::Nothing,
         &[
-            (Step::OpenFolder, 1, ErrorKind::Other),
-            (Step::Look, 3, ErrorKind::NotFound),
+            (FileStep::OpenFolder, 1, ErrorKind::Other),
+            (FileStep::Look, 3, ErrorKind::NotFound),
         ],
         UNBEGUN,
         FOLDER,
         &[
-            Step::OpenFolder,
-            Step::SyncAll,
-            Step::Look,
-            Step::Look,
-            Step::Remove,
+            FileStep::OpenFolder,
+            FileStep::SyncAll,
+            FileStep::Look,
+            FileStep::Look,
+            FileStep::Remove,
         ],
         None,
     ),
@@ -375,17 +385,22 @@ const MADE: [Row; 13] = [
     (
         Before::Nothing,
         &[
-            (Step::OpenFolder, 1, ErrorKind::Other),
-            (Step::Write, 1, ErrorKind::Other),
+            (FileStep::OpenFolder, 1, ErrorKind::Other),
+            (FileStep::Write, 1, ErrorKind::Other),
         ],
         UNBEGUN,
         FOLDER,
-        &[Step::OpenFolder, Step::SyncAll, Step::Look, Step::Write],
+        &[
+            FileStep::OpenFolder,
+            FileStep::SyncAll,
+            FileStep::Look,
+            FileStep::Write,
+        ],
         Some(""),
     ),
     (
         Before::Nothing,
-        &[(Step::OpenBeside, 1, ErrorKind::StorageFull)],
+        &[(FileStep::OpenBeside, 1, ErrorKind::StorageFull)],
         UNBEGUN,
         6,
         UNMADE,
@@ -393,7 +408,7 @@ const MADE: [Row; 13] = [
     ),
     (
         Before::Nothing,
-        &[(Step::Write, 1, ErrorKind::Other)],
+        &[(FileStep::Write, 1, ErrorKind::Other)],
         UNBEGUN,
         8,
         BOTH_GO,
@@ -401,7 +416,7 @@ const MADE: [Row; 13] = [
     ),
     (
         Before::Nothing,
-        &[(Step::SyncData, 1, ErrorKind::Other)],
+        &[(FileStep::SyncData, 1, ErrorKind::Other)],
         UNBEGUN,
         11,
         BOTH_GO,
@@ -409,7 +424,7 @@ const MADE: [Row; 13] = [
     ),
     (
         Before::Nothing,
-        &[(Step::Look, 3, ErrorKind::Other)],
+        &[(FileStep::Look, 3, ErrorKind::Other)],
         UNBEGUN,
         12,
         BOTH_GO,
@@ -417,7 +432,7 @@ const MADE: [Row; 13] = [
     ),
     (
         Before::Nothing,
-        &[(Step::Rename, 1, ErrorKind::Other)],
+        &[(FileStep::Rename, 1, ErrorKind::Other)],
         Course::Begun,
         RENAME,
         MADE_NOT_RENAMED,
@@ -425,7 +440,7 @@ const MADE: [Row; 13] = [
     ),
     (
         Before::Nothing,
-        &[(Step::SyncAll, 1, ErrorKind::Other)],
+        &[(FileStep::SyncAll, 1, ErrorKind::Other)],
         UNBEGUN,
         14,
         &[],
@@ -434,8 +449,8 @@ const MADE: [Row; 13] = [
     (
         Before::Nothing,
         &[
-            (Step::Write, 1, ErrorKind::Other),
-            (Step::Remove, 1, ErrorKind::Other),
+            (FileStep::Write, 1, ErrorKind::Other),
+            (FileStep::Remove, 1, ErrorKind::Other),
         ],
         UNBEGUN,
         8,
@@ -453,36 +468,36 @@ fn a_record_that_was_made_in_vain_goes(rt: HostRuntime) {
 }
 
 // A new record that a load left which was killed: it is found, held, and goes.
-const LEFT_BEHIND: &[Step] = &[
-    Step::OpenBeside,
-    Step::HoldBeside,
-    Step::RemoveBeside,
-    Step::OpenBeside,
-    Step::HoldBeside,
-    Step::Write,
-    Step::Write,
-    Step::Flush,
-    Step::SyncData,
-    Step::Look,
-    Step::Rename,
-    Step::SyncAll,
+const LEFT_BEHIND: &[FileStep] = &[
+    FileStep::OpenBeside,
+    FileStep::HoldBeside,
+    FileStep::RemoveBeside,
+    FileStep::OpenBeside,
+    FileStep::HoldBeside,
+    FileStep::Write,
+    FileStep::Write,
+    FileStep::Flush,
+    FileStep::SyncData,
+    FileStep::Look,
+    FileStep::Rename,
+    FileStep::SyncAll,
 ];
 
 // One that somebody holds: it is found, and the record is written in place.
-const HELD_BESIDE: &[Step] = &[
-    Step::OpenBeside,
-    Step::HoldBeside,
-    Step::Look,
-    Step::Write,
-    Step::Write,
-    Step::Flush,
-    Step::SyncData,
-    Step::Cut,
-    Step::SyncAll,
+const HELD_BESIDE: &[FileStep] = &[
+    FileStep::OpenBeside,
+    FileStep::HoldBeside,
+    FileStep::Look,
+    FileStep::Write,
+    FileStep::Write,
+    FileStep::Flush,
+    FileStep::SyncData,
+    FileStep::Cut,
+    FileStep::SyncAll,
 ];
 
 // Whether a record is begun so where a file stands beside it, which then holds this.
-fn is_begun_beside(rt: &HostRuntime, then: &[Step], left: Option<&str>) -> bool {
+fn is_begun_beside(rt: &HostRuntime, then: &[FileStep], left: Option<&str>) -> bool {
     let done = is_taken_so(
         rt,
         (RECORD, ".", Task::Begin),
@@ -532,7 +547,7 @@ fn a_link_beside_the_record_is_left_alone(rt: HostRuntime) -> Result<(), Fail> {
 fn a_new_record_that_somebody_holds_is_left_alone(rt: HostRuntime) -> Result<(), Fail> {
     clear(&rt);
     fs::write(&rt, RECORD, CURRENT)?;
-    let failing: Failing = &[(Step::HoldBeside, 1, ErrorKind::Other)];
+    let failing: Failing = &[(FileStep::HoldBeside, 1, ErrorKind::Other)];
     let place = (RECORD, ".", Task::Begin);
     assert!(rt; is_taken_so(&rt, place, failing, Course::Begun, (7, IN_PLACE)));
     assert!(rt; holds(&rt, RECORD, Some(BEGUN)));
@@ -543,16 +558,16 @@ fn a_new_record_that_somebody_holds_is_left_alone(rt: HostRuntime) -> Result<(),
 // A device, which is there already, is not held and has no length.
 const DEVICE: &str = "/dev/null";
 
-const ON_DEVICE: &[Step] = &[
-    Step::Look,
-    Step::Write,
-    Step::Write,
-    Step::Flush,
-    Step::SyncData,
+const ON_DEVICE: &[FileStep] = &[
+    FileStep::Look,
+    FileStep::Write,
+    FileStep::Write,
+    FileStep::Flush,
+    FileStep::SyncData,
 ];
 
 // Names of records that are not there yet, or are devices, the folder of each, and what is asked of the system.
-const NAMES: [(&str, &str, usize, &[Step]); 5] = [
+const NAMES: [(&str, &str, usize, &[FileStep]); 5] = [
     ("d.record", ".", 14, &[]),
     ("./d.record", ".", 14, &[]),
     ("d.folder/d.record", "d.folder", 14, &[]),
@@ -561,7 +576,7 @@ const NAMES: [(&str, &str, usize, &[Step]); 5] = [
 ];
 
 // Whether a record of this name is begun in its folder with these steps. It is removed, where it is no device.
-fn is_begun_in(rt: &HostRuntime, row: &(&str, &str, usize, &[Step])) -> bool {
+fn is_begun_in(rt: &HostRuntime, row: &(&str, &str, usize, &[FileStep])) -> bool {
     let (name, folder, count, then) = *row;
     let place = (name, folder, Task::Begin);
     let is_so = is_taken_so(rt, place, NO_FAULT, Course::Begun, (count, then));

@@ -2,7 +2,7 @@
 //! system gives no file a second name, so that the tape is renamed.
 
 use crate::record_steps::holds;
-use simulated_system::{AMPLE, Failing, Notes, Step, System, remove};
+use simulated_system::{AMPLE, Failing, FileStep, SimulatedSystem, StepNotes, remove};
 use std::fs;
 use std::io::ErrorKind;
 use tape_shelf::{NewFile, Shelf, ShelfFault};
@@ -25,25 +25,25 @@ const UNCUT: &str = "a tape\0\0\0\0";
 
 // The file is made, held and filled, its name is on the disk, too, and it is opened once more; the tape is on
 // the disk before it gets its name, and then that is, too.
-const WHOLE: [Step; 14] = [
-    Step::OpenFolder,
-    Step::OpenBeside,
-    Step::HoldBeside,
-    Step::Write,
-    Step::Flush,
-    Step::SyncAll,
-    Step::SyncAll,
-    Step::OpenBeside,
-    Step::Write,
-    Step::Flush,
-    Step::Cut,
-    Step::SyncAll,
-    Step::Rename,
-    Step::SyncAll,
+const WHOLE: [FileStep; 14] = [
+    FileStep::OpenFolder,
+    FileStep::OpenBeside,
+    FileStep::HoldBeside,
+    FileStep::Write,
+    FileStep::Flush,
+    FileStep::SyncAll,
+    FileStep::SyncAll,
+    FileStep::OpenBeside,
+    FileStep::Write,
+    FileStep::Flush,
+    FileStep::Cut,
+    FileStep::SyncAll,
+    FileStep::Rename,
+    FileStep::SyncAll,
 ];
 
 // The file that was made goes.
-const GIVEN_UP: &[Step] = &[Step::RemoveBeside];
+const GIVEN_UP: &[FileStep] = &[FileStep::RemoveBeside];
 
 // What somebody else does once there is room.
 #[derive(Clone, Copy)]
@@ -66,7 +66,7 @@ type Row = (
     Meanwhile,
     Result<(), ShelfFault>,
     usize,
-    &'static [Step],
+    &'static [FileStep],
     Option<&'static str>,
     Option<&'static str>,
 );
@@ -83,7 +83,7 @@ const ROWS: [Row; 17] = [
     ),
     // Nothing is made where the folder can't be opened; and what somebody else holds is left.
     (
-        &[(Step::OpenFolder, 1, ErrorKind::PermissionDenied)],
+        &[(FileStep::OpenFolder, 1, ErrorKind::PermissionDenied)],
         Meanwhile::Nothing,
         Err(ShelfFault::Write),
         1,
@@ -92,7 +92,7 @@ const ROWS: [Row; 17] = [
         None,
     ),
     (
-        &[(Step::HoldBeside, 1, ErrorKind::Other)],
+        &[(FileStep::HoldBeside, 1, ErrorKind::Other)],
         Meanwhile::Nothing,
         Err(ShelfFault::Write),
         3,
@@ -102,7 +102,7 @@ const ROWS: [Row; 17] = [
     ),
     // A disk on which there is no room is told before anything is to be put there.
     (
-        &[(Step::Write, 1, ErrorKind::StorageFull)],
+        &[(FileStep::Write, 1, ErrorKind::StorageFull)],
         Meanwhile::Nothing,
         Err(ShelfFault::Write),
         4,
@@ -111,7 +111,7 @@ const ROWS: [Row; 17] = [
         None,
     ),
     (
-        &[(Step::Flush, 1, ErrorKind::Other)],
+        &[(FileStep::Flush, 1, ErrorKind::Other)],
         Meanwhile::Nothing,
         Err(ShelfFault::Write),
         5,
@@ -120,7 +120,7 @@ const ROWS: [Row; 17] = [
         None,
     ),
     (
-        &[(Step::SyncAll, 1, ErrorKind::StorageFull)],
+        &[(FileStep::SyncAll, 1, ErrorKind::StorageFull)],
         Meanwhile::Nothing,
         Err(ShelfFault::Write),
         6,
@@ -129,7 +129,7 @@ const ROWS: [Row; 17] = [
         None,
     ),
     (
-        &[(Step::SyncAll, 2, ErrorKind::Other)],
+        &[(FileStep::SyncAll, 2, ErrorKind::Other)],
         Meanwhile::Nothing,
         Err(ShelfFault::Write),
         7,
@@ -138,7 +138,7 @@ const ROWS: [Row; 17] = [
         None,
     ),
     (
-        &[(Step::OpenBeside, 2, ErrorKind::Other)],
+        &[(FileStep::OpenBeside, 2, ErrorKind::Other)],
         Meanwhile::Nothing,
         Err(ShelfFault::Write),
         8,
@@ -147,7 +147,7 @@ const ROWS: [Row; 17] = [
         None,
     ),
     (
-        &[(Step::Write, 2, ErrorKind::StorageFull)],
+        &[(FileStep::Write, 2, ErrorKind::StorageFull)],
         Meanwhile::Nothing,
         Err(ShelfFault::Write),
         9,
@@ -156,7 +156,7 @@ const ROWS: [Row; 17] = [
         None,
     ),
     (
-        &[(Step::Flush, 2, ErrorKind::Other)],
+        &[(FileStep::Flush, 2, ErrorKind::Other)],
         Meanwhile::Nothing,
         Err(ShelfFault::Write),
         10,
@@ -166,7 +166,7 @@ const ROWS: [Row; 17] = [
     ),
     // Once it was written it stays, whatever comes. Bytes that only took room are no part of a tape.
     (
-        &[(Step::Cut, 1, ErrorKind::Other)],
+        &[(FileStep::Cut, 1, ErrorKind::Other)],
         Meanwhile::Nothing,
         Err(ShelfFault::Write),
         11,
@@ -176,7 +176,7 @@ const ROWS: [Row; 17] = [
     ),
     // A tape that is not on the disk gets no name; one with no disk behind it does.
     (
-        &[(Step::SyncAll, 3, ErrorKind::Other)],
+        &[(FileStep::SyncAll, 3, ErrorKind::Other)],
         Meanwhile::Nothing,
         Err(ShelfFault::Write),
         12,
@@ -186,8 +186,8 @@ const ROWS: [Row; 17] = [
     ),
     (
         &[
-            (Step::SyncAll, 1, ErrorKind::InvalidInput),
-            (Step::SyncAll, 3, ErrorKind::InvalidInput),
+            (FileStep::SyncAll, 1, ErrorKind::InvalidInput),
+            (FileStep::SyncAll, 3, ErrorKind::InvalidInput),
         ],
         Meanwhile::Nothing,
         Ok(()),
@@ -197,7 +197,7 @@ const ROWS: [Row; 17] = [
         None,
     ),
     (
-        &[(Step::Rename, 1, ErrorKind::PermissionDenied)],
+        &[(FileStep::Rename, 1, ErrorKind::PermissionDenied)],
         Meanwhile::Nothing,
         Err(ShelfFault::Write),
         13,
@@ -207,11 +207,11 @@ const ROWS: [Row; 17] = [
     ),
     // A name that is not on the disk goes again.
     (
-        &[(Step::SyncAll, 4, ErrorKind::Other)],
+        &[(FileStep::SyncAll, 4, ErrorKind::Other)],
         Meanwhile::Nothing,
         Err(ShelfFault::Write),
         14,
-        &[Step::Rename],
+        &[FileStep::Rename],
         None,
         Some(TEXT),
     ),
@@ -251,7 +251,7 @@ fn meddle(rt: &HostRuntime, meanwhile: Meanwhile) {
 // Makes room for a tape and puts it there.
 fn put<'x>(
     rt: &HostRuntime,
-    system: &'x System<'x>,
+    system: &'x SimulatedSystem<'x>,
     meanwhile: Meanwhile,
 ) -> Result<(), ShelfFault> {
     let mut file = NewFile::new(system, SAVED);
@@ -268,7 +268,7 @@ fn put<'x>(
 }
 
 // Whether just these steps were asked for, in this order: so many of a whole save, and then these.
-fn are_noted(notes: &Notes<'_>, count: usize, then: &[Step]) -> bool {
+fn are_noted(notes: &StepNotes<'_>, count: usize, then: &[FileStep]) -> bool {
     let (Ok(steps), Some(front)) = (notes.steps.try_borrow(), WHOLE.get(..count)) else {
         return false;
     };
@@ -281,10 +281,10 @@ fn is_put_so(
     failing: Failing,
     meanwhile: Meanwhile,
     wanted: Result<(), ShelfFault>,
-    (count, then): (usize, &[Step]),
+    (count, then): (usize, &[FileStep]),
 ) -> bool {
-    let notes = Notes::new(rt.alloc(), failing, ".");
-    let system = System::new(rt, AMPLE).noted(&notes);
+    let notes = StepNotes::new(rt.alloc(), failing, ".");
+    let system = SimulatedSystem::new(rt, AMPLE).noted(&notes);
     put(rt, &system, meanwhile) == wanted && are_noted(&notes, count, then)
 }
 

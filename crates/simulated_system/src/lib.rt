@@ -1,10 +1,10 @@
 //! What tests have in place of a system, of its files and devices, and of a machine.
 //!
-//! A `System` has real files and a simulated console, behind one address and at one device; what is asked of its files
-//! can be noted, and steps of that can be made to fail. A `ToldDisk` has real files and tells what it was asked: it is
-//! the witness that what `record_file` and `tape_shelf` promise of a disk that tells can be met. A broken input or
-//! output fails once and would then go on. Beside them stand the tapes that the tests load. The tests of records, of
-//! loads and of commands use it; the program does not.
+//! A `SimulatedSystem` has real files and a simulated console, behind one address and at one device; what is asked of
+//! its files can be noted, and steps of that can be made to fail. A `ToldDisk` has real files and tells what it was
+//! asked: it is the witness that what `record_file` and `tape_shelf` promise of a disk that tells can be met. A broken
+//! input or output fails once and would then go on. Beside them stand the tapes that the tests load. The tests of
+//! records, of loads and of commands use it; the program does not.
 #![tactic(auto)]
 
 mod failing_devices;
@@ -21,8 +21,8 @@ mod told_step;
 pub use failing_devices::{BrokenInput, BrokenOutput, NOWHERE, UnflushedOutput};
 pub use files::{opened, remove};
 pub use line_request::LineRequest;
-pub use notes::{Failing, Notes, Step};
-pub use system::{AMPLE, Console, DEVICE, QUIET_MS, Setting, System};
+pub use notes::{Failing, FileStep, StepNotes};
+pub use system::{AMPLE, DEVICE, QUIET_MS, SimulatedConsole, SimulatedSystem, SystemSetting};
 pub use tapes::{
     NOTHING, ONE_WORD, ONE_WORD_DIALOGUE, ONE_WORD_TEXT, OVERLAP, PADDED, WRONG_SUM,
     plan_of_one_word,

@@ -6,7 +6,7 @@ use std::io::ErrorKind;
 
 /// What is asked of the files.
 #[derive(Clone, Copy, PartialEq, Eq)]
-pub enum Step {
+pub enum FileStep {
     /// It is looked at which file a name leads to.
     Look,
 
@@ -41,12 +41,12 @@ pub enum Step {
 }
 
 /// The steps that fail: which, at which time from 1, and how. To hold a file fails in one way alone.
-pub type Failing = &'static [(Step, usize, ErrorKind)];
+pub type Failing = &'static [(FileStep, usize, ErrorKind)];
 
 /// The steps that were asked for, and those that fail.
 #[derive(Drop)]
-pub struct Notes<'n> {
-    pub steps: RefCell<Vec<Step>>,
+pub struct StepNotes<'n> {
+    pub steps: RefCell<Vec<FileStep>>,
     failing: Failing,
 
     /// The name of the record's folder.
@@ -59,18 +59,18 @@ fn is_beside(path: &str) -> bool {
 }
 
 /// What it is to remove a file of this name.
-pub(crate) fn removing(path: &str) -> Step {
+pub(crate) fn removing(path: &str) -> FileStep {
     if is_beside(path) {
-        Step::RemoveBeside
+        FileStep::RemoveBeside
     } else {
-        Step::Remove
+        FileStep::Remove
     }
 }
 
-impl<'n> Notes<'n> {
+impl<'n> StepNotes<'n> {
     /// Nothing was asked yet; these steps are to fail.
-    pub fn new(alloc: Global, failing: Failing, folder: &'n str) -> Notes<'n> {
-        Notes {
+    pub fn new(alloc: Global, failing: Failing, folder: &'n str) -> StepNotes<'n> {
+        StepNotes {
             steps: RefCell::new(Vec::new(alloc)),
             failing,
             folder,
@@ -78,18 +78,18 @@ impl<'n> Notes<'n> {
     }
 
     // What opening a file of this name is.
-    fn opening(&self, path: &str) -> Step {
+    fn opening(&self, path: &str) -> FileStep {
         if path == self.folder {
-            Step::OpenFolder
+            FileStep::OpenFolder
         } else if is_beside(path) {
-            Step::OpenBeside
+            FileStep::OpenBeside
         } else {
-            Step::Open
+            FileStep::Open
         }
     }
 
     // How often a step was asked for.
-    fn count(&self, step: Step) -> usize {
+    fn count(&self, step: FileStep) -> usize {
         match self.steps.try_borrow() {
             Ok(steps) => steps.iter().filter(|noted| **noted == step).count(),
             Err(_) => 0,
@@ -97,7 +97,7 @@ impl<'n> Notes<'n> {
     }
 
     // Takes note of a step, which may be one that fails.
-    fn take(&self, step: Step) -> io::Result<()> {
+    fn take(&self, step: FileStep) -> io::Result<()> {
         if let Ok(mut steps) = self.steps.try_borrow_mut() {
             steps.push(step)?;
         }
@@ -112,7 +112,7 @@ impl<'n> Notes<'n> {
 }
 
 /// Takes note of a step where there are notes.
-pub(crate) fn note(notes: Option<&Notes<'_>>, step: Step) -> io::Result<()> {
+pub(crate) fn note(notes: Option<&StepNotes<'_>>, step: FileStep) -> io::Result<()> {
     match notes {
         Some(notes) => notes.take(step),
         None => Ok(()),
@@ -120,7 +120,7 @@ pub(crate) fn note(notes: Option<&Notes<'_>>, step: Step) -> io::Result<()> {
 }
 
 /// Takes note that a file of this name is opened, where there are notes.
-pub(crate) fn note_opening(notes: Option<&Notes<'_>>, path: &str) -> io::Result<()> {
+pub(crate) fn note_opening(notes: Option<&StepNotes<'_>>, path: &str) -> io::Result<()> {
     match notes {
         Some(notes) => notes.take(notes.opening(path)),
         None => Ok(()),
@@ -128,10 +128,10 @@ pub(crate) fn note_opening(notes: Option<&Notes<'_>>, path: &str) -> io::Result<
 }
 
 /// What it is to hold a file of this name.
-pub(crate) fn holding(path: &str) -> Step {
+pub(crate) fn holding(path: &str) -> FileStep {
     if is_beside(path) {
-        Step::HoldBeside
+        FileStep::HoldBeside
     } else {
-        Step::Hold
+        FileStep::Hold
     }
 }

@@ -3,7 +3,7 @@
 //! line after a while. What is asked of its files can be noted, step by step, and steps can be made to
 //! fail.
 
-use crate::notes::{Notes, Step, holding, note, note_opening, removing};
+use crate::notes::{FileStep, StepNotes, holding, note, note_opening, removing};
 use arrayvec::ArrayVec;
 use console_lines::Devices;
 use odt_machine::{LARGEST_WORDS, Odt, PLAIN_STYLE};
@@ -21,7 +21,7 @@ use std::time::{Clock, Duration};
 
 /// What the console and the files of a system are like.
 #[derive(Clone, Copy)]
-pub struct Setting {
+pub struct SystemSetting {
     /// The words of the machine's memory, and what stands there beforehand.
     pub words: u16,
     pub memory: &'static [(u16, u16)],
@@ -46,7 +46,7 @@ pub struct Setting {
 }
 
 /// Ample memory, a patient console, large files and a clock that stands still.
-pub const AMPLE: Setting = Setting {
+pub const AMPLE: SystemSetting = SystemSetting {
     words: LARGEST_WORDS,
     memory: &[],
     reads: 1_000_000,
@@ -71,12 +71,12 @@ pub const QUIET_MS: u32 = 2000;
 
 /// A system of one setting.
 #[derive(Drop)]
-pub struct System<'a> {
+pub struct SimulatedSystem<'a> {
     rt: &'a HostRuntime,
-    setting: Setting,
+    setting: SystemSetting,
 
     /// What is asked of the files, where that is noted.
-    notes: Option<&'a Notes<'a>>,
+    notes: Option<&'a StepNotes<'a>>,
 
     /// The console's machine, until somebody is connected to it: to connect takes no memory.
     machine: Cell<Option<Odt>>,
@@ -89,7 +89,7 @@ pub struct System<'a> {
 }
 
 // The machine of a setting, where there is memory for it.
-fn machine_of(alloc: Global, setting: Setting) -> Option<Odt> {
+fn machine_of(alloc: Global, setting: SystemSetting) -> Option<Odt> {
     let mut odt = Odt::new(alloc, setting.words, PLAIN_STYLE).ok()?;
     for (address, value) in setting.memory {
         odt.put(*address, *value);
@@ -97,10 +97,10 @@ fn machine_of(alloc: Global, setting: Setting) -> Option<Odt> {
     Some(odt)
 }
 
-impl<'a> System<'a> {
+impl<'a> SimulatedSystem<'a> {
     /// A system of this setting, to which nobody has connected yet.
-    pub fn new(rt: &'a HostRuntime, setting: Setting) -> System<'a> {
-        System {
+    pub fn new(rt: &'a HostRuntime, setting: SystemSetting) -> SimulatedSystem<'a> {
+        SimulatedSystem {
             rt,
             setting,
             notes: None,
@@ -111,7 +111,7 @@ impl<'a> System<'a> {
     }
 
     /// The same system, whose notes say what is asked of its files and which step fails.
-    pub fn noted(mut self, notes: &'a Notes<'a>) -> System<'a> {
+    pub fn noted(mut self, notes: &'a StepNotes<'a>) -> SimulatedSystem<'a> {
         self.notes = Some(notes);
         self
     }
@@ -124,7 +124,7 @@ impl<'a> System<'a> {
 
 /// A console at the other end of a stream.
 #[derive(Drop)]
-pub struct Console {
+pub struct SimulatedConsole {
     odt: Odt,
     answer: ArrayVec<u8, 64>,
     reads: u32,
@@ -136,12 +136,12 @@ pub struct Console {
     loses: Option<u32>,
 }
 
-impl Console {
+impl SimulatedConsole {
     // The console over this machine, which has answered nothing yet.
-    fn over(odt: Odt, setting: Setting) -> Console {
+    fn over(odt: Odt, setting: SystemSetting) -> SimulatedConsole {
         let mut greeting = ArrayVec::new();
         let _ = greeting.try_extend_from_slice(setting.greeting);
-        Console {
+        SimulatedConsole {
             odt,
             answer: ArrayVec::new(),
             reads: setting.reads,
@@ -163,7 +163,7 @@ impl Console {
     }
 }
 
-impl Read for Console {
+impl Read for SimulatedConsole {
     fn read(&mut self, buf: &mut [u8]) -> io::Result<usize> {
         if self.reads == 0 || buf.is_empty() {
             return Ok(0);
@@ -179,7 +179,7 @@ impl Read for Console {
     }
 }
 
-impl Write for Console {
+impl Write for SimulatedConsole {
     fn write(&mut self, buf: &[u8]) -> io::Result<usize> {
         match buf.first() {
             Some(_) if self.deaf => Ok(1),
@@ -200,7 +200,7 @@ impl Write for Console {
     }
 }
 
-impl OpenStream for Console {
+impl OpenStream for SimulatedConsole {
     fn set_read_timeout(&self, time: Option<Duration>) -> io::Result<()> {
         if time == Some(Duration::from_millis(u64::from(QUIET_MS))) {
             Ok(())
@@ -210,21 +210,21 @@ impl OpenStream for Console {
     }
 }
 
-impl AsRawFd for Console {
+impl AsRawFd for SimulatedConsole {
     fn as_raw_fd(&self) -> RawFd {
         -1
     }
 }
 
 // A device that closes the line is hung up.
-impl IsTerminal for Console {
+impl IsTerminal for SimulatedConsole {
     fn is_terminal(&self) -> bool {
         self.reads > 0
     }
 }
 
-impl Devices for System<'_> {
-    type Terminal = Console;
+impl Devices for SimulatedSystem<'_> {
+    type Terminal = SimulatedConsole;
 
     // Who asks wants to connect.
     fn is_device(&self, path: &str) -> io::Result<bool> {
@@ -237,28 +237,28 @@ impl Devices for System<'_> {
         }
     }
 
-    fn open(&self, _path: &str) -> io::Result<Console> {
+    fn open(&self, _path: &str) -> io::Result<SimulatedConsole> {
         match self.machine.replace(None) {
-            Some(odt) => Ok(Console::over(odt, self.setting)),
+            Some(odt) => Ok(SimulatedConsole::over(odt, self.setting)),
             None => Err(io::Error::from(ErrorKind::NotFound)),
         }
     }
 
-    fn is_terminal(&self, device: &Console) -> bool {
+    fn is_terminal(&self, device: &SimulatedConsole) -> bool {
         device.is_terminal()
     }
 
-    fn lock(&self, _device: &Console) -> io::Result<()> {
+    fn lock(&self, _device: &SimulatedConsole) -> io::Result<()> {
         Ok(())
     }
 
-    fn wait_for_nothing(&self, _device: &Console) -> io::Result<()> {
+    fn wait_for_nothing(&self, _device: &SimulatedConsole) -> io::Result<()> {
         Ok(())
     }
 }
 
-impl Net for System<'_> {
-    type Stream = Console;
+impl Net for SimulatedSystem<'_> {
+    type Stream = SimulatedConsole;
 
     type Listener = Nobody;
 
@@ -266,14 +266,14 @@ impl Net for System<'_> {
         Err(io::Error::from(ErrorKind::Unsupported))
     }
 
-    fn connect(&self, address: SocketAddr) -> io::Result<Console> {
+    fn connect(&self, address: SocketAddr) -> io::Result<SimulatedConsole> {
         self.connections
             .set(self.connections.get().saturating_add(1));
         if !self.listens_at(address) {
             return Err(io::Error::from(ErrorKind::ConnectionRefused));
         }
         match self.machine.replace(None) {
-            Some(odt) => Ok(Console::over(odt, self.setting)),
+            Some(odt) => Ok(SimulatedConsole::over(odt, self.setting)),
             None => Err(io::Error::from(ErrorKind::ConnectionRefused)),
         }
     }
@@ -284,9 +284,9 @@ impl Net for System<'_> {
 pub struct Nobody;
 
 impl OpenListener for Nobody {
-    type Stream = Console;
+    type Stream = SimulatedConsole;
 
-    fn accept(&self) -> io::Result<(Console, SocketAddr)> {
+    fn accept(&self) -> io::Result<(SimulatedConsole, SocketAddr)> {
         Err(io::Error::from(ErrorKind::Unsupported))
     }
 }
@@ -297,7 +297,7 @@ impl AsRawFd for Nobody {
     }
 }
 
-impl Clock for System<'_> {
+impl Clock for SimulatedSystem<'_> {
     fn monotonic(&self) -> io::Result<Duration> {
         let time = self.time.get();
         self.time.set(time.saturating_add(self.setting.tick));
@@ -320,8 +320,8 @@ pub struct RoomyFile<'a> {
     room: usize,
 
     /// What it is to hold it.
-    holding: Step,
-    notes: Option<&'a Notes<'a>>,
+    holding: FileStep,
+    notes: Option<&'a StepNotes<'a>>,
 }
 
 impl Read for RoomyFile<'_> {
@@ -332,7 +332,7 @@ impl Read for RoomyFile<'_> {
 
 impl Write for RoomyFile<'_> {
     fn write(&mut self, buf: &[u8]) -> io::Result<usize> {
-        note(self.notes, Step::Write)?;
+        note(self.notes, FileStep::Write)?;
         let most = buf.len().min(self.room);
         if most == 0 {
             return Err(io::Error::from(ErrorKind::StorageFull));
@@ -343,7 +343,7 @@ impl Write for RoomyFile<'_> {
     }
 
     fn flush(&mut self) -> io::Result<()> {
-        note(self.notes, Step::Flush)
+        note(self.notes, FileStep::Flush)
     }
 }
 
@@ -359,17 +359,17 @@ impl OpenFile for RoomyFile<'_> {
     }
 
     fn set_len(&self, size: u64) -> io::Result<()> {
-        note(self.notes, Step::Cut)?;
+        note(self.notes, FileStep::Cut)?;
         self.file.set_len(size)
     }
 
     fn sync_all(&self) -> io::Result<()> {
-        note(self.notes, Step::SyncAll)?;
+        note(self.notes, FileStep::SyncAll)?;
         self.file.sync_all()
     }
 
     fn sync_data(&self) -> io::Result<()> {
-        note(self.notes, Step::SyncData)?;
+        note(self.notes, FileStep::SyncData)?;
         self.file.sync_data()
     }
 }
@@ -383,7 +383,7 @@ fn found(path: &str) -> &str {
     }
 }
 
-impl<'a> Files for System<'a> {
+impl<'a> Files for SimulatedSystem<'a> {
     type File = RoomyFile<'a>;
 
     type Dir = <HostRuntime as Files>::Dir;
@@ -406,7 +406,7 @@ impl<'a> Files for System<'a> {
     }
 
     fn metadata(&self, path: &str) -> io::Result<Metadata> {
-        note(self.notes, Step::Look)?;
+        note(self.notes, FileStep::Look)?;
         Files::metadata(self.rt, found(path))
     }
 
@@ -419,7 +419,7 @@ impl<'a> Files for System<'a> {
     }
 
     fn rename(&self, from: &str, to: &str) -> io::Result<()> {
-        note(self.notes, Step::Rename)?;
+        note(self.notes, FileStep::Rename)?;
         Files::rename(self.rt, found(from), found(to))
     }
 
@@ -445,7 +445,7 @@ impl<'a> Files for System<'a> {
     }
 }
 
-impl<'a> Locks for System<'a> {
+impl<'a> Locks for SimulatedSystem<'a> {
     fn hold(&self, file: &RoomyFile<'a>) -> bool {
         note(self.notes, file.holding).is_ok()
             && !matches!(file.file.try_lock(), Err(TryLockError::WouldBlock))

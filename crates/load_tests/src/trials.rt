@@ -9,7 +9,7 @@ use odt_machine::{Odt, Style};
 use std::alloc::Global;
 use std::process::Abort;
 use trial_core::{End, Seen, Sight, Trial};
-use trial_engine::{Stop, attempt};
+use trial_engine::{Stop, conduct};
 
 // The word's address.
 const WORD: u16 = 0o1000;
@@ -190,14 +190,14 @@ fn line_of(alloc: Global, setting: &Setting) -> Option<MemoryLine> {
 }
 
 // The engine's answer. What its contract promises of it, no test needs.
-fn attempt_on<L: Line>(old: u16, patience: u32, line: &mut L, turns: u64) -> (Trial, Stop) {
-    attempt(Trial::new(WORD, old, patience), line, turns)
+fn conduct_on<L: Line>(old: u16, patience: u32, line: &mut L, turns: u64) -> (Trial, Stop) {
+    conduct(Trial::new(WORD, old, patience), line, turns)
 }
 
 // What a trial in this setting comes to; nothing where memory for it is refused.
 fn try_in(alloc: Global, setting: &Setting) -> Option<((Trial, Stop), MemoryLine)> {
     let mut line = line_of(alloc, setting)?;
-    let answer = attempt_on(setting.held, setting.patience, &mut line, setting.turns);
+    let answer = conduct_on(setting.held, setting.patience, &mut line, setting.turns);
     Some((answer, line))
 }
 

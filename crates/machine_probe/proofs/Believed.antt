@@ -30,7 +30,7 @@ use Rattle.reading_engine.specs.declared.stop.Stop.TheVariants.{Ended, LineFaile
 use Rattle.reading_engine.specs.Inquired.{IsSaid}
 use Rattle.trial_engine.specs.declared.stop.Stop.{Stop as TrialStop}
 use Rattle.trial_engine.specs.declared.stop.Stop.TheVariants as stopped
-use Rattle.trial_engine.specs.Attempted.{IsSaid as IsSaidOfTrial}
+use Rattle.trial_engine.specs.Conducted.{IsSaid as IsSaidOfTrial}
 use Rattle.looking_law.specs.Again.{looker}
 use Rattle.looking_law.specs.Runs.{Look, Run, Try, dialogue_of}
 use Rattle.looking_law.specs.Trying.{IsToldOf}
@@ -97,7 +97,7 @@ look_right options sighting said machine now lost address long l ready honest =
 trial_leaves : (options : ProbeOptions) (old : ℕ) (attempt : Attempt) (said : List Item) (machine now : Machine) (lost : ℕ) → IsAddress options.address → options.patience < 2 ^ 32 → IsTrialOf options old attempt said →
     IsReadyMachine machine → IsHonest machine said lost now → Leaves machine now
 trial_leaves options old attempt said machine now lost address long t ready honest =
-    let s = t.attempted in
+    let s = t.conducted in
     let run : Run = Try options.address old options.patience s.heard in
     let front : IsToldOf (dialogue_of run) said = subst (IsToldOf (dialogue_of run)) (sym s.on_line) (told_trial t.stop _ (dialogue_of run) s.said s.items) in
     let h : IsHarmless machine run lost now = run_harmless run machine now lost ready (address, long) (told_honest (dialogue_of run) said machine now lost front honest) in

@@ -18,7 +18,7 @@ use Rattle.reading_engine.specs.Inquired.{Inquired, TellsEnd, inquiry}
 use Rattle.trial_core.specs.declared.trial.Trial.{Trial}
 use Rattle.trial_core.specs.Trial.{begun_trial}
 use Rattle.trial_engine.specs.declared.stop.Stop.{Stop as TrialStop}
-use Rattle.trial_engine.specs.Attempted.{Attempted, TellsEnd as TellsEndOfTrial, trying}
+use Rattle.trial_engine.specs.Conducted.{Conducted, TellsEnd as TellsEndOfTrial, trying}
 use Rattle.looking_law.specs.Again.{looker}
 use Rattle.machine_probe.specs.declared.probe_options.ProbeOptions.{ProbeOptions}
 use Rattle.machine_probe.specs.declared.putting_back.Deposit.{Deposit}
@@ -74,13 +74,13 @@ look_is options core last stop turns number sighting line line' begins limit s e
 
 -- what the engine of the trial answers is a trial
 pub trial_is : (options : ProbeOptions) (old : ℕ) (first last : Trial) (stop : TrialStop) (turns : ℕ) (attempt : Attempt) (line line' : Option (List Item)) →
-    first ≡ begun_trial options.address old options.patience → turns ≡ turns_of options.patience → Attempted turns (trying first last (Some stop)) line line' → TellsEndOfTrial stop last →
+    first ≡ begun_trial options.address old options.patience → turns ≡ turns_of options.patience → Conducted turns (trying first last (Some stop)) line line' → TellsEndOfTrial stop last →
     attempt ≡ attempt_of last stop → OnLine (One (IsTrialOf options old attempt)) line line'
 trial_is options old first last stop turns attempt line line' begins limit s end came =
     one (IsTrialOf options old attempt) line line' s.said (record {
       stop = stop;
       last = last;
-      attempted = subst (λ (n : ℕ). Attempted n (trying (begun_trial options.address old options.patience) last (Some stop)) (Some []) (Some s.said)) limit (subst (λ (t : Trial). Attempted turns (trying t last (Some stop)) (Some []) (Some s.said)) begins (record {
+      conducted = subst (λ (n : ℕ). Conducted n (trying (begun_trial options.address old options.patience) last (Some stop)) (Some []) (Some s.said)) limit (subst (λ (t : Trial). Conducted turns (trying t last (Some stop)) (Some []) (Some s.said)) begins (record {
         heard = s.heard;
         said = s.said;
         trial = s.trial;

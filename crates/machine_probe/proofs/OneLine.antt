@@ -111,7 +111,7 @@ look_leaves options sighting said address long l =
 
 trial_leaves_ready : (options : ProbeOptions) (old : ℕ) (attempt : Attempt) (said : List Item) → IsAddress options.address → options.patience < 2 ^ 32 → IsTrialOf options old attempt said → LeavesReady said
 trial_leaves_ready options old attempt said address long t =
-    let s = t.attempted in
+    let s = t.conducted in
     let run : Run = Try options.address old options.patience s.heard in
     leave_ready run said (address, long) (subst (IsToldOf (dialogue_of run)) (sym s.on_line) (told_trial t.stop _ (dialogue_of run) s.said s.items))
 

@@ -15,7 +15,7 @@ use Rattle.reading_engine.specs.Inquired.{Inquired, TellsEnd, inquiry}
 use Rattle.trial_core.specs.declared.trial.Trial.{Trial}
 use Rattle.trial_core.specs.Trial.{begun_trial}
 use Rattle.trial_engine.specs.declared.stop.Stop.{Stop as TrialStop}
-use Rattle.trial_engine.specs.Attempted.{Attempted, TellsEnd as TellsEndOfTrial, trying}
+use Rattle.trial_engine.specs.Conducted.{Conducted, TellsEnd as TellsEndOfTrial, trying}
 use Rattle.looking_law.specs.Again.{looker}
 use Rattle.machine_probe.specs.declared.probe_options.ProbeOptions.{ProbeOptions}
 use Rattle.machine_probe.specs.Came.{attempt_of, extent_of, first_of, sighting_of}
@@ -33,7 +33,7 @@ pub record LooksAt (options : ProbeOptions) (sighting : Sighting) (said : List I
 pub record IsTrialOf (options : ProbeOptions) (old : ℕ) (attempt : Attempt) (said : List Item) : Type 0 where
   pub stop : TrialStop
   pub last : Trial
-  pub attempted : Attempted (turns_of options.patience) (trying (begun_trial options.address old options.patience) last (Some stop)) (Some []) (Some said)
+  pub conducted : Conducted (turns_of options.patience) (trying (begun_trial options.address old options.patience) last (Some stop)) (Some []) (Some said)
   pub end : TellsEndOfTrial stop last
   pub attempt_is : attempt ≡ attempt_of last stop
 

@@ -21,7 +21,7 @@ use reading_core::{End, ReadingCore};
 use reading_engine::{Stop, inquire};
 use std::alloc::{AllocError, Global};
 use trial_core::{End as LastOfTrial, Trial};
-use trial_engine::{Stop as TrialStop, attempt};
+use trial_engine::{Stop as TrialStop, conduct};
 
 /// The hosts of the two looks.
 #[derive(Drop)]
@@ -161,7 +161,7 @@ fn try_number<L: Line>(old: u16, options: ProbeOptions, line: &mut L) -> Attempt
     ensures { OnLine (One (IsTrialOf options old result)) (L.told line.old) (L.told line.new) }
 {
     let trial = Trial::new(options.address, old, options.patience);
-    let (trial, stop) = attempt(trial, line, options.turns());
+    let (trial, stop) = conduct(trial, line, options.turns());
     attempt_of(trial, stop)
 }
 

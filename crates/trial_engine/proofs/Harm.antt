@@ -10,7 +10,7 @@ use Rattle.looking_law.proofs.Keys.{store_nothing}
 use Rattle.looking_law.proofs.Trials.{only_try}
 use Rattle.trial_engine.specs.declared.stop.Stop.{Stop}
 use Rattle.trial_engine.specs.declared.stop.Stop.TheVariants.{Ended, LineFailed, TurnsOver}
-use Rattle.trial_engine.specs.Attempted.{Attempted, IsSaid, trying}
+use Rattle.trial_engine.specs.Conducted.{Conducted, IsSaid, trying}
 use Rattle.trial_engine.specs.Harmless.{IsHarmless, IsHarmlessOver}
 
 -- what was said of a dialogue is all of it, or all but its last key
@@ -24,8 +24,8 @@ said_told (Some (LineFailed fault)) left all said (inr s) = inr s
 told_harmless : (t : Trial) (things : List Heard) (told : List Item) → IsTrial t → IsToldOf (trial_dialogue t things) told → IsHarmless told
 told_harmless t things told is front machine now lost honest = store_nothing machine now told lost (only_try t things told is front) honest
 
-pub attempted_harmless : (turns : ℕ) (stop : Option Stop) (old new : Trial) (line line' : Option (List Item)) → IsTrial old → Attempted turns (trying old new stop) line line' → IsHarmlessOver old line line'
-attempted_harmless turns stop old new line line' is s items gained = (
+pub conducted_harmless : (turns : ℕ) (stop : Option Stop) (old new : Trial) (line line' : Option (List Item)) → IsTrial old → Conducted turns (trying old new stop) line line' → IsHarmlessOver old line line'
+conducted_harmless turns stop old new line line' is s items gained = (
   told_harmless old s.heard items is (subst (IsToldOf (trial_dialogue old s.heard)) (sym (gained_is line line' items s.said gained s.on_line)) (said_told stop (turns - length s.heard) (trial_dialogue old s.heard) s.said s.items)),
   told_harmless old _ _ is (inl refl),
 )

@@ -16,7 +16,7 @@ use Rattle.trial_core.specs.TrialTable.{ask}
 use Rattle.looking_law.specs.Trying.{trial_dialogue}
 use Rattle.trial_engine.specs.declared.stop.Stop.{Stop}
 use Rattle.trial_engine.specs.declared.stop.Stop.TheVariants.{Ended, LineFailed, TurnsOver}
-use Rattle.trial_engine.specs.Attempted.{GoesOn, IsSaid, Attempted, failure_of, trying}
+use Rattle.trial_engine.specs.Conducted.{GoesOn, IsSaid, Conducted, failure_of, trying}
 
 -- ---- dialogues
 
@@ -53,8 +53,8 @@ items_join stop turns more a b heard later first second is all whole s =
     subst (λ n. IsSaid stop n (trial_dialogue a (heard ++ later)) (first ++ second)) left
     (subst (λ items. IsSaid stop (more - length later) items (first ++ second)) dialogues (said_join stop (more - length later) first (trial_dialogue b later) second s))
 
-pub attempted_join : (turns more : ℕ) (stop : Option Stop) (a b c : Trial) (line line' line'' : Option (List Item)) → Attempted turns (trying a b None) line line' → Attempted more (trying b c stop) line' line'' → Attempted (turns + more) (trying a c stop) line line''
-attempted_join turns more stop a b c line line' line'' s t = let all : length s.heard ≡ turns = omega (arith, s.within, s.items.1) in record {
+pub conducted_join : (turns more : ℕ) (stop : Option Stop) (a b c : Trial) (line line' line'' : Option (List Item)) → Conducted turns (trying a b None) line line' → Conducted more (trying b c stop) line' line'' → Conducted (turns + more) (trying a c stop) line line''
+conducted_join turns more stop a b c line line' line'' s t = let all : length s.heard ≡ turns = omega (arith, s.within, s.items.1) in record {
   heard = s.heard ++ t.heard;
   said = s.said ++ t.said;
   trial = t.trial ∙ (ap (λ host. led host t.heard) s.trial ∙ sym (led_join a s.heard t.heard));
@@ -71,28 +71,28 @@ more_left fault turns all heard items now le (inl s) = inl (s.0, omega (arith, l
 more_left fault turns all heard items now le (inr s) = inr s
 
 -- a failure with turns to spare
-pub attempted_wider : (fault : LineFault) (turns all : ℕ) (a b : Trial) (line line' : Option (List Item)) → turns ≤ all → Attempted turns (trying a b (Some (LineFailed fault))) line line' → Attempted all (trying a b (Some (LineFailed fault))) line line'
-attempted_wider fault turns all a b line line' le s =
+pub conducted_wider : (fault : LineFault) (turns all : ℕ) (a b : Trial) (line line' : Option (List Item)) → turns ≤ all → Conducted turns (trying a b (Some (LineFailed fault))) line line' → Conducted all (trying a b (Some (LineFailed fault))) line line'
+conducted_wider fault turns all a b line line' le s =
     record { heard = s.heard; said = s.said; trial = s.trial; goes_on = s.goes_on; within = omega (arith, s.within, le); items = more_left fault turns all s.heard (trial_dialogue a s.heard) s.said le s.items; on_line = s.on_line }
 
-pub attempted_ended : (end : End) (turns all : ℕ) (a b : Trial) (line line' : Option (List Item)) → turns ≤ all → Attempted turns (trying a b None) line line' → Attempted all (trying a b (Some (Ended end))) line line'
-attempted_ended end turns all a b line line' le s =
+pub conducted_ended : (end : End) (turns all : ℕ) (a b : Trial) (line line' : Option (List Item)) → turns ≤ all → Conducted turns (trying a b None) line line' → Conducted all (trying a b (Some (Ended end))) line line'
+conducted_ended end turns all a b line line' le s =
     record { heard = s.heard; said = s.said; trial = s.trial; goes_on = s.goes_on; within = omega (arith, s.within, le); items = s.items.0; on_line = s.on_line }
 
-pub attempted_over : (turns : ℕ) (a b : Trial) (line line' : Option (List Item)) → Attempted turns (trying a b None) line line' → Attempted turns (trying a b (Some TurnsOver)) line line'
-attempted_over turns a b line line' s =
+pub conducted_over : (turns : ℕ) (a b : Trial) (line line' : Option (List Item)) → Conducted turns (trying a b None) line line' → Conducted turns (trying a b (Some TurnsOver)) line line'
+conducted_over turns a b line line' s =
     record { heard = s.heard; said = s.said; trial = s.trial; goes_on = s.goes_on; within = s.within; items = s.items; on_line = s.on_line }
 
 -- ---- one turn
 
 -- the line fails at the hear
-pub turn_deaf : (fault : LineFault) (t : Trial) (line line' : Option (List Item)) → SaysNothing line line' → Attempted 1 (trying t t (Some (LineFailed fault))) line line'
+pub turn_deaf : (fault : LineFault) (t : Trial) (line line' : Option (List Item)) → SaysNothing line line' → Conducted 1 (trying t t (Some (LineFailed fault))) line line'
 turn_deaf fault t line line' k =
     record { heard = []; said = []; trial = refl; goes_on = tt; within = omega arith; items = inl (refl, omega arith); on_line = gains_kept line line' k }
 
 -- the line fails at the send
 pub turn_unsent : (fault : LineFault) (old new : Trial) (heard : Heard) (key : ℕ) (line line' line'' : Option (List Item)) → ended old.phase ≡ None → new ≡ (ask old heard).next → (ask old heard).key ≡ Some key →
-    Gains line line' (Came heard ∷ []) → SaysNothing line' line'' → Attempted 1 (trying old new (Some (LineFailed fault))) line line''
+    Gains line line' (Came heard ∷ []) → SaysNothing line' line'' → Conducted 1 (trying old new (Some (LineFailed fault))) line line''
 turn_unsent fault old new heard key line line' line'' goes next sends hears k = record {
   heard = heard ∷ [];
   said = Came heard ∷ [];
@@ -105,7 +105,7 @@ turn_unsent fault old new heard key line line' line'' goes next sends hears k = 
 
 -- the key is sent
 pub turn_sent : (old new : Trial) (heard : Heard) (key : ℕ) (line line' line'' : Option (List Item)) → ended old.phase ≡ None → new ≡ (ask old heard).next → (ask old heard).key ≡ Some key →
-    Gains line line' (Came heard ∷ []) → Gains line' line'' (Sent key ∷ []) → Attempted 1 (trying old new None) line line''
+    Gains line line' (Came heard ∷ []) → Gains line' line'' (Sent key ∷ []) → Conducted 1 (trying old new None) line line''
 turn_sent old new heard key line line' line'' goes next sends hears sent = record {
   heard = heard ∷ [];
   said = Came heard ∷ Sent key ∷ [];
@@ -118,7 +118,7 @@ turn_sent old new heard key line line' line'' goes next sends hears sent = recor
 
 -- there is no key to send
 pub turn_still : (old new : Trial) (heard : Heard) (line line' : Option (List Item)) → ended old.phase ≡ None → new ≡ (ask old heard).next → (ask old heard).key ≡ None →
-    Gains line line' (Came heard ∷ []) → Attempted 1 (trying old new None) line line'
+    Gains line line' (Came heard ∷ []) → Conducted 1 (trying old new None) line line'
 turn_still old new heard line line' goes next silent hears = record {
   heard = heard ∷ [];
   said = Came heard ∷ [];

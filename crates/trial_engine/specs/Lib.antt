@@ -1,3 +1,3 @@
-pub mod Attempted
+pub mod Conducted
 pub mod Failing
 pub mod Harmless

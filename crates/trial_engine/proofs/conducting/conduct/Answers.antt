@@ -2,16 +2,16 @@ use Rattle.std.proofs.Common.{◌≡◌, ◌+◌, Some, None, sym, subst, ◌∙
 use Rattle.load_devices.specs.Devices.{line_told}
 use Rattle.load_devices.specs.Failures.{CountsFault}
 use Rattle.trial_engine.specs.declared.stop.Stop.TheVariants.{LineFailed}
-use Rattle.trial_engine.specs.Attempted.{Attempted, trying}
-use Rattle.trial_engine.proofs.Stretches.{attempted_join, attempted_wider, attempted_ended, attempted_over}
+use Rattle.trial_engine.specs.Conducted.{Conducted, trying}
+use Rattle.trial_engine.proofs.Stretches.{conducted_join, conducted_wider, conducted_ended, conducted_over}
 use Rattle.trial_engine.proofs.Tryings.{made}
-use Rattle.trial_engine.proofs.attempting.attempt.Goals as goal
+use Rattle.trial_engine.proofs.conducting.conduct.Goals as goal
 
 pub loop-preserved : goal.loop-preserved
 loop-preserved g c =
     let inv = c.loop.invariant in
     let turn = c.in_default-turn.ensures in record {
-      stretch = attempted_join c.loop.counter 1 None c.args.trial c.loop.trial c.turn.new.trial (g.L.Line.told c.args.line.now) (g.L.Line.told c.loop.line) (g.L.Line.told c.turn.new.line) inv.stretch turn.turn;
+      stretch = conducted_join c.loop.counter 1 None c.args.trial c.loop.trial c.turn.new.trial (g.L.Line.told c.args.line.now) (g.L.Line.told c.loop.line) (g.L.Line.told c.turn.new.line) inv.stretch turn.turn;
       counted = turn.counted ∙ inv.counted;
       kept = turn.kept;
       end = c.end-end-in-loop.ensures;
@@ -25,7 +25,7 @@ returns-in-Some g c =
     let after = line_told g.L.Line c.loop.line in
     record {
       tried = made _ c.args.trial c.loop.trial _ before after c.requires inv.kept
-          (attempted_ended c.in-Some.end c.loop.counter c.args.turns c.args.trial c.loop.trial before.said after.said c.loop.auto.counter-end inv.stretch) (sym inv.end ∙ c.in-Some.is) inv.counted tt;
+          (conducted_ended c.in-Some.end c.loop.counter c.args.turns c.args.trial c.loop.trial before.said after.said c.loop.auto.counter-end inv.stretch) (sym inv.end ∙ c.in-Some.is) inv.counted tt;
     }
 
 -- a turn failed
@@ -37,8 +37,8 @@ returns-in-Err g c =
     let after = line_told g.L.Line c.turn.new.line in
     record {
       tried = made _ c.args.trial c.turn.new.trial _ before after c.requires turn.kept
-          (attempted_wider c.in-Err.fault (c.loop.counter + 1) c.args.turns c.args.trial c.turn.new.trial before.said after.said (omega (arith, c.loop-test.true))
-          (attempted_join c.loop.counter 1 (Some (LineFailed c.in-Err.fault)) c.args.trial c.loop.trial c.turn.new.trial before.said (g.L.Line.told c.loop.line) after.said inv.stretch turn.turn))
+          (conducted_wider c.in-Err.fault (c.loop.counter + 1) c.args.turns c.args.trial c.turn.new.trial before.said after.said (omega (arith, c.loop-test.true))
+          (conducted_join c.loop.counter 1 (Some (LineFailed c.in-Err.fault)) c.args.trial c.loop.trial c.turn.new.trial before.said (g.L.Line.told c.loop.line) after.said inv.stretch turn.turn))
           tt (subst (λ count. CountsFault (Some c.in-Err.fault) count after.failures) inv.counted turn.counted) turn.fault;
     }
 
@@ -50,7 +50,7 @@ returns-in-Some-end g c =
     let after = line_told g.L.Line c.loop.line in
     record {
       tried = made _ c.args.trial c.loop.trial _ before after c.requires inv.kept
-          (attempted_ended c.in-Some-end.end c.loop.counter c.args.turns c.args.trial c.loop.trial before.said after.said c.loop.auto.counter-end inv.stretch) (sym inv.end ∙ c.in-Some-end.is) inv.counted tt;
+          (conducted_ended c.in-Some-end.end c.loop.counter c.args.turns c.args.trial c.loop.trial before.said after.said c.loop.auto.counter-end inv.stretch) (sym inv.end ∙ c.in-Some-end.is) inv.counted tt;
     }
 
 pub returns-in-None : goal.returns-in-None
@@ -61,6 +61,6 @@ returns-in-None g c =
     let after = line_told g.L.Line c.loop.line in
     record {
       tried = made _ c.args.trial c.loop.trial _ before after c.requires inv.kept
-          (attempted_over c.args.turns c.args.trial c.loop.trial before.said after.said (subst (λ n. Attempted n (trying c.args.trial c.loop.trial None) before.said after.said) all inv.stretch))
+          (conducted_over c.args.turns c.args.trial c.loop.trial before.said after.said (subst (λ n. Conducted n (trying c.args.trial c.loop.trial None) before.said after.said) all inv.stretch))
           (sym inv.end ∙ c.in-None.is) inv.counted tt;
     }

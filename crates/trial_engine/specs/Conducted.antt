@@ -39,7 +39,7 @@ abbrev pub trying : Trial → Trial → Option Stop → Trying
 trying old new stop = record { old = old; new = new; stop = stop }
 
 -- at most so many turns: what was heard and what was said on the line, with what the line told before and tells after
-pub record Attempted (most : ℕ) (trying : Trying) (line line' : Option (List Item)) : Type 0 where
+pub record Conducted (most : ℕ) (trying : Trying) (line line' : Option (List Item)) : Type 0 where
   pub heard : List Heard
   pub said : List Item
   -- the trial heard these things, and nothing more once it had an end
@@ -64,7 +64,7 @@ TellsEnd (LineFailed fault) t = ⊤
 -- what the engine makes of a trial and of a line, in at most so many turns
 pub record IsTrialMade (most : ℕ) (trying : Trying) (before after : LineTold) : Type 0 where
   -- what was heard and said, in its order
-  pub turns : Attempted most trying before.said after.said
+  pub turns : Conducted most trying before.said after.said
   pub end : IfSome trying.stop (λ stop. TellsEnd stop trying.new)
   pub counted : CountsFault (line_fault trying.stop) before.failures after.failures
   pub named : IsLastFault (line_fault trying.stop) after.fault

@@ -1,6 +1,6 @@
 use Rattle.std.proofs.Common.{sym, ◌∙◌}
 use Rattle.trial_engine.proofs.Stretches.{failure_is, turn_deaf, turn_unsent, turn_sent, turn_still}
-use Rattle.trial_engine.proofs.attempting.turn.Goals as goal
+use Rattle.trial_engine.proofs.conducting.turn.Goals as goal
 
 pub returns-in_err-heard-clause-turn : goal.returns-in_err-heard-clause-turn
 returns-in_err-heard-clause-turn g c =

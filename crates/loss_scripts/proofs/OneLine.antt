@@ -7,8 +7,8 @@ use Rattle.octal.specs.Octal.{octal_value}
 use Rattle.odt_machine.specs.declared.style.Style.{Style}
 use Rattle.odt_machine.specs.Style.{style_number}
 use Rattle.line_world.specs.declared.event.Event.TheVariants.{Take, Hear, LoseDown, LoseUp, Quiet, Restart}
-use Rattle.loss_scripts.specs.declared.line.Step.{Step}
-use Rattle.loss_scripts.specs.declared.line.Step.TheVariants.{Times, Until, Clean}
+use Rattle.loss_scripts.specs.declared.line.ScriptStep.{ScriptStep}
+use Rattle.loss_scripts.specs.declared.line.ScriptStep.TheVariants.{Times, Until, Clean}
 use Rattle.loss_scripts.specs.declared.line.Setting.{Setting}
 use Rattle.loss_scripts.specs.declared.line.Setting.TheVariants.{Words, OfStyle, Patience, Wait, Put}
 use Rattle.loss_scripts.specs.declared.line.ScriptLine.{ScriptLine}
@@ -80,7 +80,7 @@ hear_times rest some =
     let longer : (length (codes "hear " ++ rest) == 4) ≡ false = grind (arith, nat_tests) in
     ap (λ t. line.Step (Times Hear (if t then 1 else digits_value 10 rest))) longer
 
-steps : (text : List ℕ) (said : Step) → IsStep text said → meaning text ≡ line.Step said
+steps : (text : List ℕ) (said : ScriptStep) → IsStep text said → meaning text ≡ line.Step said
 steps text (Times Take n) h = ⊎_elim (λ once. ap meaning once.0 ∙ ap (λ m. line.Step (Times Take m)) (sym once.1)) (counted text (codes "take ") n (λ m. line.Step (Times Take m)) take_times) h
 steps text (Times Hear n) h = ⊎_elim (λ once. ap meaning once.0 ∙ ap (λ m. line.Step (Times Hear m)) (sym once.1)) (counted text (codes "hear ") n (λ m. line.Step (Times Hear m)) hear_times) h
 steps text (Times (LoseDown k) n) h = numbered text (codes "down ") 0 255 k (λ j. line.Step (Times (LoseDown j) 1)) (λ rest. refl) h.0 ∙ ap (λ m. line.Step (Times (LoseDown k) m)) (sym h.1)

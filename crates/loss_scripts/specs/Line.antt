@@ -11,8 +11,8 @@ use Rattle.loss_scripts.specs.declared.line.ScriptLine.{ScriptLine}
 use Rattle.loss_scripts.specs.declared.line.ScriptLine.TheVariants as line
 use Rattle.loss_scripts.specs.declared.line.Setting.{Setting}
 use Rattle.loss_scripts.specs.declared.line.Setting.TheVariants.{Words, OfStyle, Patience, Wait, Put}
-use Rattle.loss_scripts.specs.declared.line.Step.{Step}
-use Rattle.loss_scripts.specs.declared.line.Step.TheVariants.{Times, Until, Clean}
+use Rattle.loss_scripts.specs.declared.line.ScriptStep.{ScriptStep}
+use Rattle.loss_scripts.specs.declared.line.ScriptStep.TheVariants.{Times, Until, Clean}
 
 -- one to ten decimal digits, leading zeros among them, and their number
 pub record IsNumber (text : List ℕ) (n : ℕ) : Type 0 where
@@ -84,7 +84,7 @@ abbrev pub IsCounted : List ℕ → List ℕ → List ℕ → ℕ → Type 0
 IsCounted text alone counted n = ((text ≡ alone) × (n ≡ 1)) ⊎ HasNumber text counted 1 most_times n
 
 -- what an event line says, one row for each form
-abbrev pub IsStep : List ℕ → Step → Type 0
+abbrev pub IsStep : List ℕ → ScriptStep → Type 0
 IsStep text (Times Take n) = IsCounted text (codes "take") (codes "take ") n
 IsStep text (Times Hear n) = IsCounted text (codes "hear") (codes "hear ") n
 IsStep text (Times (LoseDown k) n) = HasNumber text (codes "down ") 0 last_place k × (n ≡ 1)

@@ -13,5 +13,5 @@
 mod line;
 mod script;
 
-pub use line::{Step, Waiting};
+pub use line::{ScriptStep, Waiting};
 pub use script::{PutLine, SCRIPT_LIMIT, Script, ScriptFault, StepLine, read_script};

@@ -48,7 +48,7 @@ pub(crate) enum Setting {
 
 /// What an event line says.
 #[derive(Clone, Copy)]
-pub enum Step {
+pub enum ScriptStep {
     /// An event, so many times.
     Times(Event, u32),
 
@@ -69,7 +69,7 @@ pub(crate) enum ScriptLine {
     Setting(Setting),
 
     /// It lets something happen.
-    Step(Step),
+    Step(ScriptStep),
 }
 
 // The number that one to ten decimal digits stand for.
@@ -221,33 +221,33 @@ fn read_setting(text: &[u8]) -> Option<Setting>
 }
 
 // What an event line says.
-fn read_step(text: &[u8]) -> Option<Step>
+fn read_step(text: &[u8]) -> Option<ScriptStep>
     ensures found { IfSome result (IsStep text.now) }
-    ensures none { IfNone result ((said : Step) → IsStep text.now said → ⊥) }
+    ensures none { IfNone result ((said : ScriptStep) → IsStep text.now said → ⊥) }
 {
     if let Some(n) = times(text, b"take", b"take ") {
-        return Some(Step::Times(Event::Take, n));
+        return Some(ScriptStep::Times(Event::Take, n));
     }
     if let Some(n) = times(text, b"hear", b"hear ") {
-        return Some(Step::Times(Event::Hear, n));
+        return Some(ScriptStep::Times(Event::Hear, n));
     }
     if let Some(k) = number_after(text, b"down ", 0, LAST_PLACE) {
-        return Some(Step::Times(Event::LoseDown(k as u8), 1));
+        return Some(ScriptStep::Times(Event::LoseDown(k as u8), 1));
     }
     if let Some(k) = number_after(text, b"up ", 0, LAST_PLACE) {
-        return Some(Step::Times(Event::LoseUp(k as u8), 1));
+        return Some(ScriptStep::Times(Event::LoseUp(k as u8), 1));
     }
     if let Some(k) = number_after(text, b"restart ", 0, u32::MAX) {
-        return Some(Step::Times(Event::Restart(k), 1));
+        return Some(ScriptStep::Times(Event::Restart(k), 1));
     }
     if let Some(n) = number_after(text, b"to ", 1, u32::MAX) {
-        return Some(Step::Until(n));
+        return Some(ScriptStep::Until(n));
     }
     if is_text(text, b"quiet") {
-        return Some(Step::Times(Event::Quiet, 1));
+        return Some(ScriptStep::Times(Event::Quiet, 1));
     }
     if is_text(text, b"clean") {
-        return Some(Step::Clean);
+        return Some(ScriptStep::Clean);
     }
     None
 }

@@ -10,7 +10,7 @@ ghost use Rattle.loss_scripts.specs.Script.{MayCome, IsInOrder, IsScript, IsScri
 ghost use Rattle.loss_scripts.specs.Law.{IsOnlyScript, IsOnlyFault};
 ghost use Rattle.loss_scripts.specs.Draft.{HasNamed, Joins};
 
-use crate::line::{ScriptLine, Setting, Step, Waiting, read_line};
+use crate::line::{ScriptLine, ScriptStep, Setting, Waiting, read_line};
 use host_core::PLAIN_PATIENCE;
 use odt_machine::{LARGEST_WORDS, PLAIN_STYLE, Style};
 use std::alloc::{AllocError, Global};
@@ -38,7 +38,7 @@ pub struct StepLine {
     pub line: u32,
 
     /// What it lets happen.
-    pub step: Step,
+    pub step: ScriptStep,
 }
 
 /// A script: what it sets up, and what it lets happen.

@@ -5,8 +5,8 @@ use Rattle.host_core.specs.Core.{ended}
 use Rattle.line_world.specs.declared.event.Event.{Event}
 use Rattle.line_world.specs.Scene.{Scene}
 use Rattle.line_world.specs.World.{happens, after, possible_count, first_event, IsCleanRun}
-use Rattle.loss_scripts.specs.declared.line.Step.{Step}
-use Rattle.loss_scripts.specs.declared.line.Step.TheVariants.{Times, Until, Clean}
+use Rattle.loss_scripts.specs.declared.line.ScriptStep.{ScriptStep}
+use Rattle.loss_scripts.specs.declared.line.ScriptStep.TheVariants.{Times, Until, Clean}
 use Rattle.loss_scripts.specs.declared.script.StepLine.{StepLine}
 use Rattle.byte_io.specs.Text.{line}
 
@@ -21,7 +21,7 @@ IsCleanUntil n w (event ∷ events) = (is_over n w ≡ false) × (event ≡ firs
 
 -- an event line leads from one world to another, and was possible or not: an event so many times is possible where it is
 -- each time, and where it is not the world stays, so the rest of the count does nothing
-abbrev pub Plays : Scene → Step → Scene → Bool → Type 0
+abbrev pub Plays : Scene → ScriptStep → Scene → Bool → Type 0
 Plays w (Times event n) w' possible = (w' ≡ after w (replicate n event)) × (possible ≡ (possible_count w (replicate n event) == n))
 Plays w (Until n) w' possible = (possible ≡ true) × ((events : List Event) × IsCleanUntil n w events × (w' ≡ after w events))
 Plays w Clean w' possible = (possible ≡ true) × ((events : List Event) × IsCleanRun w events × (w' ≡ after w events))

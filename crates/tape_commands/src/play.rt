@@ -6,7 +6,7 @@ ghost use Rattle.tape_commands.specs.Played.{is_over, IsCleanUntil, Plays, Playe
 
 use byte_io::put_decimal;
 use line_world::{Event, World};
-use loss_scripts::{Step, StepLine};
+use loss_scripts::{ScriptStep, StepLine};
 use std::alloc::AllocError;
 
 /// Lets the event lines of a script happen to a world, in order. A line that is not possible is told
@@ -46,16 +46,16 @@ fn put_not_possible(text: &mut Vec<u8>, number: u32) -> Result<(), AllocError>
 }
 
 // Answers whether the step was possible as a whole.
-fn play_step(world: &mut World, step: Step) -> bool
+fn play_step(world: &mut World, step: ScriptStep) -> bool
     ensures { Plays world.old step world.new result }
 {
     match step {
-        Step::Times(event, times) => repeat(world, event, times),
-        Step::Until(sent) => {
+        ScriptStep::Times(event, times) => repeat(world, event, times),
+        ScriptStep::Until(sent) => {
             run_until(world, sent);
             true
         }
-        Step::Clean => {
+        ScriptStep::Clean => {
             world.run_clean();
             true
         }

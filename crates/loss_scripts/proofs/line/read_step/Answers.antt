@@ -1,5 +1,5 @@
 use Rattle.line_world.specs.declared.event.Event.TheVariants.{Take, Hear, LoseDown, LoseUp, Quiet, Restart}
-use Rattle.loss_scripts.specs.declared.line.Step.TheVariants.{Times, Until, Clean}
+use Rattle.loss_scripts.specs.declared.line.ScriptStep.TheVariants.{Times, Until, Clean}
 use Rattle.loss_scripts.proofs.Forms.{other}
 use Rattle.loss_scripts.proofs.line.read_step.Goals as goal
 

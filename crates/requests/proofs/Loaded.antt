@@ -86,26 +86,29 @@ closed_new b a asked last name p q r closed holds h =
 
 -- a load within its surroundings is one of the tapes, where their plan is known, and what was asked of the disk
 module _ (names : List Name) (load : Load) (before after : Moment) (plan : PlanValue) (planned : IsPlanned names (intake_at before) (intake_at after) plan)
-    (P : SaidOfDisk) (call' : Call) (f : (holds : RecordDisk → FileKnown → List DiskStep → Type 0) → P holds → record_asked load (before ⇒ after) holds) where
+    (started : PlanValue) (same : started ≡ starting plan load.start) (P : SaidOfDisk) (call' : Call)
+    (f : (holds : RecordDisk → FileKnown → List DiskStep → Type 0) → P holds → record_asked load (before ⇒ after) holds) where
   abbrev reached : ConsoleTold
   reached = record { asked = after.asked.outside.for_lines; call = call'; lines = after.asked.outside.lines; out = after.held.out }
 
-  pub tapes_loaded : (result : Result Status Failure) → IfOk result (IsPlanLoaded (planned_load (starting plan load.start) load) P (console_for load before ⇒ reached))
+  pub tapes_loaded : (result : Result Status Failure) → IfOk result (IsPlanLoaded (planned_load started load) P (console_for load before ⇒ reached))
       → IfOk result (AreLoaded names load (before ⇒ after))
   tapes_loaded (Ok status) h = record {
     plan = plan;
     planned = planned;
     loaded = loaded_as (planned_load (starting plan load.start) load) P (record_asked load (before ⇒ after)) (console_for load before) after.asked.outside.for_lines
-        after.asked.outside.lines after.held.out call' (console_for load after).call f status h;
+        after.asked.outside.lines after.held.out call' (console_for load after).call f status
+        (subst (λ s. IsPlanLoaded (planned_load s load) P (console_for load before ⇒ reached) status) same h);
   }
   tapes_loaded (Err failure) h = tt
 
-  pub tapes_unloaded : (result : Result Status Failure) → IfErr result (IsPlanFailure (planned_load (starting plan load.start) load) P (console_for load before ⇒ reached))
+  pub tapes_unloaded : (result : Result Status Failure) → IfErr result (IsPlanFailure (planned_load started load) P (console_for load before ⇒ reached))
       → IfErr result (AreUnloaded names load (before ⇒ after))
   tapes_unloaded (Ok status) h = tt
   tapes_unloaded (Err failure) h = inr (record {
     plan = plan;
     planned = planned;
     failed = failed_as (planned_load (starting plan load.start) load) P (record_asked load (before ⇒ after)) (console_for load before) after.asked.outside.for_lines
-        after.asked.outside.lines after.held.out call' (console_for load after).call f failure h;
+        after.asked.outside.lines after.held.out call' (console_for load after).call f failure
+        (subst (λ s. IsPlanFailure (planned_load s load) P (console_for load before ⇒ reached) failure) same h);
   })

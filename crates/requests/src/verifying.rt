@@ -59,12 +59,13 @@ pub(crate) fn verify_tapes<'a, K: Kinds, R: Read, W: Output, E: FaultOutput, T: 
     let shown = onlooker(&clock, terminal, KeptIn::Nothing);
     let verified = verify(alloc, &plan, look.patience, &mut console, out, &shown);
     let system = System::new(inputs, disk, console.back(), clock);
-    match verified {
-        Ok(end) => (system, after_verify(end)),
+    let outcome = match verified {
+        Ok(end) => after_verify(end),
         Err(fault) => {
             // Nothing is saved, so that no fault names a file.
             let failure = MachineFault::Look(fault).failure(look.line, look.line);
-            (system, Err(failure))
+            Err(failure)
         }
-    }
+    };
+    (system, outcome)
 }

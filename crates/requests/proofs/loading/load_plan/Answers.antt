@@ -9,61 +9,41 @@ use Rattle.machine_load.specs.Scene.{around_of, ending, keeper_of}
 use Rattle.machine_load.specs.RecordDisk.{DiskAsked, disk_asked_by}
 use Rattle.requests.specs.Ending.{IsFailureOf}
 use Rattle.requests.specs.declared.machine_fault.MachineFault.TheVariants as machine
-use Rattle.requests.specs.Loading.{console_around, lines_and_out, setting_of}
+use Rattle.requests.specs.Loading.{IsPlanReported, console_around, lines_and_out, planned_load, setting_of}
 use Rattle.requests.proofs.Loaded.{asked_by_told, disk_by_told}
 use Rattle.requests.proofs.loading.load_plan.Goals as goal
 
-pub returns-in-Ok-clause-ok : goal.returns-in-Ok-clause-ok
-returns-in-Ok-clause-ok g c =
+pub returns-in-Ok : goal.returns-in-Ok
+returns-in-Ok g c =
     let outcome = c.in-Ok.outcome in
     let tell = line_told g.S.Line.Line in
     let loaded = c.in-Ok.ensures.ok in
     let keeper = keeper_of g.S.Surroundings g.S.Keeper.Keep in
-    let asked = task c.args.plan c.args.request.options in
+    let around = around_of g.S.Surroundings c.args.around.now in
+    let around' = around_of g.S.Surroundings c.load.new.around in
     let before = lines_and_out (console_around g.S.Surroundings g.W.Write c.args.around.now c.args.out.now) in
     let between = lines_and_out (console_around g.S.Surroundings g.W.Write c.load.new.around c.load.new.out) in
-    IfOk-weaker c.end.result _ _
-    (λ status is. record {
-      ending = ending g.S.Line.Line outcome;
-      between = between;
-      reported = record {
-        around = around_of g.S.Surroundings c.args.around.now;
-        around' = around_of g.S.Surroundings c.load.new.around;
-        reported = reported_over_line keeper asked (setting_of (around_of g.S.Surroundings c.args.around.now) before ⇒ setting_of (around_of g.S.Surroundings c.load.new.around) between) (ending g.S.Line.Line outcome) loaded.reported;
-      };
-      ended = is;
-      asked = subst (λ asked. Gains (g.S.Surroundings.asked c.args.around.now) asked (asked_by (g.S.Surroundings.call c.args.around.now) (ending g.S.Line.Line outcome).line)) (sym c.end.ensures.asked)
-          (asked_by_told tell (g.S.Surroundings.call c.args.around.now) outcome.line (g.S.Surroundings.asked c.args.around.now) (g.S.Surroundings.asked c.load.new.around) loaded.asked);
-      disk = subst (λ disk. DiskAsked (g.S.Surroundings.disk c.args.around.now) disk (disk_asked_by outcome.end (ending g.S.Line.Line outcome).line)) (sym c.end.ensures.disk)
-          (disk_by_told tell outcome.end outcome.line (DiskAsked (g.S.Surroundings.disk c.args.around.now) (g.S.Surroundings.disk c.load.new.around)) loaded.disk);
-    })
-    c.end.ensures.ok
-
-pub returns-in-Ok-clause-err : goal.returns-in-Ok-clause-err
-returns-in-Ok-clause-err g c =
-    let outcome = c.in-Ok.outcome in
-    let tell = line_told g.S.Line.Line in
-    let loaded = c.in-Ok.ensures.ok in
-    let keeper = keeper_of g.S.Surroundings g.S.Keeper.Keep in
-    let asked = task c.args.plan c.args.request.options in
-    let before = lines_and_out (console_around g.S.Surroundings g.W.Write c.args.around.now c.args.out.now) in
-    let between = lines_and_out (console_around g.S.Surroundings g.W.Write c.load.new.around c.load.new.out) in
-    IfErr-weaker c.end.result _ _
-    (λ failure is. inr (record {
-      ending = ending g.S.Line.Line outcome;
-      between = between;
-      reported = record {
-        around = around_of g.S.Surroundings c.args.around.now;
-        around' = around_of g.S.Surroundings c.load.new.around;
-        reported = reported_over_line keeper asked (setting_of (around_of g.S.Surroundings c.args.around.now) before ⇒ setting_of (around_of g.S.Surroundings c.load.new.around) between) (ending g.S.Line.Line outcome) loaded.reported;
-      };
-      is_so = is;
-      asked = subst (λ asked. Gains (g.S.Surroundings.asked c.args.around.now) asked (asked_by (g.S.Surroundings.call c.args.around.now) (ending g.S.Line.Line outcome).line)) (sym c.end.ensures.asked)
-          (asked_by_told tell (g.S.Surroundings.call c.args.around.now) outcome.line (g.S.Surroundings.asked c.args.around.now) (g.S.Surroundings.asked c.load.new.around) loaded.asked);
-      disk = subst (λ disk. DiskAsked (g.S.Surroundings.disk c.args.around.now) disk (disk_asked_by outcome.end (ending g.S.Line.Line outcome).line)) (sym c.end.ensures.disk)
-          (disk_by_told tell outcome.end outcome.line (DiskAsked (g.S.Surroundings.disk c.args.around.now) (g.S.Surroundings.disk c.load.new.around)) loaded.disk);
-    }))
-    c.end.ensures.err
+    let end = ending g.S.Line.Line outcome in
+    let call = g.S.Surroundings.call c.args.around.now in
+    let asked = g.S.Surroundings.asked c.args.around.now in
+    let disk = g.S.Surroundings.disk c.args.around.now in
+    let reported : IsPlanReported (planned_load c.args.plan c.args.request) (before ⇒ between) end = record {
+      around = around;
+      around' = around';
+      reported = reported_over_line keeper (task c.args.plan c.args.request.options) (setting_of around before ⇒ setting_of around' between) end loaded.reported;
+    } in
+    let was_asked = subst (λ last. Gains asked last (asked_by call end.line)) (sym c.end.ensures.asked)
+    (asked_by_told tell call outcome.line asked (g.S.Surroundings.asked c.load.new.around) loaded.asked) in
+    let on_disk = subst (λ last. DiskAsked disk last (disk_asked_by outcome.end end.line)) (sym c.end.ensures.disk)
+    (disk_by_told tell outcome.end outcome.line (DiskAsked disk (g.S.Surroundings.disk c.load.new.around)) loaded.disk) in
+    record {
+      ok = IfOk-weaker c.end.result _ _
+          (λ status is. record { ending = end; between = between; reported = reported; ended = is; asked = was_asked; disk = on_disk })
+          c.end.ensures.ok;
+      err = IfErr-weaker c.end.result _ _
+          (λ failure is. inr (record { ending = end; between = between; reported = reported; is_so = is; asked = was_asked; disk = on_disk }))
+          c.end.ensures.err;
+    }
 
 pub returns-in-Err-clause-err : goal.returns-in-Err-clause-err
 returns-in-Err-clause-err g c =

@@ -22,57 +22,27 @@ use Rattle.endings.specs.declared.status.Status.{Status}
 use Rattle.endings.specs.declared.status.Status.TheVariants.{Done, Differs, NotLoaded}
 use Rattle.requests.specs.declared.machine_fault.MachineFault.{MachineFault}
 use Rattle.requests.specs.declared.machine_fault.MachineFault.TheVariants.{Load, Look, Probe}
+use Rattle.input_files.specs.Opening.{Name}
 use Rattle.endings.specs.Failure.{NamesFile}
 use Rattle.endings.specs.Status.{end_status}
 
--- the failure is that the record's file of this name can't be written
-abbrev pub NamesWrittenFile : List ℕ → Failure → Type 0
-NamesWrittenFile text (CannotWriteFile name) = name.now ≡ text
-NamesWrittenFile text other = ⊥
-
--- the failure is that another load holds the record's file of this name
-abbrev pub NamesHeldFile : List ℕ → Failure → Type 0
-NamesHeldFile text (RecordInUse name) = name.now ≡ text
-NamesHeldFile text other = ⊥
-
--- the failure is that this address can't be connected to
-abbrev pub NamesAddress : List ℕ → Failure → Type 0
-NamesAddress text (CannotConnect address) = address.now ≡ text
-NamesAddress text other = ⊥
-
--- the failure is that there is a file of this name already
-abbrev pub NamesFileThere : List ℕ → Failure → Type 0
-NamesFileThere text (FileIsThere name) = name.now ≡ text
-NamesFileThere text other = ⊥
-
--- the failure is that there is a part of a save beside this name already
-abbrev pub NamesPartThere : List ℕ → Failure → Type 0
-NamesPartThere text (PartIsThere name) = name.now ≡ text
-NamesPartThere text other = ⊥
-
--- the failure is that what is beside this name is not of the save
-abbrev pub NamesPartOfAnother : List ℕ → Failure → Type 0
-NamesPartOfAnother text (PartNotOfSave name) = name.now ≡ text
-NamesPartOfAnother text other = ⊥
-
--- the failure is that memory does not hold what is beside this name
-abbrev pub NamesStalePart : List ℕ → Failure → Type 0
-NamesStalePart text (PartStale name) = name.now ≡ text
-NamesStalePart text other = ⊥
+-- the failure is of this kind, and this is what it names
+abbrev pub Names : (Name → Failure) → List ℕ → Failure → Type 0
+Names kind text failure = (name : Name) × (failure ≡ kind name) × (name.now ≡ text)
 
 -- the failure that a fault at a machine is, where its console has this name, and its record or its new file that one
 abbrev pub IsFailureOf : MachineFault → List ℕ → List ℕ → Failure → Type 0
 IsFailureOf (Load load.ReadRecord) console file failure = NamesFile file failure
-IsFailureOf (Load load.RecordInUse) console file failure = NamesHeldFile file failure
+IsFailureOf (Load load.RecordInUse) console file failure = Names RecordInUse file failure
 IsFailureOf (Load (load.Record reason)) console file failure = failure ≡ RecordRefused reason
-IsFailureOf (Load load.WriteRecord) console file failure = NamesWrittenFile file failure
-IsFailureOf (Look look.IsThere) console file failure = NamesFileThere file failure
-IsFailureOf (Look look.PartIsThere) console file failure = NamesPartThere file failure
-IsFailureOf (Look look.NotOfSave) console file failure = NamesPartOfAnother file failure
-IsFailureOf (Look look.WriteTape) console file failure = NamesWrittenFile file failure
-IsFailureOf (Load load.Connect) console file failure = NamesAddress console failure
-IsFailureOf (Look look.Connect) console file failure = NamesAddress console failure
-IsFailureOf (Probe probe_fault.Connect) console file failure = NamesAddress console failure
+IsFailureOf (Load load.WriteRecord) console file failure = Names CannotWriteFile file failure
+IsFailureOf (Look look.IsThere) console file failure = Names FileIsThere file failure
+IsFailureOf (Look look.PartIsThere) console file failure = Names PartIsThere file failure
+IsFailureOf (Look look.NotOfSave) console file failure = Names PartNotOfSave file failure
+IsFailureOf (Look look.WriteTape) console file failure = Names CannotWriteFile file failure
+IsFailureOf (Load load.Connect) console file failure = Names CannotConnect console failure
+IsFailureOf (Look look.Connect) console file failure = Names CannotConnect console failure
+IsFailureOf (Probe probe_fault.Connect) console file failure = Names CannotConnect console failure
 IsFailureOf (Load load.WriteOutput) console file failure = failure ≡ CannotWrite
 IsFailureOf (Look look.WriteOutput) console file failure = failure ≡ CannotWrite
 IsFailureOf (Probe probe_fault.WriteOutput) console file failure = failure ≡ CannotWrite
@@ -87,7 +57,7 @@ line_failure marked fault = if marked then StartInDoubt fault else LineFailed fa
 -- how a load fails all the same whose engine stopped so: the line failed, or the record's keeper
 abbrev pub IsStopFailure : Stop → Bool → List ℕ → Failure → Type 0
 IsStopFailure (stop.LineFailed fault) marked file failure = failure ≡ line_failure marked fault
-IsStopFailure (stop.KeepFailed fault) marked file failure = NamesWrittenFile file failure
+IsStopFailure (stop.KeepFailed fault) marked file failure = Names CannotWriteFile file failure
 IsStopFailure other marked file failure = ⊥
 
 -- how the program ended where the engine stopped so: where its line or its keeper failed, that is a failure and no ending
@@ -128,7 +98,7 @@ IsSaveEndStatus other status = ⊥
 -- how a `save` to a file of this name fails that ended so: its line failed, or memory does not hold what is beside the file
 abbrev pub IsSaveEndFailure : SaveEnd → List ℕ → Failure → Type 0
 IsSaveEndFailure (save.LineFailed fault) file failure = failure ≡ LineFailed fault
-IsSaveEndFailure (save.Stale address) file failure = NamesStalePart file failure
+IsSaveEndFailure (save.Stale address) file failure = Names PartStale file failure
 IsSaveEndFailure other file failure = ⊥
 
 -- how the program ends after a `probe` that ended so: where its line failed, that is a failure and no ending

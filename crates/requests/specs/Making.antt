@@ -6,14 +6,14 @@ use Rattle.tape_shelf.specs.ShelfTold.{HasDone, IsDone, ShelfTold}
 use Rattle.tape_shelf.specs.declared.shelf.ShelfFault.{ShelfFault}
 use Rattle.tape_shelf.specs.declared.shelf.ShelfFault.TheVariants as shelf
 use Rattle.endings.specs.declared.failure.Failure.{Failure}
-use Rattle.endings.specs.declared.failure.Failure.TheVariants.{NoMemory}
+use Rattle.endings.specs.declared.failure.Failure.TheVariants.{CannotWriteFile, FileIsThere, NoMemory, PartIsThere, PartNotOfSave}
 use Rattle.endings.specs.declared.status.Status.{Status}
 use Rattle.endings.specs.declared.status.Status.TheVariants.{Done}
 use Rattle.request_values.specs.Change.{Change, ◌⇒◌}
 use Rattle.request_values.specs.declared.request.Make.{Make}
 use Rattle.tape_commands.specs.TapeOfWords.{IsTapeMade, IsTapeUnmade}
 use Rattle.input_files.specs.Opening.{Name}
-use Rattle.requests.specs.Ending.{NamesFileThere, NamesPartOfAnother, NamesPartThere, NamesWrittenFile}
+use Rattle.requests.specs.Ending.{Names}
 use Rattle.requests.specs.Moment.{AsksNobody, Moment, intake_at}
 use Rattle.requests.specs.Saving.{IsLetGo, new_shelf}
 
@@ -24,10 +24,10 @@ IsNotPutWhole text fault before after =
 
 -- the failure that the fault of a new file of this name is
 abbrev pub IsShelfFailure : ShelfFault → List ℕ → Failure → Type 0
-IsShelfFailure shelf.IsThere file failure = NamesFileThere file failure
-IsShelfFailure shelf.PartIsThere file failure = NamesPartThere file failure
-IsShelfFailure shelf.NotOfSave file failure = NamesPartOfAnother file failure
-IsShelfFailure shelf.Write file failure = NamesWrittenFile file failure
+IsShelfFailure shelf.IsThere file failure = Names FileIsThere file failure
+IsShelfFailure shelf.PartIsThere file failure = Names PartIsThere file failure
+IsShelfFailure shelf.NotOfSave file failure = Names PartNotOfSave file failure
+IsShelfFailure shelf.Write file failure = Names CannotWriteFile file failure
 IsShelfFailure shelf.Memory file failure = failure ≡ NoMemory
 
 -- a whole tape was put into a new file of this name, on a disk that told the one before and tells the other now

@@ -3,14 +3,14 @@ use Rattle.std.proofs.Common.{◌≡◌, ◌<◌, ◌+◌, ◌&&◌, ℕ, Bool, 
 use Rattle.std.proofs.lemmas.List.{map_more}
 use Rattle.std.proofs.lemmas.List.Sums.{fold_more}
 use Rattle.clap.specs.Words.{AddsArg, AddsSubcommand, app_of, rule_of}
-use Rattle.clap.specs.Simple.{Shape, is_simple, with_subcommand}
+use Rattle.clap.specs.Simple.{App, Shape, is_simple, with_subcommand}
 use Rattle.clap.specs.Walk.{Rule, Text}
 use Rattle.clap.specs.declared.builder.arg.Arg.{Arg}
 use Rattle.clap.specs.declared.builder.command.Command.{Command}
 use Rattle.command_line.specs.Arguments.{rule_told}
-use Rattle.command_line.specs.Commands.{command_told, known_words, program_told, shape_with, with_command}
+use Rattle.command_line.specs.Commands.{command_told, known_words, program_told, shape_with}
 use Rattle.command_line.specs.declared.arguments.Argument.{Argument}
-use Rattle.command_line.specs.declared.commands.CommandName.{CommandName}
+use Rattle.command_line.specs.declared.commands.KnownCommand.{KnownCommand}
 
 -- a command has one argument more
 pub told_argument : (name : Text) (old new : Command) (arg : Arg) (all : List Argument) (i : ℕ) (d : Argument) → i < length all
@@ -28,8 +28,12 @@ third true true true d all = absurd (cc all)
 third true false c d all = absurd (cc all)
 third false b c d all = absurd (cc all)
 
+-- one command more
+abbrev pub with_command : App → KnownCommand → App
+with_command app command = with_subcommand app (command_told command)
+
 -- the program has one command more
-pub told_command : (old sub new : Command) (all : List CommandName) (i : ℕ) (d : CommandName) → i < length all
+pub told_command : (old sub new : Command) (all : List KnownCommand) (i : ℕ) (d : KnownCommand) → i < length all
     → AddsSubcommand old sub new → (app_of sub).top ≡ command_told (get_or all i d)
     → app_of old ≡ fold with_command program_told (take i all) → app_of new ≡ fold with_command program_told (take (i + 1) all)
 told_command old sub new all i d more adds told so_far =

@@ -1,66 +1,133 @@
--- The words that the program knows: its commands, and the arguments and options of each (this project's own).
-use Rattle.std.specs.Prelude.{true, List, [], ◌∷◌, fold, codes}
+-- The commands: the word of each, its arguments and options, and what these say (this project's own).
+use Rattle.std.specs.Prelude.{◌≡◌, true, List, [], ◌∷◌, Some, fold, map, option_map, codes}
+use Rattle.clap.specs.Matches.{first_value}
 use Rattle.clap.specs.Simple.{App, Shape, new_app, new_shape, on_top, with_subcommand}
 use Rattle.clap.specs.Walk.{Rule, Text}
-use Rattle.command_line.specs.Arguments.{allowed, flag, needed, numeric, option, repeated, tied_flag}
-use Rattle.command_line.specs.declared.commands.CommandName.{CommandName}
-use Rattle.command_line.specs.declared.commands.CommandName.TheVariants.{Load, Verify, Save, Probe, Make, Check, Dialogue, Rehearse, «Type»}
-
--- how a command is typed
-abbrev pub word_of : CommandName → Text
-word_of Load = codes "load"
-word_of Verify = codes "verify"
-word_of Save = codes "save"
-word_of Probe = codes "probe"
-word_of Make = codes "make"
-word_of Check = codes "check"
-word_of Dialogue = codes "dialogue"
-word_of Rehearse = codes "rehearse"
-word_of «Type» = codes "type"
-
--- the arguments and options of a command
-abbrev pub rules_of : CommandName → List Rule
-rules_of Load =
-    needed (codes "TAPE") ∷ needed (codes "LINE") ∷ repeated (codes "MORE")
-    ∷ option (codes "record") ∷ tied_flag (codes "recheck") ∷ flag (codes "fast") ∷ option (codes "start") ∷ tied_flag (codes "no-start")
-    ∷ numeric (codes "listen") 1 65_535 ∷ numeric (codes "patience") 0 1000 ∷ numeric (codes "quiet") 1 60_000 ∷ flag (codes "log") ∷ []
-rules_of Verify =
-    needed (codes "TAPE") ∷ needed (codes "LINE") ∷ repeated (codes "MORE")
-    ∷ numeric (codes "patience") 0 1000 ∷ numeric (codes "quiet") 1 60_000 ∷ flag (codes "log") ∷ []
-rules_of Save =
-    needed (codes "FILE") ∷ needed (codes "LINE") ∷ needed (codes "FROM") ∷ needed (codes "TO") ∷ option (codes "start")
-    ∷ numeric (codes "patience") 0 1000 ∷ numeric (codes "quiet") 1 60_000 ∷ flag (codes "log") ∷ []
-rules_of Probe =
-    needed (codes "LINE") ∷ option (codes "address") ∷ numeric (codes "patience") 0 1000 ∷ numeric (codes "quiet") 1 60_000 ∷ flag (codes "log") ∷ []
-rules_of Make = needed (codes "FILE") ∷ allowed (codes "WORDS") ∷ option (codes "start") ∷ []
-rules_of Check = needed (codes "TAPE") ∷ repeated (codes "MORE") ∷ flag (codes "blocks") ∷ []
-rules_of Dialogue =
-    needed (codes "TAPE") ∷ repeated (codes "MORE")
-    ∷ option (codes "start") ∷ tied_flag (codes "no-start") ∷ numeric (codes "words") 0 28_672 ∷ numeric (codes "style") 0 7 ∷ []
-rules_of Rehearse = needed (codes "TAPE") ∷ needed (codes "SCRIPT") ∷ repeated (codes "MORE") ∷ []
-rules_of «Type» = numeric (codes "words") 0 28_672 ∷ numeric (codes "style") 0 7 ∷ []
+use Rattle.clap.specs.declared.parser.matches.Found.{Found}
+use Rattle.host_core.specs.Core.{plain_patience}
+use Rattle.request_values.specs.declared.machine.Load.{Load}
+use Rattle.request_values.specs.declared.machine.Look.{Look}
+use Rattle.request_values.specs.declared.machine.Probe.{Probe}
+use Rattle.request_values.specs.declared.request.Make.{Make}
+use Rattle.request_values.specs.declared.request.Rehearsal.{Rehearsal}
+use Rattle.request_values.specs.declared.request.Request.{Request}
+use Rattle.request_values.specs.declared.request.Request.TheVariants.{Tape, Make as Makes, Machine}
+use Rattle.request_values.specs.declared.request.MachineRequest.{MachineRequest}
+use Rattle.request_values.specs.declared.request.MachineRequest.TheVariants.{Load as Loads, Verify, Save as Saves, Probe as Probes}
+use Rattle.request_values.specs.declared.request.TapeRequest.{TapeRequest}
+use Rattle.request_values.specs.declared.request.TapeRequest.TheVariants.{CheckInput, Check, Dialogue, Rehearse, «Type» as TypeKeys}
+use Rattle.request_values.specs.declared.machine.Save.{Save}
+use Rattle.command_line.specs.Arguments.{allowed, flag, needed, numeric, option, repeated, rule_told, tied_flag}
+use Rattle.command_line.specs.Options.{IsConsoleOf, IsFlag, IsNumberGiven, IsNumberOf, IsProbedWord, IsRangeOf, IsSavedStart, IsStartOf, IsWordsFile}
+use Rattle.command_line.specs.Options.{NamesTapes, more_in, plain_quiet}
+use Rattle.command_line.specs.declared.commands.KnownCommand.{KnownCommand}
 
 -- a command of this name with these arguments and options
 abbrev pub shape_with : Text → List Rule → Shape
 shape_with name rules = record (new_shape name) { rules = rules }
 
 -- what the parser is told of a command
-abbrev pub command_told : CommandName → Shape
-command_told command = shape_with (word_of command) (rules_of command)
+abbrev pub command_told : KnownCommand → Shape
+command_told command = shape_with command.word.now (map rule_told command.arguments.now)
 
 -- what it is told of the program, but for its commands: the words begin behind the program's name, one of them is a command, and there is a version
 abbrev pub program_told : App
 program_told =
     on_top (λ s. record s { no_binary_name = true; has_version = true; subcommand_required = true }) (new_app (codes "ldaodt"))
 
--- all commands
-abbrev pub all_commands : List CommandName
-all_commands = Load ∷ Verify ∷ Save ∷ Probe ∷ Make ∷ Check ∷ Dialogue ∷ Rehearse ∷ «Type» ∷ []
-
--- one command more
-abbrev pub with_command : App → CommandName → App
-with_command app command = with_subcommand app (command_told command)
+-- all commands: the word of each, its arguments and its options
+abbrev pub all_commands : List Shape
+all_commands =
+    shape_with (codes "load") (
+    needed (codes "TAPE") ∷ needed (codes "LINE") ∷ repeated (codes "MORE")
+    ∷ option (codes "record") ∷ tied_flag (codes "recheck") ∷ flag (codes "fast") ∷ option (codes "start") ∷ tied_flag (codes "no-start")
+    ∷ numeric (codes "listen") 1 65_535 ∷ numeric (codes "patience") 0 1000 ∷ numeric (codes "quiet") 1 60_000 ∷ flag (codes "log") ∷ []
+    )
+    ∷ shape_with (codes "verify") (
+    needed (codes "TAPE") ∷ needed (codes "LINE") ∷ repeated (codes "MORE")
+    ∷ numeric (codes "patience") 0 1000 ∷ numeric (codes "quiet") 1 60_000 ∷ flag (codes "log") ∷ []
+    )
+    ∷ shape_with (codes "save") (
+    needed (codes "FILE") ∷ needed (codes "LINE") ∷ needed (codes "FROM") ∷ needed (codes "TO") ∷ option (codes "start")
+    ∷ numeric (codes "patience") 0 1000 ∷ numeric (codes "quiet") 1 60_000 ∷ flag (codes "log") ∷ []
+    )
+    ∷ shape_with (codes "probe") (
+    needed (codes "LINE") ∷ option (codes "address")
+    ∷ numeric (codes "patience") 0 1000 ∷ numeric (codes "quiet") 1 60_000 ∷ flag (codes "log") ∷ []
+    )
+    ∷ shape_with (codes "make") (needed (codes "FILE") ∷ allowed (codes "WORDS") ∷ option (codes "start") ∷ [])
+    ∷ shape_with (codes "check") (needed (codes "TAPE") ∷ repeated (codes "MORE") ∷ flag (codes "blocks") ∷ [])
+    ∷ shape_with (codes "dialogue") (
+    needed (codes "TAPE") ∷ repeated (codes "MORE")
+    ∷ option (codes "start") ∷ tied_flag (codes "no-start") ∷ numeric (codes "words") 0 28_672 ∷ numeric (codes "style") 0 7 ∷ []
+    )
+    ∷ shape_with (codes "rehearse") (needed (codes "TAPE") ∷ needed (codes "SCRIPT") ∷ repeated (codes "MORE") ∷ [])
+    ∷ shape_with (codes "type") (numeric (codes "words") 0 28_672 ∷ numeric (codes "style") 0 7 ∷ [])
+    ∷ []
 
 -- what the parser is told of all words that the program knows
 abbrev pub known_words : App
-known_words = fold with_command program_told all_commands
+known_words = fold with_subcommand program_told all_commands
+
+-- a load, but for its tapes, is what the arguments and options of `load` say
+pub record SaysLoad (found : Found) (load : Load) : Type 0 where
+  pub line : first_value found (codes "LINE") ≡ Some load.line.now
+  pub record_file : option_map (λ name. name.now) load.«record» ≡ first_value found (codes "record")
+  pub recheck : IsFlag found (codes "recheck") load.options.recheck
+  pub fast : IsFlag found (codes "fast") load.options.fast
+  pub patience : IsNumberOf found (codes "patience") plain_patience load.options.patience
+  pub quiet : IsNumberOf found (codes "quiet") plain_quiet load.quiet_ms
+  pub listen : IsNumberGiven found (codes "listen") load.listen
+  pub start : IsStartOf found load.start
+
+-- a look is what the arguments and options of `verify`, `save` and `probe` say
+pub record IsLookOf (found : Found) (look : Look) : Type 0 where
+  pub line : first_value found (codes "LINE") ≡ Some look.line.now
+  pub patience : IsNumberOf found (codes "patience") plain_patience look.patience
+  pub quiet : IsNumberOf found (codes "quiet") plain_quiet look.quiet_ms
+
+-- a save is what the arguments and options of `save` say
+pub record IsSaveOf (found : Found) (save : Save) : Type 0 where
+  pub file : first_value found (codes "FILE") ≡ Some save.file.now
+  pub range : IsRangeOf found save.range
+  pub start : IsSavedStart (first_value found (codes "start")) save.start
+  pub look : IsLookOf found save.look
+
+-- a tape is made as the arguments and options of `make` say
+pub record IsMakeOf (found : Found) (make : Make) : Type 0 where
+  pub file : first_value found (codes "FILE") ≡ Some make.file.now
+  pub words : IsWordsFile (first_value found (codes "WORDS")) make.words.now
+  pub start : IsSavedStart (first_value found (codes "start")) make.start
+
+-- a rehearsal is what the arguments of `rehearse` say
+pub record IsRehearsalOf (found : Found) (rehearsal : Rehearsal) : Type 0 where
+  pub tape : first_value found (codes "TAPE") ≡ Some rehearsal.tape.now
+  pub script : first_value found (codes "SCRIPT") ≡ Some rehearsal.script.now
+  pub more : map (λ name. name.now) rehearsal.more.items ≡ more_in found
+
+-- a probe is what the arguments and options of `probe` say
+pub record IsProbeOf (found : Found) (probe : Probe) : Type 0 where
+  pub address : IsProbedWord (first_value found (codes "address")) probe.address
+  pub look : IsLookOf found probe.look
+
+-- a request that is about no machine is what the arguments and options of this command say
+abbrev pub IsTapeRequestOf : Text → Found → TapeRequest → Type 0
+IsTapeRequestOf command found (Check names options) = (command ≡ codes "check") × NamesTapes found names.items × IsFlag found (codes "blocks") options.blocks
+IsTapeRequestOf command found (Dialogue names stage) =
+    (command ≡ codes "dialogue") × NamesTapes found names.items × IsConsoleOf found stage.console × IsStartOf found stage.start
+IsTapeRequestOf command found (Rehearse rehearsal) = (command ≡ codes "rehearse") × IsRehearsalOf found rehearsal
+IsTapeRequestOf command found (TypeKeys console) = (command ≡ codes "type") × IsConsoleOf found console
+IsTapeRequestOf command found CheckInput = ⊥
+
+-- one at a machine is
+abbrev pub IsMachineRequestOf : Text → Found → MachineRequest → Type 0
+IsMachineRequestOf command found (Loads names load) = (command ≡ codes "load") × NamesTapes found names.items × SaysLoad found load
+IsMachineRequestOf command found (Verify names look) = (command ≡ codes "verify") × NamesTapes found names.items × IsLookOf found look
+IsMachineRequestOf command found (Saves save) = (command ≡ codes "save") × IsSaveOf found save
+IsMachineRequestOf command found (Probes probe) = (command ≡ codes "probe") × IsProbeOf found probe
+
+-- a request is
+abbrev pub IsRequestOf : Text → Found → Request → Type 0
+IsRequestOf command found (Machine request) = IsMachineRequestOf command found request
+IsRequestOf command found (Makes make) = (command ≡ codes "make") × IsMakeOf found make
+IsRequestOf command found (Tape request) = IsTapeRequestOf command found request

@@ -1,32 +1,18 @@
 -- What the arguments and options of a command come to (this project's own).
-use Rattle.std.specs.Prelude.{◌≡◌, ◌==◌, ◌||◌, ℕ, Bool, true, false, List, [], ◌∷◌, Option, Some, None, map, option_map, codes}
+use Rattle.std.specs.Prelude.{◌≡◌, ◌==◌, ◌||◌, ℕ, Bool, true, false, List, [], ◌∷◌, Option, Some, None, map, codes}
 use Rattle.std.specs.Option.{option_map_or}
 use Rattle.std.specs.List.{list_any}
 use Rattle.std.specs.Borrow.{Bor}
 use Rattle.std.specs.Str.Parse.{digits_value, without_leading_plus}
 use Rattle.clap.specs.Matches.{first_value, matched_of, one_text, raw_values}
-use Rattle.clap.specs.Walk.{Text}
 use Rattle.clap.specs.declared.parser.matches.Found.{Found}
 use Rattle.tape_image.specs.declared.start.Start.{Start}
 use Rattle.tape_image.specs.declared.start.Start.TheVariants.{OfTape, At, Nowhere}
 use Rattle.request_values.specs.declared.range.AddressRange.{AddressRange}
-use Rattle.host_core.specs.Core.{plain_patience}
 use Rattle.console_lines.specs.Path.{has_slash}
 use Rattle.odt_machine.specs.Machine.{largest_words}
 use Rattle.odt_machine.specs.Style.{style_number}
 use Rattle.request_values.specs.declared.request.Console.{Console}
-use Rattle.request_values.specs.declared.machine.Load.{Load}
-use Rattle.request_values.specs.declared.machine.Look.{Look}
-use Rattle.request_values.specs.declared.machine.Probe.{Probe}
-use Rattle.request_values.specs.declared.request.Make.{Make}
-use Rattle.request_values.specs.declared.request.Rehearsal.{Rehearsal}
-use Rattle.request_values.specs.declared.request.Request.{Request}
-use Rattle.request_values.specs.declared.request.Request.TheVariants.{Tape, Make as Makes, Machine}
-use Rattle.request_values.specs.declared.request.MachineRequest.{MachineRequest}
-use Rattle.request_values.specs.declared.request.MachineRequest.TheVariants.{Load as Loads, Verify, Save as Saves, Probe as Probes}
-use Rattle.request_values.specs.declared.request.TapeRequest.{TapeRequest}
-use Rattle.request_values.specs.declared.request.TapeRequest.TheVariants.{CheckInput, Check, Dialogue, Rehearse, «Type» as TypeKeys}
-use Rattle.request_values.specs.declared.machine.Save.{Save}
 use Rattle.command_line.specs.Addresses.{IsEvenText, IsOctalText, IsWordText}
 
 -- the decimal number that a text is
@@ -102,70 +88,7 @@ has_colon text = list_any (λ c. c == 58) text
 abbrev pub is_line : List ℕ → Bool
 is_line text = has_colon text || has_slash text
 
--- a load, but for its tapes, is what the arguments and options of `load` say
-pub record SaysLoad (found : Found) (load : Load) : Type 0 where
-  pub line : first_value found (codes "LINE") ≡ Some load.line.now
-  pub record_file : option_map (λ name. name.now) load.«record» ≡ first_value found (codes "record")
-  pub recheck : IsFlag found (codes "recheck") load.options.recheck
-  pub fast : IsFlag found (codes "fast") load.options.fast
-  pub patience : IsNumberOf found (codes "patience") plain_patience load.options.patience
-  pub quiet : IsNumberOf found (codes "quiet") plain_quiet load.quiet_ms
-  pub listen : IsNumberGiven found (codes "listen") load.listen
-  pub start : IsStartOf found load.start
-
--- a look is what the arguments and options of `verify`, `save` and `probe` say
-pub record IsLookOf (found : Found) (look : Look) : Type 0 where
-  pub line : first_value found (codes "LINE") ≡ Some look.line.now
-  pub patience : IsNumberOf found (codes "patience") plain_patience look.patience
-  pub quiet : IsNumberOf found (codes "quiet") plain_quiet look.quiet_ms
-
 -- a range is that of two addresses
 pub record IsRangeOf (found : Found) (range : AddressRange) : Type 0 where
   pub from : (text : List ℕ) × ((first_value found (codes "FROM") ≡ Some text) × IsWordText text range.from)
   pub to : (text : List ℕ) × ((first_value found (codes "TO") ≡ Some text) × IsWordText text range.to)
-
--- a save is what the arguments and options of `save` say
-pub record IsSaveOf (found : Found) (save : Save) : Type 0 where
-  pub file : first_value found (codes "FILE") ≡ Some save.file.now
-  pub range : IsRangeOf found save.range
-  pub start : IsSavedStart (first_value found (codes "start")) save.start
-  pub look : IsLookOf found save.look
-
--- a tape is made as the arguments and options of `make` say
-pub record IsMakeOf (found : Found) (make : Make) : Type 0 where
-  pub file : first_value found (codes "FILE") ≡ Some make.file.now
-  pub words : IsWordsFile (first_value found (codes "WORDS")) make.words.now
-  pub start : IsSavedStart (first_value found (codes "start")) make.start
-
--- a rehearsal is what the arguments of `rehearse` say
-pub record IsRehearsalOf (found : Found) (rehearsal : Rehearsal) : Type 0 where
-  pub tape : first_value found (codes "TAPE") ≡ Some rehearsal.tape.now
-  pub script : first_value found (codes "SCRIPT") ≡ Some rehearsal.script.now
-  pub more : map (λ name. name.now) rehearsal.more.items ≡ more_in found
-
--- a probe is what the arguments and options of `probe` say
-pub record IsProbeOf (found : Found) (probe : Probe) : Type 0 where
-  pub address : IsProbedWord (first_value found (codes "address")) probe.address
-  pub look : IsLookOf found probe.look
-
--- a request that is about no machine is what the arguments and options of this command say
-abbrev pub IsTapeRequestOf : Text → Found → TapeRequest → Type 0
-IsTapeRequestOf command found (Check names options) = (command ≡ codes "check") × NamesTapes found names.items × IsFlag found (codes "blocks") options.blocks
-IsTapeRequestOf command found (Dialogue names stage) =
-    (command ≡ codes "dialogue") × NamesTapes found names.items × IsConsoleOf found stage.console × IsStartOf found stage.start
-IsTapeRequestOf command found (Rehearse rehearsal) = (command ≡ codes "rehearse") × IsRehearsalOf found rehearsal
-IsTapeRequestOf command found (TypeKeys console) = (command ≡ codes "type") × IsConsoleOf found console
-IsTapeRequestOf command found CheckInput = ⊥
-
--- one at a machine is
-abbrev pub IsMachineRequestOf : Text → Found → MachineRequest → Type 0
-IsMachineRequestOf command found (Loads names load) = (command ≡ codes "load") × NamesTapes found names.items × SaysLoad found load
-IsMachineRequestOf command found (Verify names look) = (command ≡ codes "verify") × NamesTapes found names.items × IsLookOf found look
-IsMachineRequestOf command found (Saves save) = (command ≡ codes "save") × IsSaveOf found save
-IsMachineRequestOf command found (Probes probe) = (command ≡ codes "probe") × IsProbeOf found probe
-
--- a request is
-abbrev pub IsRequestOf : Text → Found → Request → Type 0
-IsRequestOf command found (Machine request) = IsMachineRequestOf command found request
-IsRequestOf command found (Makes make) = (command ≡ codes "make") × IsMakeOf found make
-IsRequestOf command found (Tape request) = IsTapeRequestOf command found request

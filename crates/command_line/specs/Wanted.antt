@@ -6,9 +6,9 @@ use Rattle.clap.specs.declared.parser.matches.Found.{Found}
 use Rattle.request_values.specs.declared.request.Request.{Request}
 use Rattle.request_values.specs.declared.request.Request.TheVariants.{Tape, Make, Machine}
 use Rattle.request_values.specs.declared.request.TapeRequest.TheVariants.{CheckInput}
-use Rattle.command_line.specs.Commands.{known_words}
+use Rattle.command_line.specs.Commands.{IsRequestOf, known_words}
 use Rattle.command_line.specs.declared.wanted.Wanted.{Wanted}
-use Rattle.command_line.specs.Options.{IsFlag, IsRequestOf}
+use Rattle.command_line.specs.Options.{IsFlag}
 
 -- a request, and no line in a log
 abbrev pub unlogged : Request → Wanted

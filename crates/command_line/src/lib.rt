@@ -16,7 +16,6 @@ mod parsing;
 mod process_words;
 mod refusals;
 mod shown_words;
-mod texts;
 mod values;
 mod wanted;
 

@@ -3,8 +3,7 @@ ghost use Rattle.std.specs.Prelude.{◌≡◌, ℕ, List, [], IfOk, codes, false
 ghost use Rattle.std.specs.String.{string_bytes};
 ghost use Rattle.clap.specs.Matches.{found_of};
 ghost use Rattle.clap.specs.Simple.{subcommand_of, subcommand_rows_of};
-ghost use Rattle.command_line.specs.Commands.{known_words};
-ghost use Rattle.command_line.specs.Options.{SaysLoad, IsLookOf, IsMachineRequestOf, IsMakeOf, IsRequestOf, IsTapeRequestOf};
+ghost use Rattle.command_line.specs.Commands.{known_words, SaysLoad, IsLookOf, IsMachineRequestOf, IsMakeOf, IsRequestOf, IsTapeRequestOf};
 ghost use Rattle.command_line.specs.Wanted.{IsAskedBy, IsLogOf, IsWantedBy, IsWantedOf, unlogged};
 
 use crate::addresses::{probed_of, range_of, saved_start_of, start_of};

@@ -11,7 +11,7 @@ use Rattle.record_file.specs.declared.disk.Access.TheVariants.{ReadOnly, New, Cr
 use Rattle.std.specs.Bool.{then_some}
 use Rattle.std.specs.Result.{IsErr, IfOk, IfErr}
 use Rattle.record_file.specs.Taking.{made_of, tried, device_of, IsMadeSo}
-use Rattle.record_file.specs.declared.held_file.Opening.{Opening}
+use Rattle.record_file.specs.declared.held_file.OpenTry.{OpenTry}
 use Rattle.record_file.specs.declared.held_file.Try.{Try}
 use Rattle.record_file.specs.declared.held_file.Try.TheVariants as try
 use Rattle.record_file.specs.declared.record_fault.RecordFault.{RecordFault}
@@ -113,18 +113,18 @@ pub not_made_there : (name : List ℕ) (steps : List DiskStep) → IsLookAtName 
     → IsMade name None (Failed (Open New name) ∷ (steps ++ Failed (Open Created name) ∷ []))
 not_made_there name steps SeenThere = LeadsNowhere
 
-pub found_ok : {T : Type 0} (name : List ℕ) (a b c : Option (List DiskStep)) (result : Result (Opening T) RecordFault) → Tells a b (Did (Look name) ∷ [])
+pub found_ok : {T : Type 0} (name : List ℕ) (a b c : Option (List DiskStep)) (result : Result (OpenTry T) RecordFault) → Tells a b (Did (Look name) ∷ [])
     → IfOk result (λ opening. HasAsked b c (IsFound name (made_of opening))) → IfOk result (λ opening. HasAsked a c (IsOpened name (made_of opening)))
 found_ok name a b c (Ok opening) look h = (Did (Look name) ∷ h.0, tells_join a b c (Did (Look name) ∷ []) h.0 look h.1, Found (made_of opening) h.0 h.2)
 found_ok name a b c (Err fault) look h = tt
 
-pub found_err : {T : Type 0} (name : List ℕ) (a b c : Option (List DiskStep)) (result : Result (Opening T) RecordFault) → Tells a b (Did (Look name) ∷ [])
+pub found_err : {T : Type 0} (name : List ℕ) (a b c : Option (List DiskStep)) (result : Result (OpenTry T) RecordFault) → Tells a b (Did (Look name) ∷ [])
     → IfErr result (λ _. HasAsked b c (IsFound name None)) → IfErr result (λ _. HasAsked a c (IsOpened name None))
 found_err name a b c (Ok opening) look h = tt
 found_err name a b c (Err fault) look h = (Did (Look name) ∷ h.0, tells_join a b c (Did (Look name) ∷ []) h.0 look h.1, Found None h.0 h.2)
 
 -- what opening was asked, where it is known what came of it
-pub opening : {T : Type 0} (name : List ℕ) (a b : Option (List DiskStep)) (before after : Opening T) → before ≡ after
+pub opening : {T : Type 0} (name : List ℕ) (a b : Option (List DiskStep)) (before after : OpenTry T) → before ≡ after
     → HasAsked a b (IsOpened name (made_of before)) → HasAsked a b (IsOpened name (made_of after))
 opening name a b before after is h = subst (λ o. HasAsked a b (IsOpened name (made_of o))) is h
 

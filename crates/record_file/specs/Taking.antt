@@ -1,19 +1,19 @@
 -- What came of opening and holding the file of a record.
 use Rattle.std.specs.Prelude.{◌≡◌, ℕ, List, Bool, Option, Some, None, ⊤}
 use Rattle.record_file.specs.declared.held_file.HeldFile.{HeldFile}
-use Rattle.record_file.specs.declared.held_file.Opening.{Opening}
-use Rattle.record_file.specs.declared.held_file.Opening.TheVariants.{Opened}
+use Rattle.record_file.specs.declared.held_file.OpenTry.{OpenTry}
+use Rattle.record_file.specs.declared.held_file.OpenTry.TheVariants.{Opened}
 use Rattle.record_file.specs.declared.held_file.Try.{Try}
 use Rattle.record_file.specs.declared.held_file.Try.TheVariants as try
 use Rattle.record_file.specs.declared.made.Made.{Made}
 
 -- whether a file that was opened was made, where one was
-abbrev pub made_of : {T : Type 0} → Opening T → Option Made
+abbrev pub made_of : {T : Type 0} → OpenTry T → Option Made
 made_of (Opened opened) = Some opened.made
 made_of other = None
 
 -- it was opened under this name
-abbrev pub IsOpenedAs : {T : Type 0} → (T → List ℕ → Type 0) → List ℕ → Opening T → Type 0
+abbrev pub IsOpenedAs : {T : Type 0} → (T → List ℕ → Type 0) → List ℕ → OpenTry T → Type 0
 IsOpenedAs P name (Opened opened) = P opened.file name
 IsOpenedAs P name other = ⊤
 

@@ -34,9 +34,9 @@ pub(crate) struct Opened<T: Drop> {
     writable: bool,
 }
 
-/// What came of opening a record's file.
+/// What came of one try to open a record's file.
 #[derive(Drop)]
-pub(crate) enum Opening<T: Drop> {
+pub(crate) enum OpenTry<T: Drop> {
     Opened(Opened<T>),
 
     /// Somebody made or removed the file at the same time.
@@ -142,9 +142,9 @@ fn try_hold<D: Disk>(disk: &mut D, name: &str) -> Result<Try<D::File>, RecordFau
     ensures failed { IfErr result (λ _. HasAsked (D.asked disk.old) (D.asked disk.new) (IsTry name.now None)) }
 {
     match open(disk, name)? {
-        Opening::Opened(opened) => hold_opened(disk, name, opened),
-        Opening::Changed => Ok(Try::Changed),
-        Opening::Nothing => Ok(Try::Nothing),
+        OpenTry::Opened(opened) => hold_opened(disk, name, opened),
+        OpenTry::Changed => Ok(Try::Changed),
+        OpenTry::Nothing => Ok(Try::Nothing),
     }
 }
 
@@ -244,7 +244,7 @@ fn can_be_read(metadata: &Metadata) -> bool {
 }
 
 // Opens the file of this name, or makes it where there is none. Nothing that can't be read to its end is opened.
-fn open<D: Disk>(disk: &mut D, name: &str) -> Result<Opening<D::File>, RecordFault>
+fn open<D: Disk>(disk: &mut D, name: &str) -> Result<OpenTry<D::File>, RecordFault>
     ensures fault { IfErr result IsUnread }
     ensures asked { IfOk result (λ opening. HasAsked (D.asked disk.old) (D.asked disk.new) (IsOpened name.now (made_of opening))) }
     ensures named { IfOk result (IsOpenedAs D.is_opened_as name.now) }
@@ -258,61 +258,61 @@ fn open<D: Disk>(disk: &mut D, name: &str) -> Result<Opening<D::File>, RecordFau
 }
 
 // Opens a file that was there a moment ago, to be written if it may be.
-fn open_found<D: Disk>(disk: &mut D, name: &str) -> Result<Opening<D::File>, RecordFault>
+fn open_found<D: Disk>(disk: &mut D, name: &str) -> Result<OpenTry<D::File>, RecordFault>
     ensures fault { IfErr result IsUnread }
     ensures asked { IfOk result (λ opening. HasAsked (D.asked disk.old) (D.asked disk.new) (IsFound name.now (made_of opening))) }
     ensures named { IfOk result (IsOpenedAs D.is_opened_as name.now) }
     ensures failed { IfErr result (λ _. HasAsked (D.asked disk.old) (D.asked disk.new) (IsFound name.now None)) }
 {
     if let Ok(file) = disk.open(Access::ReadWrite, name) {
-        return Ok(Opening::Opened(Opened {
+        return Ok(OpenTry::Opened(Opened {
             file,
             made: Made::Before,
             writable: true,
         }));
     }
     match disk.open(Access::ReadOnly, name) {
-        Ok(file) => Ok(Opening::Opened(Opened {
+        Ok(file) => Ok(OpenTry::Opened(Opened {
             file,
             made: Made::Before,
             writable: false,
         })),
-        Err(error) if error.kind() == ErrorKind::NotFound => Ok(Opening::Changed),
+        Err(error) if error.kind() == ErrorKind::NotFound => Ok(OpenTry::Changed),
         Err(_) => Err(RecordFault::Read),
     }
 }
 
 // Makes a file, also where a link leads to, if it can be made.
-fn make<D: Disk>(disk: &mut D, name: &str) -> Opening<D::File>
+fn make<D: Disk>(disk: &mut D, name: &str) -> OpenTry<D::File>
     ensures asked { HasAsked (D.asked disk.old) (D.asked disk.new) (IsMade name.now (made_of result)) }
     ensures named { IsOpenedAs D.is_opened_as name.now result }
 {
     match disk.open(Access::New, name) {
-        Ok(file) => Opening::Opened(Opened {
+        Ok(file) => OpenTry::Opened(Opened {
             file,
             made: Made::Here,
             writable: true,
         }),
         Err(error) if error.kind() == ErrorKind::AlreadyExists => make_behind_link(disk, name),
-        Err(_) => Opening::Nothing,
+        Err(_) => OpenTry::Nothing,
     }
 }
 
 // Makes the file that a link leads to. Where the name is no link, somebody has made the file just now.
-fn make_behind_link<D: Disk>(disk: &mut D, name: &str) -> Opening<D::File>
+fn make_behind_link<D: Disk>(disk: &mut D, name: &str) -> OpenTry<D::File>
     ensures asked { HasAsked (D.asked disk.old) (D.asked disk.new) (λ steps. IsMade name.now (made_of result) (Failed (Open Access.New name.now) ∷ steps)) }
     ensures named { IsOpenedAs D.is_opened_as name.now result }
 {
     if !is_link(disk, name) {
-        return Opening::Changed;
+        return OpenTry::Changed;
     }
     match disk.open(Access::Created, name) {
-        Ok(file) => Opening::Opened(Opened {
+        Ok(file) => OpenTry::Opened(Opened {
             file,
             made: Made::BehindLink,
             writable: true,
         }),
-        Err(_) => Opening::Nothing,
+        Err(_) => OpenTry::Nothing,
     }
 }
 

@@ -288,7 +288,7 @@ class Crates(Case):
         self.assertGreater(named, 50)
 
     def test_promises_are_printed(self):
-        ran = subprocess.run([f"{TOP}/tools/promises", "octal", "load_devices"], capture_output=True, text=True)
+        ran = subprocess.run([f"{TOP}/tools/promises", "octal", "host_devices"], capture_output=True, text=True)
         self.is_so((ran.returncode, ran.stderr), (0, ""))
         self.assertIn("\nfn oct6(word: u16) -> [u8; 6]\n    The octal text of `word`: six ASCII digits, the first `0` or `1`.\n"
                       "    ensures text: result ≡ octal_text word\n    ensures is_octal: IsOct6 word result\n", ran.stdout)

@@ -2,7 +2,7 @@
 use Rattle.std.specs.Prelude.{ℕ, false, List, map, Option, Some, None}
 use Rattle.endings.specs.Held.{Held}
 use Rattle.honest_line.specs.LineTable.{LineValue}
-use Rattle.load_devices.specs.Devices.{LineTold}
+use Rattle.host_devices.specs.Devices.{LineTold}
 use Rattle.load_engine.specs.Lent.{memory_told}
 use Rattle.record_file.specs.DiskStep.{DiskStep}
 use Rattle.requests.specs.Asked.{SystemAsked, asked_of}

@@ -1,7 +1,7 @@
 //! The calls of the library that take memory.
 
 use honest_line::MemoryLine;
-use load_devices::{Keep, Line, MemoryKeep};
+use host_devices::{Keep, Line, MemoryKeep};
 use odt_machine::{LARGEST_WORDS, Odt, PLAIN_STYLE};
 use scarce_memory::{Famine, ROOMS};
 use simulated_system::{NOTHING, ONE_WORD, OVERLAP, PADDED, WRONG_SUM};

@@ -8,7 +8,7 @@ ghost use Rattle.command_tests.specs.ToldSystem.{lines_told};
 
 use console_lines::{Consoles, is_path};
 use honest_line::MemoryLine;
-use load_devices::LineFault;
+use host_devices::LineFault;
 use odt_machine::Odt;
 use simulated_system::LineRequest;
 use std::alloc::Global;

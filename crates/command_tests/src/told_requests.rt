@@ -6,7 +6,7 @@ use crate::told_inputs::ToldInputs;
 use crate::told_system::{ToldSystem, attempt_told};
 use endings::Status;
 use honest_line::MemoryLine;
-use load_devices::Item;
+use host_devices::Item;
 use odt_machine::{LARGEST_WORDS, Odt, PLAIN_STYLE};
 use request_values::{
     AddressRange, Load, LoadOptions, Look, MachineRequest, Probe, Request, Save, TapeRequest,

@@ -1,8 +1,8 @@
 -- What is asked for lines.
 use Rattle.std.proofs.Common.{List, Option, inl, inr}
-use Rattle.load_devices.specs.Told.{Gains}
-use Rattle.load_devices.specs.declared.fault.LineFault.{LineFault}
-use Rattle.load_devices.specs.declared.fault.LineFault.TheVariants.{Connect}
+use Rattle.host_devices.specs.Told.{Gains}
+use Rattle.host_devices.specs.declared.fault.LineFault.{LineFault}
+use Rattle.host_devices.specs.declared.fault.LineFault.TheVariants.{Connect}
 use Rattle.console_lines.specs.Dialling.{Call, LineRequest, asked_until, IsAskedInVain}
 
 -- whatever the fault was

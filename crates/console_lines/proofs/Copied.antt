@@ -6,10 +6,10 @@ use Rattle.std.specs.Io.KnownBytes.{Appends}
 use Rattle.byte_io.specs.Output.{WritesPrefix}
 use Rattle.host_core.specs.declared.heard.Heard.{Heard}
 use Rattle.host_core.specs.declared.heard.Heard.TheVariants.{Got, Quiet}
-use Rattle.load_devices.specs.Dialogue.{characters_of}
-use Rattle.load_devices.specs.Told.{Gains}
-use Rattle.load_devices.specs.declared.item.Item.{Item}
-use Rattle.load_devices.specs.declared.item.Item.TheVariants.{Heard as Came}
+use Rattle.host_devices.specs.Dialogue.{characters_of}
+use Rattle.host_devices.specs.Told.{Gains}
+use Rattle.host_devices.specs.declared.item.Item.{Item}
+use Rattle.host_devices.specs.declared.item.Item.TheVariants.{Heard as Came}
 use Rattle.console_lines.specs.Listening.{Copying, IsCopied, IsCopiedInPart, silences_behind}
 
 characters_of-append : (xs ys : List Heard) → characters_of (xs ++ ys) ≡ characters_of xs ++ characters_of ys

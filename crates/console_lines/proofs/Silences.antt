@@ -1,6 +1,6 @@
 -- How often the time limit is met.
 use Rattle.std.proofs.Common.{◌≡◌, ℕ, ◌+◌, Option, Some, None, Ok, Err, Result, arith}
-use Rattle.load_devices.specs.declared.fault.LineFault.{LineFault}
+use Rattle.host_devices.specs.declared.fault.LineFault.{LineFault}
 use Rattle.console_lines.specs.Hearing.{GoesUpBy, limits_met}
 
 -- so many times, and then so many more

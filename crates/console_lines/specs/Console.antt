@@ -2,7 +2,7 @@
 use Rattle.std.specs.Prelude.{ℕ, List, Option}
 use Rattle.std.specs.declared.io.Write.{Ghosts as Write}
 use Rattle.console_lines.specs.declared.reach.Reach.{Ghosts as Reach}
-use Rattle.load_devices.specs.Devices.{LineTold}
+use Rattle.host_devices.specs.Devices.{LineTold}
 use Rattle.console_lines.specs.Dialling.{Call, LineRequest}
 
 -- what was asked for a line, where that one leads, what the lines tell that were given back, and what the output holds, each where it tells

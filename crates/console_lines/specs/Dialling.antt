@@ -1,8 +1,8 @@
 -- What is asked for a line to a console: of a network, or of a system with serial devices.
 use Rattle.std.specs.Prelude.{◌⊎◌, ℕ, List, [], ◌∷◌, Option, Result, Ok, Err}
-use Rattle.load_devices.specs.Told.{Gains}
-use Rattle.load_devices.specs.declared.fault.LineFault.{LineFault}
-use Rattle.load_devices.specs.declared.fault.LineFault.TheVariants.{Connect}
+use Rattle.host_devices.specs.Told.{Gains}
+use Rattle.host_devices.specs.declared.fault.LineFault.{LineFault}
+use Rattle.host_devices.specs.declared.fault.LineFault.TheVariants.{Connect}
 
 -- a name was dialled, or a serial device was opened, by its path; or the reads of what came of that were limited to a time, in milliseconds
 pub data LineRequest : Type 0 where

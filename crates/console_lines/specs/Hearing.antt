@@ -8,8 +8,8 @@ use Rattle.std.specs.declared.io.ErrorKind.TheVariants.{WouldBlock, TimedOut}
 use Rattle.std.specs.Io.KnownBytes.{Consumes, Appends, Keeps, IsAtEnd}
 use Rattle.host_core.specs.declared.heard.Heard.{Heard}
 use Rattle.host_core.specs.declared.heard.Heard.TheVariants.{Got, Quiet}
-use Rattle.load_devices.specs.declared.fault.LineFault.{LineFault}
-use Rattle.load_devices.specs.declared.fault.LineFault.TheVariants.{Send, Closed, Receive, Noise}
+use Rattle.host_devices.specs.declared.fault.LineFault.{LineFault}
+use Rattle.host_devices.specs.declared.fault.LineFault.TheVariants.{Send, Closed, Receive, Noise}
 
 -- the character that a byte carries: its lower seven bits, since some consoles send a parity bit above them
 abbrev pub character_of : ℕ → ℕ

@@ -3,11 +3,11 @@ use Rattle.std.specs.Prelude.{◌≡◌, ◌⊎◌, ℕ, ◌+◌, ◌-◌, ◌^�
 use Rattle.std.specs.Io.KnownBytes.{Appends}
 use Rattle.host_core.specs.declared.heard.Heard.{Heard}
 use Rattle.host_core.specs.declared.heard.Heard.TheVariants.{Got, Quiet}
-use Rattle.load_devices.specs.Dialogue.{characters_of}
-use Rattle.load_devices.specs.Told.{Gains}
-use Rattle.load_devices.specs.declared.fault.LineFault.{LineFault}
-use Rattle.load_devices.specs.declared.item.Item.{Item}
-use Rattle.load_devices.specs.declared.item.Item.TheVariants.{Heard as Came}
+use Rattle.host_devices.specs.Dialogue.{characters_of}
+use Rattle.host_devices.specs.Told.{Gains}
+use Rattle.host_devices.specs.declared.fault.LineFault.{LineFault}
+use Rattle.host_devices.specs.declared.item.Item.{Item}
+use Rattle.host_devices.specs.declared.item.Item.TheVariants.{Heard as Came}
 
 -- how many silences stand in a row at the end of what was heard, where so many stood before it
 abbrev pub silences_behind : ℕ → List Heard → ℕ

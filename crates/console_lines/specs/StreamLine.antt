@@ -1,7 +1,7 @@
 -- A line over a stream as one value.
 use Rattle.std.specs.Prelude.{◌≡◌, ℕ, Bool, List, Option, Some, None}
-use Rattle.load_devices.specs.declared.fault.LineFault.{LineFault}
-use Rattle.load_devices.specs.Failures.{one_more}
+use Rattle.host_devices.specs.declared.fault.LineFault.{LineFault}
+use Rattle.host_devices.specs.Failures.{one_more}
 
 -- the bytes that are still to come, those that went out, how often the time limit was met and whether the stream is at its end, where
 -- the stream tells; how many calls failed, and how the last did

@@ -1,12 +1,12 @@
 //! The consoles that names stand for.
 ghost use Rattle.std.specs.Prelude.{◌≡◌, [], ◌∷◌, List, Option, None, IfOk, IfErr};
-ghost use Rattle.load_devices.specs.Told.{Gains};
+ghost use Rattle.host_devices.specs.Told.{Gains};
 ghost use Rattle.console_lines.specs.Dialling.{LineRequest, asked_for};
 ghost use Rattle.console_lines.specs.Path.{call_to};
-ghost use Rattle.load_devices.specs.Devices.{LineTold, line_told};
+ghost use Rattle.host_devices.specs.Devices.{LineTold, line_told};
 ghost use Rattle.console_lines.specs.Reached.{IsUnused, IsReachFault};
 
-use load_devices::{Line, LineFault};
+use host_devices::{Line, LineFault};
 
 /// The consoles of a system, each of which is reached by its name.
 pub trait Consoles {

@@ -1,13 +1,13 @@
 //! A line to the console at a serial device.
 ghost use Rattle.std.specs.Prelude.{◌≡◌, ◌⊎◌, IfOk, IfErr};
-ghost use Rattle.load_devices.specs.Told.{Gains};
+ghost use Rattle.host_devices.specs.Told.{Gains};
 ghost use Rattle.console_lines.specs.Dialling.{ToDevice, asked_for};
 ghost use Rattle.console_lines.specs.StreamLine.{IsFreshLine};
 
 use crate::device::Device;
 use crate::outlets::Outlets;
 use crate::stream_line::StreamLine;
-use load_devices::LineFault;
+use host_devices::LineFault;
 use std::time::Clock;
 
 /// A line over a device, with the clock that measures the silences.

@@ -4,7 +4,7 @@ ghost use Rattle.console_lines.specs.Listening.{IsCopiedInPart, IsListening, IsN
 
 use byte_io::{WriteFault, write_and_flush};
 use host_core::Heard;
-use load_devices::Line;
+use host_devices::Line;
 use std::io::Write;
 
 /// Copies what is heard of a line to an output, each character as it comes, until so many silences

@@ -1,7 +1,7 @@
 //! What a system has for lines: a network and serial devices.
 ghost use Rattle.std.specs.Prelude.{◌*◌, ◌≡◌, [], ◌∷◌, List, Option, None, IfOk, ⊤};
 ghost use Rattle.std.specs.Duration.{as_nanos};
-ghost use Rattle.load_devices.specs.Told.{Gains};
+ghost use Rattle.host_devices.specs.Told.{Gains};
 ghost use Rattle.console_lines.specs.DeviceValue.{fresh_device};
 ghost use Rattle.console_lines.specs.Dialling.{LineRequest, Dialled, OpenedDevice, Limited};
 

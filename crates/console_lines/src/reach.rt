@@ -1,10 +1,10 @@
 ghost use Rattle.std.specs.Prelude.{◌≡◌, [], ◌∷◌, List, Option, None, IfOk, IfErr};
-ghost use Rattle.load_devices.specs.Devices.{LineTold, line_told};
+ghost use Rattle.host_devices.specs.Devices.{LineTold, line_told};
 ghost use Rattle.console_lines.specs.Reached.{IsUnused, IsReachFault};
-ghost use Rattle.load_devices.specs.Told.{Gains};
+ghost use Rattle.host_devices.specs.Told.{Gains};
 ghost use Rattle.console_lines.specs.Dialling.{LineRequest, Call, ToDevice, asked_for};
 
-use load_devices::{Line, LineFault};
+use host_devices::{Line, LineFault};
 
 /// A way to a console.
 pub trait Reach {

@@ -3,7 +3,7 @@ ghost use Rattle.std.specs.Io.{ReadsAtMost};
 ghost use Rattle.std.specs.Io.KnownBytes.{ReadConsumes};
 ghost use Rattle.console_lines.specs.Hearing.{GoesUpBy, IsReceipt, IsReceiptFault, limits_met, limits_of};
 
-use load_devices::LineFault;
+use host_devices::LineFault;
 use std::io;
 use std::io::{ErrorKind, Read, Write};
 use std::net::OpenStream;

@@ -1,13 +1,13 @@
 //! The line over a TCP connection.
 ghost use Rattle.std.specs.Prelude.{◌≡◌, ◌⊎◌, IfOk, IfErr};
-ghost use Rattle.load_devices.specs.Told.{Gains};
+ghost use Rattle.host_devices.specs.Told.{Gains};
 ghost use Rattle.console_lines.specs.Dialling.{ToPort, asked_for};
 ghost use Rattle.console_lines.specs.StreamLine.{IsFreshLine};
 
 use crate::outlets::Outlets;
 use crate::receive::TimedStream;
 use crate::stream_line::StreamLine;
-use load_devices::LineFault;
+use host_devices::LineFault;
 
 /// A line over a socket: the console is behind a port of the network.
 pub type SocketLine<S> = StreamLine<S>;

@@ -4,7 +4,7 @@ ghost use Rattle.console_lines.specs.Hearing.{GoesUpBy, IsHearing, IsHearingFaul
 
 use crate::receive::{TimedStream, receive};
 use host_core::Heard;
-use load_devices::LineFault;
+use host_devices::LineFault;
 
 // How many characters one hearing drops. A console pads with a few of them; a line that sends
 // nothing else is no console's.

@@ -1,12 +1,12 @@
 ghost use Rattle.std.specs.Prelude.{◌≡◌, [], ◌∷◌, true, None, IfOk, IfErr, OnOk, Err};
 ghost use Rattle.std.specs.Io.KnownBytes.{Appends};
-ghost use Rattle.load_devices.specs.Failures.{count_after, fault_of};
+ghost use Rattle.host_devices.specs.Failures.{count_after, fault_of};
 ghost use Rattle.console_lines.specs.Hearing.{GoesUpBy, IsCharacter, IsHearing, IsHearingFault, IsSentInPart, silences_of};
 
 use crate::receive::TimedStream;
 use crate::stream::hear_from;
 use host_core::Heard;
-use load_devices::{Line, LineFault};
+use host_devices::{Line, LineFault};
 use std::io::Write;
 use std::marker::Model;
 use std::time::Duration;

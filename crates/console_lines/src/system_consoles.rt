@@ -7,7 +7,7 @@ use crate::device_line::{DeviceLine, open_line};
 use crate::outlets::Outlets;
 use crate::socket::SocketLine;
 use host_core::Heard;
-use load_devices::{Line, LineFault};
+use host_devices::{Line, LineFault};
 use std::time::Clock;
 
 /// The consoles of a real system: behind the ports of its network, and at its serial devices.

@@ -4,7 +4,7 @@ ghost use Rattle.console_lines.specs.Path.{call_to};
 
 use crate::consoles::Consoles;
 use crate::reach::Reach;
-use load_devices::LineFault;
+use host_devices::LineFault;
 
 /// The way to one console of a system, by its name, with the quiet time of its line in milliseconds: nothing more
 /// is coming once so long nothing came.

@@ -1,6 +1,6 @@
 -- What a call for a line asks for.
 use Rattle.std.specs.Prelude.{List, Option, Some, None}
-use Rattle.load_devices.specs.declared.fault.LineFault.{LineFault}
+use Rattle.host_devices.specs.declared.fault.LineFault.{LineFault}
 use Rattle.console_lines.specs.Dialling.{Call, LineRequest, asked_once, asked_until}
 
 -- what a call that came to a line, or to a fault, asked for

@@ -4,7 +4,7 @@
 use crate::terminals::{Bench, DAWN, HOUR, PATH, Pace, Scripted, Turn};
 use console_lines::{Device, DeviceLine, Devices, open_line, open_terminal};
 use host_core::Heard;
-use load_devices::{Line, LineFault};
+use host_devices::{Line, LineFault};
 use std::io::ErrorKind;
 use std::net::{Net, OpenStream};
 use std::time::{Clock, Duration};

@@ -4,7 +4,7 @@
 use crate::brittle_writer::Brittle;
 use crate::plans::{one_word, two_words};
 use host_core::Progress;
-use load_devices::{Keep, KeepFault};
+use host_devices::{Keep, KeepFault};
 use load_record::{FileKeep, RecordError, read_record};
 use std::alloc::Global;
 use std::fmt::Display;

@@ -6,7 +6,7 @@ use crate::terminals::{Bench, PATH, Pace, Turn};
 use console_lines::{
     Consoles, Devices, StreamLine, SystemConsoles, is_path, listen, silences_within,
 };
-use load_devices::{Line, LineFault};
+use host_devices::{Line, LineFault};
 use std::alloc::Global;
 use std::cell::Cell;
 use std::io::ErrorKind;

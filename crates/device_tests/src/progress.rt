@@ -1,8 +1,8 @@
 //! What a person sees of a load and at what pace: over a clock that stands where it is set, or has no time.
 
 use host_core::Heard;
-use load_devices::{Onlooker, Sight};
-use load_progress::{KeptIn, ProgressLine, Showing};
+use host_devices::{Onlooker, Sight};
+use progress_display::{KeptIn, ProgressLine, Showing};
 use std::alloc::Global;
 use std::cell::{Cell, RefCell};
 use std::fmt::Display;

@@ -3,7 +3,7 @@
 use crate::streams::{Faulty, Notes, TwoAddresses};
 use console_lines::SocketLine;
 use host_core::Heard;
-use load_devices::{Line, LineFault};
+use host_devices::{Line, LineFault};
 use std::io::{ErrorKind, Read, Write};
 use std::net::{SocketAddr, TcpListener, TcpStream};
 use std::time::Duration;

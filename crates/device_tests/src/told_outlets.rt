@@ -7,7 +7,7 @@ ghost use Rattle.simulated_system.specs.LineRequests.{asked_by, request};
 
 use crate::terminals::{Bench, PATH, Pace, Scripted};
 use console_lines::{Consoles, Device, Outlets, SystemConsoles, open_terminal};
-use load_devices::LineFault;
+use host_devices::LineFault;
 use simulated_system::LineRequest;
 use std::alloc::Global;
 use std::io;

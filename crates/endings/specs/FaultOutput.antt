@@ -3,7 +3,7 @@ use Rattle.std.specs.Prelude.{◌≡◌, ◌⊎◌, ℕ, zero, suc, List, Option
 use Rattle.std.specs.Io.KnownBytes.{Appends}
 use Rattle.std.specs.declared.io.Error.{Error}
 use Rattle.byte_io.specs.Output.{WritesProperPrefix}
-use Rattle.load_devices.specs.Failures.{one_more}
+use Rattle.host_devices.specs.Failures.{one_more}
 
 -- what standard error holds, and how many writes failed there, each where its type tells
 pub record StandardError : Type 0 where

@@ -1,7 +1,7 @@
 -- How a line failed, as a person is told.
 use Rattle.std.specs.Prelude.{ℕ, List, codes}
-use Rattle.load_devices.specs.declared.fault.LineFault.{LineFault}
-use Rattle.load_devices.specs.declared.fault.LineFault.TheVariants.{Connect, Send, Closed, Receive, Full, Noise}
+use Rattle.host_devices.specs.declared.fault.LineFault.{LineFault}
+use Rattle.host_devices.specs.declared.fault.LineFault.TheVariants.{Connect, Send, Closed, Receive, Full, Noise}
 
 -- that the line failed, and on a line of its own how, and what to look at
 abbrev pub line_failed : LineFault → List ℕ

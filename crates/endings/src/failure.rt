@@ -1,7 +1,7 @@
 use crate::place::Place;
 use crate::status::Status;
 use command_io::CommandFault;
-use load_devices::LineFault;
+use host_devices::LineFault;
 use load_record::RecordError;
 use tape_blocks::Fault;
 use tape_making::Refusal;

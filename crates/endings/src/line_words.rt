@@ -9,7 +9,7 @@ ghost use Rattle.tape_making.specs.Refusal.{refusal_text};
 use crate::failure::Failure;
 use arrayvec::ArrayVec;
 use byte_io::{push_bytes, push_decimal};
-use load_devices::LineFault;
+use host_devices::LineFault;
 use load_record::RecordError;
 use tape_blocks::{Fault, OUT_OF_MEMORY, REFUSED_AT, TAPE};
 use tape_making::{REFUSED_WORDS, Refusal};

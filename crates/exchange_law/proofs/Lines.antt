@@ -4,8 +4,8 @@ use Rattle.std.specs.List.{remove}
 use Rattle.std.proofs.lemmas.List.Edits.{remove-append_left}
 use Rattle.tape_image.specs.Memory.{top_of}
 use Rattle.odt_machine.specs.Machine.{Machine}
-use Rattle.load_devices.specs.declared.item.Item.{Item}
-use Rattle.load_devices.specs.declared.item.Item.TheVariants.{Sent, Heard as Came}
+use Rattle.host_devices.specs.declared.item.Item.{Item}
+use Rattle.host_devices.specs.declared.item.Item.TheVariants.{Sent, Heard as Came}
 use Rattle.exchange_law.specs.Station.{Program, Meets, IsHaltText, Each, running}
 use Rattle.exchange_law.specs.Line.{Link as Line, Takes as StationTakes, Moves as LineMoves, MovesTimes, MovesOn, sent, Passes}
 use Rattle.exchange_core.specs.declared.stretch.Stretch.{Stretch}

@@ -17,8 +17,8 @@ use Rattle.line_world.specs.Wire.{Wire, heard, sent}
 use Rattle.line_world.specs.World.{host_hears, times_out}
 use Rattle.line_world.specs.Invariant.{IsKept, OneWay, RunsWith}
 use Rattle.line_world.proofs.Events.{kept_event, kept_events}
-use Rattle.load_devices.specs.declared.item.Item.{Item}
-use Rattle.load_devices.specs.Dialogue.{dialogue, said}
+use Rattle.host_devices.specs.declared.item.Item.{Item}
+use Rattle.host_devices.specs.Dialogue.{dialogue, said}
 use Rattle.honest_line.specs.Moves.{Gives as Gives', Moves as Moves', MovesOn as MovesOn', Passes as Crosses}
 use Rattle.honest_line.proofs.Wires.{none_moves, one_first}
 use Rattle.honest_line.proofs.Runs.{Leads, dialogue_leads}

@@ -38,7 +38,7 @@ use Rattle.line_world.proofs.Events.{kept_events, safe_events}
 use Rattle.line_world.proofs.Starts.{starts_events}
 use Rattle.line_world.proofs.Tame.{tame_of}
 use Rattle.exchange_core.proofs.Steps.{not_below}
-use Rattle.load_devices.specs.Dialogue.{dialogue}
+use Rattle.host_devices.specs.Dialogue.{dialogue}
 use Rattle.honest_line.proofs.Runs.{Leads, dialogue_leads}
 use Rattle.honest_line.proofs.Trusted.{keys_of-dialogue}
 use Rattle.exchange_core.specs.Chunk.{is_nibble}

@@ -9,8 +9,8 @@ use Rattle.odt_machine.specs.Machine.{IsMachine}
 use Rattle.odt_machine.specs.declared.mode.Mode.TheVariants.{Prompt}
 use Rattle.host_core.specs.declared.heard.Heard.{Heard}
 use Rattle.line_world.specs.Safe.{FirstStand}
-use Rattle.load_devices.specs.declared.item.Item.{Item}
-use Rattle.load_devices.specs.declared.item.Item.TheVariants.{Heard as Came, Sent}
+use Rattle.host_devices.specs.declared.item.Item.{Item}
+use Rattle.host_devices.specs.declared.item.Item.TheVariants.{Heard as Came, Sent}
 use Rattle.exchange_core.specs.declared.chunk.Chunk.{Chunk}
 use Rattle.exchange_core.specs.declared.exchange.Exchange.{Exchange}
 use Rattle.exchange_core.specs.declared.phase.End.TheVariants.{Complete}

@@ -5,7 +5,7 @@ use Rattle.host_core.specs.declared.heard.Heard.{Heard}
 use Rattle.host_core.specs.Core.{Core}
 use Rattle.host_core.specs.Host.{IsHost}
 use Rattle.line_world.specs.Wire.{Wire, most_waiting}
-use Rattle.load_devices.specs.Dialogue.{dialogue}
+use Rattle.host_devices.specs.Dialogue.{dialogue}
 use Rattle.honest_line.specs.Honest.{IsHonest}
 use Rattle.honest_line.specs.Trust.{MayBegin}
 use Rattle.exchange_law.specs.Line.{Link, Passes}

@@ -17,7 +17,7 @@ use Rattle.line_world.specs.Invariant.{IsKept}
 use Rattle.line_world.specs.Promises.{EndsAtGo, HasCause}
 use Rattle.line_world.specs.Safe.{FirstStand}
 use Rattle.line_world.specs.Scene.{over}
-use Rattle.load_devices.specs.Dialogue.{dialogue, keys_of}
+use Rattle.host_devices.specs.Dialogue.{dialogue, keys_of}
 use Rattle.exchange_law.specs.Line.{Link, Passes}
 use Rattle.exchange_law.specs.Station.{Program, fresh}
 use Rattle.exchange_law.specs.Unsettled.{IsUnsettled}

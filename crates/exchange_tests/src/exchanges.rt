@@ -6,7 +6,7 @@ use crate::station::{StationLine, Upset};
 use crate::tapes::{block_of, plan_of};
 use exchange_core::{Chunk, End, Exchange, chunks_of};
 use host_core::Heard;
-use load_devices::{Item, KeepFault, Kept, LineFault, MemoryKeep, Unwatched};
+use host_devices::{Item, KeepFault, Kept, LineFault, MemoryKeep, Unwatched};
 use std::alloc::Global;
 use std::process::Abort;
 use stub_engine::{ExchangeStop, exchange};

@@ -1,10 +1,10 @@
 //! A station in memory, on which a stub runs that takes two chunks of two bytes. It tells what was said.
 
 ghost use Rattle.std.specs.Prelude.{◌≡◌, ◌∷◌, ◌++◌, [], OnOk, OnErr};
-ghost use Rattle.load_devices.specs.Failures.{count_after, fault_of};
+ghost use Rattle.host_devices.specs.Failures.{count_after, fault_of};
 
 use host_core::Heard;
-use load_devices::{Item, Line, LineFault};
+use host_devices::{Item, Line, LineFault};
 use std::alloc::Global;
 
 /// What goes wrong on the line or at the station, if anything. Keys, answers, hears and calls are counted

@@ -1,8 +1,8 @@
 -- Calls on a line in memory, one after another.
 use Rattle.std.proofs.Common.{◌≡◌, ◌+◌, Bool, true, false, ℕ, [], ◌∷◌, ◌++◌, Option, Some, None, refl, ap, sym, ◌∙◌, append-nil, append_assoc}
-use Rattle.load_devices.specs.declared.fault.LineFault.{LineFault}
-use Rattle.load_devices.specs.declared.item.Item.{Item}
-use Rattle.load_devices.specs.declared.item.Item.TheVariants.{Sent, Heard as Came}
+use Rattle.host_devices.specs.declared.fault.LineFault.{LineFault}
+use Rattle.host_devices.specs.declared.item.Item.{Item}
+use Rattle.host_devices.specs.declared.item.Item.TheVariants.{Sent, Heard as Came}
 use Rattle.honest_line.specs.Honest.{resting}
 use Rattle.honest_line.specs.Lent.{HasMovedOn}
 use Rattle.honest_line.specs.LineTable.{LineValue, called, delivered, with_sent, with_heard, sent_or_not, heard_or_not, first_heard}

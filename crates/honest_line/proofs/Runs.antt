@@ -13,8 +13,8 @@ use Rattle.line_world.specs.declared.event.Event.TheVariants.{Take, Hear, LoseDo
 use Rattle.line_world.specs.Scene.{Scene, over}
 use Rattle.line_world.specs.Wire.{Wire, with_answer, without_down, without_up, heard, sent}
 use Rattle.line_world.specs.World.{takes, host_hears, times_out, happens, after, typed_hearing, typed_timeout, typed_in, typed}
-use Rattle.load_devices.specs.declared.item.Item.{Item}
-use Rattle.load_devices.specs.Dialogue.{said, dialogue}
+use Rattle.host_devices.specs.declared.item.Item.{Item}
+use Rattle.host_devices.specs.Dialogue.{said, dialogue}
 use Rattle.honest_line.specs.Moves.{Moves, MovesTimes, MovesOn, Gives, Passes}
 
 -- some events lead from one world to another, and these keys are typed in them

@@ -33,9 +33,9 @@ use Rattle.line_world.specs.Invariant.{IsKept, InPhase}
 use Rattle.line_world.specs.Site.{Site, site, Ground, ground}
 use Rattle.line_world.proofs.Frame.{scene}
 use Rattle.line_world.proofs.Events.{kept_event, lost_if}
-use Rattle.load_devices.specs.declared.item.Item.{Item}
-use Rattle.load_devices.specs.declared.item.Item.TheVariants.{Sent}
-use Rattle.load_devices.specs.Dialogue.{dialogue, keys_of}
+use Rattle.host_devices.specs.declared.item.Item.{Item}
+use Rattle.host_devices.specs.declared.item.Item.TheVariants.{Sent}
+use Rattle.host_devices.specs.Dialogue.{dialogue, keys_of}
 use Rattle.honest_line.specs.Honest.{resting, IsHonest}
 use Rattle.honest_line.specs.Moves.{Passes}
 use Rattle.honest_line.specs.Starts.{RunsByGo, StartedRuns, TellsStart}

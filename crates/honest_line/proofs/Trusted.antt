@@ -19,9 +19,9 @@ use Rattle.line_world.proofs.Opening.{opening_kept}
 use Rattle.line_world.proofs.Events.{kept_events, safe_events}
 use Rattle.line_world.proofs.Starts.{starts_events}
 use Rattle.line_world.proofs.Tame.{tame_of}
-use Rattle.load_devices.specs.declared.item.Item.{Item}
-use Rattle.load_devices.specs.declared.item.Item.TheVariants.{Sent, Heard as Came}
-use Rattle.load_devices.specs.Dialogue.{said, dialogue, keys_of}
+use Rattle.host_devices.specs.declared.item.Item.{Item}
+use Rattle.host_devices.specs.declared.item.Item.TheVariants.{Sent, Heard as Came}
+use Rattle.host_devices.specs.Dialogue.{said, dialogue, keys_of}
 use Rattle.honest_line.specs.Moves.{Passes}
 use Rattle.honest_line.specs.Honest.{resting}
 use Rattle.honest_line.specs.Trust.{MayBegin, IsTrusted, IsTrustworthy}

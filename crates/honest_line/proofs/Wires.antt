@@ -5,8 +5,8 @@ use Rattle.std.proofs.lemmas.List.Edits.{remove-append_left}
 use Rattle.host_core.specs.declared.heard.Heard.{Heard}
 use Rattle.host_core.specs.declared.heard.Heard.TheVariants.{Got, Quiet}
 use Rattle.line_world.specs.Wire.{Wire, sent}
-use Rattle.load_devices.specs.declared.item.Item.{Item}
-use Rattle.load_devices.specs.declared.item.Item.TheVariants.{Sent, Heard as Came}
+use Rattle.host_devices.specs.declared.item.Item.{Item}
+use Rattle.host_devices.specs.declared.item.Item.TheVariants.{Sent, Heard as Came}
 use Rattle.honest_line.specs.Moves.{Moves, MovesTimes, MovesOn, Gives, Passes}
 use Rattle.honest_line.specs.Honest.{resting, MovesJoin, MovedIsHonest}
 

@@ -2,7 +2,7 @@
 use Rattle.std.specs.Prelude.{◌≡◌, ℕ, ◌+◌, ◌≤◌, List, [], ◌++◌, length}
 use Rattle.odt_machine.specs.Machine.{Machine}
 use Rattle.line_world.specs.Wire.{Wire, most_waiting}
-use Rattle.load_devices.specs.declared.item.Item.{Item}
+use Rattle.host_devices.specs.declared.item.Item.{Item}
 use Rattle.honest_line.specs.Moves.{Passes}
 
 -- a line at rest: no key is under way; so many characters were lost so far

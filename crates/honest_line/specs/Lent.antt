@@ -1,7 +1,7 @@
 -- What was said on a line in memory since it was lent.
 use Rattle.std.specs.Prelude.{◌≡◌, ℕ, List, [], ◌++◌, false, None}
 use Rattle.odt_machine.specs.declared.mode.Mode.TheVariants.{Prompt}
-use Rattle.load_devices.specs.declared.item.Item.{Item}
+use Rattle.host_devices.specs.declared.item.Item.{Item}
 use Rattle.honest_line.specs.Honest.{Moved}
 use Rattle.honest_line.specs.LineTable.{LineValue, quiet_line}
 

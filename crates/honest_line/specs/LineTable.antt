@@ -6,12 +6,12 @@ use Rattle.odt_machine.specs.Machine.{Machine}
 use Rattle.odt_machine.specs.KeyTable.{take_of, after_key}
 use Rattle.host_core.specs.declared.heard.Heard.{Heard}
 use Rattle.host_core.specs.declared.heard.Heard.TheVariants.{Got, Quiet}
-use Rattle.load_devices.specs.declared.fault.LineFault.{LineFault}
-use Rattle.load_devices.specs.declared.fault.LineFault.TheVariants.{Send, Receive, Full}
-use Rattle.load_devices.specs.declared.item.Item.{Item}
-use Rattle.load_devices.specs.declared.item.Item.TheVariants.{Sent, Heard as Came}
-use Rattle.load_devices.specs.Failures.{one_more}
-use Rattle.load_devices.specs.KeepTable.{is_failing}
+use Rattle.host_devices.specs.declared.fault.LineFault.{LineFault}
+use Rattle.host_devices.specs.declared.fault.LineFault.TheVariants.{Send, Receive, Full}
+use Rattle.host_devices.specs.declared.item.Item.{Item}
+use Rattle.host_devices.specs.declared.item.Item.TheVariants.{Sent, Heard as Came}
+use Rattle.host_devices.specs.Failures.{one_more}
+use Rattle.host_devices.specs.KeepTable.{is_failing}
 use Rattle.honest_line.specs.declared.loss.Loss.{Loss}
 use Rattle.honest_line.specs.declared.loss.Loss.TheVariants.{Down, Up}
 

@@ -4,8 +4,8 @@ use Rattle.odt_machine.specs.KeyTable.{take_of}
 use Rattle.host_core.specs.declared.heard.Heard.{Heard}
 use Rattle.host_core.specs.declared.heard.Heard.TheVariants.{Got, Quiet}
 use Rattle.line_world.specs.Wire.{Wire, with_answer, without_down, without_up, heard, sent}
-use Rattle.load_devices.specs.declared.item.Item.{Item}
-use Rattle.load_devices.specs.declared.item.Item.TheVariants.{Sent, Heard as Came}
+use Rattle.host_devices.specs.declared.item.Item.{Item}
+use Rattle.host_devices.specs.declared.item.Item.TheVariants.{Sent, Heard as Came}
 
 -- the machine takes the first key under way, and answers
 abbrev pub Takes : Wire → Wire → Type 0

@@ -1,7 +1,7 @@
 -- What calls on a line in memory say of it, by the moves of a line alone.
 use Rattle.std.specs.Prelude.{◌≡◌, ℕ, [], ◌∷◌}
 use Rattle.odt_machine.specs.Machine.{Machine}
-use Rattle.load_devices.specs.declared.item.Item.{Item}
+use Rattle.host_devices.specs.declared.item.Item.{Item}
 use Rattle.honest_line.specs.Honest.{Moved, IsHonest}
 use Rattle.honest_line.specs.LineTable.{LineValue}
 

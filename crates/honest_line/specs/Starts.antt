@@ -6,8 +6,8 @@ use Rattle.host_core.specs.declared.phase.End.TheVariants.{Started}
 use Rattle.host_core.specs.declared.phase.Phase.TheVariants.{Ended}
 use Rattle.host_core.specs.Console.{go}
 use Rattle.host_core.specs.Core.{Core}
-use Rattle.load_devices.specs.declared.item.Item.{Item}
-use Rattle.load_devices.specs.Dialogue.{keys_of}
+use Rattle.host_devices.specs.declared.item.Item.{Item}
+use Rattle.host_devices.specs.Dialogue.{keys_of}
 use Rattle.honest_line.specs.Honest.{IsHonest}
 use Rattle.honest_line.specs.Trust.{MayBegin}
 

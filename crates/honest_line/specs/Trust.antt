@@ -9,9 +9,9 @@ use Rattle.host_core.specs.Host.{IsHost}
 use Rattle.host_core.specs.Laws.{led}
 use Rattle.line_world.specs.Safe.{FirstStand, IsSafe}
 use Rattle.line_world.specs.Promises.{HasCause, EndsAtGo}
-use Rattle.load_devices.specs.Dialogue.{dialogue, keys_of}
-use Rattle.load_devices.specs.declared.item.Item.{Item}
-use Rattle.load_devices.specs.declared.item.Item.TheVariants.{Sent}
+use Rattle.host_devices.specs.Dialogue.{dialogue, keys_of}
+use Rattle.host_devices.specs.declared.item.Item.{Item}
+use Rattle.host_devices.specs.declared.item.Item.TheVariants.{Sent}
 use Rattle.honest_line.specs.Honest.{IsHonest}
 
 -- a life may begin over this machine: the host is at its beginning and has no mark, no program runs, and the words that count as verified are there and stand

@@ -3,7 +3,7 @@ ghost use Rattle.honest_line.specs.Lent.{HasMovedOn};
 
 use crate::memory_line::MemoryLine;
 use host_core::Heard;
-use load_devices::{Line, LineFault};
+use host_devices::{Line, LineFault};
 use std::marker::{Brand, Model, PhantomData};
 
 /// A name for a line in memory as it was lent, which only proofs read.

@@ -2,7 +2,7 @@ ghost use Rattle.std.specs.Prelude.{◌≡◌, ◌+◌, ◌*◌, ◌^◌, ◌<�
 ghost use Rattle.std.specs.List.{list_any};
 ghost use Rattle.odt_machine.specs.Answer.{longest_answer};
 ghost use Rattle.odt_machine.specs.Machine.{Machine};
-ghost use Rattle.load_devices.specs.Failures.{fault_of};
+ghost use Rattle.host_devices.specs.Failures.{fault_of};
 ghost use Rattle.honest_line.specs.LineTable.{is_key, is_answer, let_through, called, with_key, with_sent, with_heard, first_heard};
 ghost use Rattle.honest_line.specs.LineTable.{call_refusal, send_refusal, hear_refusal, after_send, after_hear, quiet_line, most_before_key, waiting_room};
 ghost use Rattle.honest_line.specs.Reached.{HasMoved, IsUnmoved, IsReached, IsHonestFrom};
@@ -10,7 +10,7 @@ ghost use Rattle.honest_line.specs.Reached.{HasMoved, IsUnmoved, IsReached, IsHo
 use crate::loss::Loss;
 use arrayvec::ArrayVec;
 use host_core::Heard;
-use load_devices::{Item, Line, LineFault};
+use host_devices::{Item, Line, LineFault};
 use odt_machine::Odt;
 use std::alloc::Global;
 use std::marker::Model;

@@ -1,7 +1,7 @@
 -- Tapes on standard input and in files.
 use Rattle.std.proofs.Common.{◌≡◌, ◌∙◌, List, [], Option, Some, map, length, true, false, if◌then◌else◌, inl, inr, sym, subst, append-nil}
 use Rattle.std.proofs.lemmas.List.{length-map}
-use Rattle.load_devices.proofs.Told.{tells_none}
+use Rattle.host_devices.proofs.Told.{tells_none}
 use Rattle.endings.specs.declared.failure.Failure.{Failure}
 use Rattle.endings.specs.declared.failure.Failure.TheVariants.{NoMemory}
 use Rattle.endings.specs.Held.{Held}

@@ -6,9 +6,9 @@ use Rattle.std.specs.Bool.{OnTrue}
 use Rattle.std.specs.List.{remove}
 use Rattle.std.specs.Prelude.{OnOk, OnErr}
 use Rattle.std.specs.Result.{IfOk, IfErr, IsErr, IsErrAnd}
-use Rattle.load_devices.specs.Failures.{fault_of}
-use Rattle.load_devices.proofs.Told.{tells_join, tells_none}
-use Rattle.load_devices.specs.Told.{Tells}
+use Rattle.host_devices.specs.Failures.{fault_of}
+use Rattle.host_devices.proofs.Told.{tells_join, tells_none}
+use Rattle.host_devices.specs.Told.{Tells}
 use Rattle.endings.specs.declared.failure.Failure.{Failure}
 use Rattle.endings.specs.declared.failure.Failure.TheVariants.{CannotRead, NoMemory}
 use Rattle.input_files.specs.Opening.{Name, InputStep, NotOpened, opening, HasOpened, IsTried, Once, Again, AreTried, AllOpen, Opens, Shut, NoRoom, NoRoomToRetry, IsUnbuffered}

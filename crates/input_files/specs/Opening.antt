@@ -1,7 +1,7 @@
 -- The files that are opened by their names, in an order.
 use Rattle.std.specs.Prelude.{◌≡◌, ℕ, Bool, true, false, List, [], ◌∷◌, ◌++◌, Option, Some, None}
 use Rattle.std.specs.Borrow.{Bor}
-use Rattle.load_devices.specs.Told.{HasAsked}
+use Rattle.host_devices.specs.Told.{HasAsked}
 use Rattle.endings.specs.declared.failure.Failure.{Failure}
 use Rattle.endings.specs.declared.failure.Failure.TheVariants.{CannotRead, NoMemory}
 

@@ -1,8 +1,8 @@
 //! Opening files in the order of their names.
 ghost use Rattle.std.specs.Prelude.{◌≡◌, ◌+◌, ◌∷◌, [], length, true, false, is_ok, IfOk, IfErr, OnOk, OnErr};
 ghost use Rattle.std.specs.Bool.{OnTrue};
-ghost use Rattle.load_devices.specs.Failures.{fault_of};
-ghost use Rattle.load_devices.specs.Told.{Tells};
+ghost use Rattle.host_devices.specs.Failures.{fault_of};
+ghost use Rattle.host_devices.specs.Told.{Tells};
 ghost use Rattle.input_files.specs.Opening.{HasOpened, NotOpened, IsTried, AreTried, IsUnbuffered};
 
 use crate::source::{Role, Source};

@@ -1,6 +1,6 @@
 //! The files of a system, opened by their names.
 ghost use Rattle.std.specs.Prelude.{[], ◌∷◌, List, Option, None, is_ok};
-ghost use Rattle.load_devices.specs.Told.{Tells};
+ghost use Rattle.host_devices.specs.Told.{Tells};
 ghost use Rattle.input_files.specs.Opening.{InputStep, opening};
 
 use std::io::Read;

@@ -11,9 +11,9 @@ use Rattle.host_core.specs.Laws.{led}
 use Rattle.host_core.specs.PhaseTable.{move}
 use Rattle.honest_line.specs.Invariant.{EndIsPaid}
 use Rattle.honest_line.specs.Promises.{HasCause}
-use Rattle.load_devices.specs.declared.item.Item.{Item}
-use Rattle.load_devices.specs.declared.item.Item.TheVariants.{Sent, Heard as Came}
-use Rattle.load_devices.specs.Dialogue.{LacksKey, said, dialogue, heard_of}
+use Rattle.host_devices.specs.declared.item.Item.{Item}
+use Rattle.host_devices.specs.declared.item.Item.TheVariants.{Sent, Heard as Came}
+use Rattle.host_devices.specs.Dialogue.{LacksKey, said, dialogue, heard_of}
 use Rattle.honest_line.specs.Starts.{TellsStart}
 use Rattle.honest_line.specs.Trust.{IsTrustworthy}
 use Rattle.honest_line.proofs.Started.{tells_start, tells_start_unsaid}

@@ -4,8 +4,8 @@ use Rattle.host_core.specs.Core.{Core}
 use Rattle.host_core.specs.Host.{IsHost}
 use Rattle.host_core.proofs.Lives.{led_plan, led_patience}
 use Rattle.host_core.proofs.Turns.{within_bound}
-use Rattle.load_devices.specs.Devices.{Devices}
-use Rattle.load_devices.specs.Failures.{CountsFault, IsLastFault}
+use Rattle.host_devices.specs.Devices.{Devices}
+use Rattle.host_devices.specs.Failures.{CountsFault, IsLastFault}
 use Rattle.load_engine.specs.declared.stop.Stop.{Stop}
 use Rattle.load_engine.specs.declared.stop.Stop.TheVariants.{Ended, LineFailed, KeepFailed, TurnsOver}
 use Rattle.load_engine.specs.Driven.{IsDriven}

@@ -2,11 +2,11 @@
 use Rattle.std.proofs.Common.{◌≡◌, List, [], ◌∷◌, ◌++◌, Option, Some, None, refl, ap, sym, subst, ◌∙◌, append_assoc}
 use Rattle.std.specs.Prelude.{option_to_list}
 use Rattle.host_core.specs.Core.{Core}
-use Rattle.load_devices.specs.declared.fault.KeepFault.{KeepFault}
-use Rattle.load_devices.specs.declared.item.Kept.{Kept}
-use Rattle.load_devices.specs.Devices.{KeeperCalls}
-use Rattle.load_devices.specs.Dialogue.{news_between}
-use Rattle.load_devices.specs.Failures.{CountsFault}
+use Rattle.host_devices.specs.declared.fault.KeepFault.{KeepFault}
+use Rattle.host_devices.specs.declared.item.Kept.{Kept}
+use Rattle.host_devices.specs.Devices.{KeeperCalls}
+use Rattle.host_devices.specs.Dialogue.{news_between}
+use Rattle.host_devices.specs.Failures.{CountsFault}
 use Rattle.load_engine.specs.declared.stop.Stop.{Stop}
 use Rattle.load_engine.specs.Driven.{IsKeptBy, turns_give}
 use Rattle.load_engine.specs.Failing.{keep_fault}

@@ -1,7 +1,7 @@
 -- What a load over a line in memory says.
 use Rattle.std.proofs.Common.{ℕ, ◌≤◌, List, length, Option, Some, None, refl, ap}
 use Rattle.host_core.specs.Core.{Core}
-use Rattle.load_devices.specs.declared.item.Item.{Item}
+use Rattle.host_devices.specs.declared.item.Item.{Item}
 use Rattle.honest_line.specs.Honest.{IsHonest}
 use Rattle.honest_line.specs.Lent.{Passed}
 use Rattle.honest_line.specs.LineTable.{LineValue}

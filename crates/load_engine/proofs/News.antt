@@ -19,9 +19,9 @@ use Rattle.host_core.specs.Steps.{IsVerifying, IsMarking}
 use Rattle.host_core.specs.PhaseTable.{move, listens, sends, taken, turn_of, after_words}
 use Rattle.host_core.proofs.Frame.{on_test, on_move, moved, silent}
 use Rattle.host_core.proofs.Turns.{kept}
-use Rattle.load_devices.specs.declared.item.Kept.{Kept}
-use Rattle.load_devices.specs.declared.item.Kept.TheVariants.{Word, Go}
-use Rattle.load_devices.specs.Dialogue.{mark_between, news_between}
+use Rattle.host_devices.specs.declared.item.Kept.{Kept}
+use Rattle.host_devices.specs.declared.item.Kept.TheVariants.{Word, Go}
+use Rattle.host_devices.specs.Dialogue.{mark_between, news_between}
 
 -- ---- a core goes forward
 

@@ -10,13 +10,13 @@ use Rattle.host_core.specs.Core.{Core}
 use Rattle.host_core.specs.Host.{IsHost}
 use Rattle.host_core.specs.Laws.{led}
 use Rattle.host_core.specs.PhaseTable.{move}
-use Rattle.load_devices.specs.declared.item.Item.{Item}
-use Rattle.load_devices.specs.declared.item.Item.TheVariants.{Sent, Heard as Came}
-use Rattle.load_devices.specs.declared.item.Kept.{Kept}
-use Rattle.load_devices.specs.declared.item.Kept.TheVariants.{Go}
-use Rattle.load_devices.specs.Dialogue.{said, dialogue, keys_of, news_between}
-use Rattle.load_devices.specs.Told.{Gains}
-use Rattle.load_devices.proofs.Told.{gains_join, gains_none}
+use Rattle.host_devices.specs.declared.item.Item.{Item}
+use Rattle.host_devices.specs.declared.item.Item.TheVariants.{Sent, Heard as Came}
+use Rattle.host_devices.specs.declared.item.Kept.{Kept}
+use Rattle.host_devices.specs.declared.item.Kept.TheVariants.{Go}
+use Rattle.host_devices.specs.Dialogue.{said, dialogue, keys_of, news_between}
+use Rattle.host_devices.specs.Told.{Gains}
+use Rattle.host_devices.proofs.Told.{gains_join, gains_none}
 use Rattle.load_engine.specs.declared.stop.Stop.{Stop}
 use Rattle.load_engine.specs.declared.stop.Stop.TheVariants.{Ended, LineFailed, KeepFailed, TurnsOver}
 use Rattle.load_engine.specs.Run.{driving}

@@ -5,21 +5,21 @@ use Rattle.host_core.specs.declared.heard.Heard.{Heard}
 use Rattle.host_core.specs.Console.{go}
 use Rattle.host_core.specs.Core.{Core, ended}
 use Rattle.host_core.specs.PhaseTable.{move}
-use Rattle.load_devices.specs.declared.fault.LineFault.{LineFault}
-use Rattle.load_devices.specs.declared.fault.KeepFault.{KeepFault}
-use Rattle.load_devices.specs.declared.item.Item.{Item}
-use Rattle.load_devices.specs.declared.item.Item.TheVariants.{Heard as Came}
-use Rattle.load_devices.specs.declared.item.Kept.{Kept}
-use Rattle.load_devices.specs.declared.item.Kept.TheVariants.{Go}
-use Rattle.load_devices.specs.Dialogue.{said, keys_of, news_between}
-use Rattle.load_devices.specs.Failures.{fault_of}
-use Rattle.load_devices.specs.Told.{Gains, SaysNothing}
+use Rattle.host_devices.specs.declared.fault.LineFault.{LineFault}
+use Rattle.host_devices.specs.declared.fault.KeepFault.{KeepFault}
+use Rattle.host_devices.specs.declared.item.Item.{Item}
+use Rattle.host_devices.specs.declared.item.Item.TheVariants.{Heard as Came}
+use Rattle.host_devices.specs.declared.item.Kept.{Kept}
+use Rattle.host_devices.specs.declared.item.Kept.TheVariants.{Go}
+use Rattle.host_devices.specs.Dialogue.{said, keys_of, news_between}
+use Rattle.host_devices.specs.Failures.{fault_of}
+use Rattle.host_devices.specs.Told.{Gains, SaysNothing}
 use Rattle.load_engine.specs.declared.stop.Stop.{Stop}
 use Rattle.load_engine.specs.declared.stop.Stop.TheVariants.{LineFailed, KeepFailed}
 use Rattle.load_engine.specs.Run.{driving}
 use Rattle.load_engine.specs.Session.{Session, session_told}
 use Rattle.load_engine.proofs.News.{news_none}
-use Rattle.load_devices.proofs.Told.{gains_none, gains_kept, gains_join}
+use Rattle.host_devices.proofs.Told.{gains_none, gains_kept, gains_join}
 
 -- what a step of the core gives the devices to do
 pub record IsStep (old new : Core) (heard : Heard) (key : Option ℕ) (news : Option Kept) : Type 0 where

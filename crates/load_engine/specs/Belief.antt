@@ -1,8 +1,8 @@
 -- What may be believed of the engine's answer over an honest line.
 use Rattle.std.specs.Prelude.{List, Option, Some, None}
 use Rattle.host_core.specs.Core.{Core}
-use Rattle.load_devices.specs.declared.item.Item.{Item}
-use Rattle.load_devices.specs.Dialogue.{dialogue, heard_of}
+use Rattle.host_devices.specs.declared.item.Item.{Item}
+use Rattle.host_devices.specs.Dialogue.{dialogue, heard_of}
 use Rattle.honest_line.specs.Starts.{TellsStart}
 use Rattle.honest_line.specs.Trust.{IsTrustworthy}
 use Rattle.load_engine.specs.declared.stop.Stop.{Stop}

@@ -2,9 +2,9 @@
 use Rattle.std.specs.Prelude.{◌≡◌, ℕ, ◌≤◌, length, IfSome}
 use Rattle.host_core.specs.Bound.{character_bound}
 use Rattle.host_core.specs.Host.{IsHost}
-use Rattle.load_devices.specs.Devices.{Devices, KeeperCalls}
-use Rattle.load_devices.specs.Dialogue.{news_between}
-use Rattle.load_devices.specs.Failures.{CountsFault, IsLastFault}
+use Rattle.host_devices.specs.Devices.{Devices, KeeperCalls}
+use Rattle.host_devices.specs.Dialogue.{news_between}
+use Rattle.host_devices.specs.Failures.{CountsFault, IsLastFault}
 use Rattle.load_engine.specs.Belief.{IsBelievableOver, TellsStartOver}
 use Rattle.load_engine.specs.Failing.{keep_fault, line_fault}
 use Rattle.load_engine.specs.Keeping.{Keeping, KeptBy, keeping}

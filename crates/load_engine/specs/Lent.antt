@@ -1,9 +1,9 @@
 -- What a load does over a line in memory that is lent for it.
 use Rattle.std.specs.Prelude.{ℕ, ◌+◌, ◌≤◌, List, Option, Some, length}
 use Rattle.honest_line.specs.Wire.{most_waiting}
-use Rattle.load_devices.specs.declared.item.Item.{Item}
-use Rattle.load_devices.specs.Devices.{LineTold}
-use Rattle.load_devices.specs.Dialogue.{keys_of}
+use Rattle.host_devices.specs.declared.item.Item.{Item}
+use Rattle.host_devices.specs.Devices.{LineTold}
+use Rattle.host_devices.specs.Dialogue.{keys_of}
 use Rattle.honest_line.specs.Lent.{Passed}
 use Rattle.honest_line.specs.LineTable.{LineValue}
 use Rattle.honest_line.specs.Starts.{IsStartTrue}

@@ -5,12 +5,12 @@ use Rattle.host_core.specs.Console.{go}
 use Rattle.host_core.specs.Core.{Core, ended}
 use Rattle.host_core.specs.Laws.{led}
 use Rattle.host_core.specs.PhaseTable.{move}
-use Rattle.load_devices.specs.declared.item.Item.{Item}
-use Rattle.load_devices.specs.declared.item.Kept.{Kept}
-use Rattle.load_devices.specs.declared.item.Kept.TheVariants.{Go}
-use Rattle.load_devices.specs.Devices.{Devices}
-use Rattle.load_devices.specs.Dialogue.{LacksKey, dialogue, keys_of, news_between}
-use Rattle.load_devices.specs.Told.{Gains}
+use Rattle.host_devices.specs.declared.item.Item.{Item}
+use Rattle.host_devices.specs.declared.item.Kept.{Kept}
+use Rattle.host_devices.specs.declared.item.Kept.TheVariants.{Go}
+use Rattle.host_devices.specs.Devices.{Devices}
+use Rattle.host_devices.specs.Dialogue.{LacksKey, dialogue, keys_of, news_between}
+use Rattle.host_devices.specs.Told.{Gains}
 use Rattle.load_engine.specs.declared.stop.Stop.{Stop}
 use Rattle.load_engine.specs.declared.stop.Stop.TheVariants.{Ended, LineFailed, KeepFailed, TurnsOver}
 use Rattle.load_engine.specs.Run.{Driving}

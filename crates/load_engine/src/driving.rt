@@ -3,16 +3,16 @@ ghost use Rattle.host_core.specs.Console.{go};
 ghost use Rattle.host_core.specs.Core.{ended};
 ghost use Rattle.host_core.specs.Host.{IsHost};
 ghost use Rattle.host_core.specs.PhaseTable.{move};
-ghost use Rattle.load_devices.specs.Devices.{calls_of, devices_of};
-ghost use Rattle.load_devices.specs.Dialogue.{news_between};
-ghost use Rattle.load_devices.specs.Failures.{count_after, fault_of};
-ghost use Rattle.load_devices.specs.Told.{Gains, SaysNothing};
+ghost use Rattle.host_devices.specs.Devices.{calls_of, devices_of};
+ghost use Rattle.host_devices.specs.Dialogue.{news_between};
+ghost use Rattle.host_devices.specs.Failures.{count_after, fault_of};
+ghost use Rattle.host_devices.specs.Told.{Gains, SaysNothing};
 ghost use Rattle.load_engine.specs.Driven.{IsDriven, IsKeptBy, IsTurn, turns_give};
 ghost use Rattle.load_engine.specs.Run.{driving};
 
 use crate::stop::Stop;
 use host_core::{Heard, HostCore, Progress};
-use load_devices::{Keep, KeepFault, Kept, Line, Onlooker, Sight};
+use host_devices::{Keep, KeepFault, Kept, Line, Onlooker, Sight};
 
 /// Lends the core to the line and the keeper for at most so many turns.
 ///

@@ -1,6 +1,6 @@
 ghost use Rattle.std.specs.Prelude.{◌≡◌, Some};
 ghost use Rattle.honest_line.specs.Lent.{HasMovedOn};
-ghost use Rattle.load_devices.specs.Devices.{calls_of, devices};
+ghost use Rattle.host_devices.specs.Devices.{calls_of, devices};
 ghost use Rattle.load_engine.specs.Driven.{IsDriven, IsKeptBy, turns_give};
 ghost use Rattle.load_engine.specs.Lent.{LoadsSafely, memory_told};
 ghost use Rattle.load_engine.specs.Run.{driving};
@@ -9,7 +9,7 @@ use crate::driving::drive;
 use crate::stop::Stop;
 use honest_line::{LentLine, MemoryLine, Opening};
 use host_core::HostCore;
-use load_devices::{Keep, Unwatched};
+use host_devices::{Keep, Unwatched};
 use std::marker::Brand;
 
 /// Lends the core to the line and the keeper for at most so many turns, as `drive` does, and the line

@@ -1,7 +1,7 @@
 ghost use Rattle.std.specs.Prelude.{◌≡◌};
 
 use host_core::End;
-use load_devices::{KeepFault, LineFault};
+use host_devices::{KeepFault, LineFault};
 
 /// Why the engine stopped.
 #[derive(Clone, Copy, Debug, PartialEq, Eq)]

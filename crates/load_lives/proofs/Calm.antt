@@ -16,9 +16,9 @@ use Rattle.line_world.specs.Safe.{FirstStand}
 use Rattle.line_world.specs.Site.{ground}
 use Rattle.line_world.proofs.Frame.{scene}
 use Rattle.line_world.proofs.Taking.{key_takes}
-use Rattle.load_devices.specs.declared.item.Item.{Item}
-use Rattle.load_devices.specs.declared.item.Item.TheVariants.{Heard as Came, Sent}
-use Rattle.load_devices.specs.Dialogue.{keys_of}
+use Rattle.host_devices.specs.declared.item.Item.{Item}
+use Rattle.host_devices.specs.declared.item.Item.TheVariants.{Heard as Came, Sent}
+use Rattle.host_devices.specs.Dialogue.{keys_of}
 use Rattle.exchange_law.specs.Line.{Gives, Link, Moves, MovesTimes, Passes}
 use Rattle.exchange_law.specs.Station.{Meets, Program, Station, Stub, after_odt, begins}
 use Rattle.exchange_law.specs.Unsettled.{IsUnsettled, Untouched}

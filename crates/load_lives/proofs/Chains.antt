@@ -27,9 +27,9 @@ use Rattle.line_world.proofs.Events.{safe_of}
 use Rattle.line_world.proofs.Opening.{opening_kept}
 use Rattle.line_world.proofs.Starts.{ends_join}
 use Rattle.line_world.proofs.Tame.{tame_of}
-use Rattle.load_devices.specs.declared.item.Item.{Item}
-use Rattle.load_devices.specs.declared.item.Item.TheVariants.{Sent, Heard as Came}
-use Rattle.load_devices.specs.Dialogue.{said, dialogue, keys_of}
+use Rattle.host_devices.specs.declared.item.Item.{Item}
+use Rattle.host_devices.specs.declared.item.Item.TheVariants.{Sent, Heard as Came}
+use Rattle.host_devices.specs.Dialogue.{said, dialogue, keys_of}
 use Rattle.honest_line.specs.Moves.{Passes}
 use Rattle.honest_line.specs.Trust.{IsTrusted}
 use Rattle.honest_line.proofs.Wires.{passes_lost}

@@ -19,9 +19,9 @@ use Rattle.honest_line.specs.Starts.{RunsByGo}
 use Rattle.line_world.specs.Promises.{EndsAtGo}
 use Rattle.line_world.specs.Safe.{FirstStand}
 use Rattle.line_world.proofs.Starts.{ends_join}
-use Rattle.load_devices.specs.declared.item.Item.{Item}
-use Rattle.load_devices.specs.declared.item.Item.TheVariants.{Sent, Heard as Came}
-use Rattle.load_devices.specs.Dialogue.{dialogue, keys_of, said}
+use Rattle.host_devices.specs.declared.item.Item.{Item}
+use Rattle.host_devices.specs.declared.item.Item.TheVariants.{Sent, Heard as Came}
+use Rattle.host_devices.specs.Dialogue.{dialogue, keys_of, said}
 use Rattle.honest_line.proofs.Trusted.{ends_front, keys_of-dialogue}
 use Rattle.load_engine.proofs.News.{led_forward}
 use Rattle.load_engine.proofs.Sessions.{keys_join}

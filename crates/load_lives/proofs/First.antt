@@ -8,9 +8,9 @@ use Rattle.host_core.specs.declared.heard.Heard.{Heard}
 use Rattle.host_core.specs.declared.heard.Heard.TheVariants.{Got, Quiet}
 use Rattle.host_core.specs.declared.progress.Progress.{Progress}
 use Rattle.line_world.proofs.Starts.{ends_join}
-use Rattle.load_devices.specs.declared.item.Item.{Item}
-use Rattle.load_devices.specs.declared.item.Item.TheVariants.{Heard as Came, Sent}
-use Rattle.load_devices.specs.Dialogue.{keys_of}
+use Rattle.host_devices.specs.declared.item.Item.{Item}
+use Rattle.host_devices.specs.declared.item.Item.TheVariants.{Heard as Came, Sent}
+use Rattle.host_devices.specs.Dialogue.{keys_of}
 use Rattle.load_record.specs.Reading.{Says}
 use Rattle.load_lives.proofs.Records.{says_once, says_sound}
 use Rattle.looking_law.specs.RecordLook.{HasLooked}

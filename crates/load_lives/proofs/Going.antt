@@ -22,7 +22,7 @@ use Rattle.host_core.proofs.Turns.{begun_kept}
 use Rattle.line_world.specs.Safe.{FirstStand, IsLoaded}
 use Rattle.line_world.specs.Site.{ground}
 use Rattle.line_world.proofs.Frame.{scene}
-use Rattle.load_devices.specs.Dialogue.{dialogue, keys_of}
+use Rattle.host_devices.specs.Dialogue.{dialogue, keys_of}
 use Rattle.exchange_core.specs.declared.chunk.Chunk.{Chunk}
 use Rattle.exchange_core.specs.declared.exchange.Exchange.{Exchange}
 use Rattle.exchange_core.specs.Chunk.{AreChunks, chunk_nr, words_behind}

@@ -18,10 +18,10 @@ use Rattle.host_core.specs.PhaseTable.{move}
 use Rattle.host_core.proofs.Lives.{led_kept, led_plan}
 use Rattle.host_core.proofs.Marks.{go_marks}
 use Rattle.host_core.proofs.Turns.{begun_kept, kept}
-use Rattle.load_devices.specs.declared.item.Item.{Item}
-use Rattle.load_devices.specs.declared.item.Kept.{Kept}
-use Rattle.load_devices.specs.declared.item.Kept.TheVariants.{Word, Go}
-use Rattle.load_devices.specs.Dialogue.{said, dialogue, keys_of, mark_between, news_between}
+use Rattle.host_devices.specs.declared.item.Item.{Item}
+use Rattle.host_devices.specs.declared.item.Kept.{Kept}
+use Rattle.host_devices.specs.declared.item.Kept.TheVariants.{Word, Go}
+use Rattle.host_devices.specs.Dialogue.{said, dialogue, keys_of, mark_between, news_between}
 use Rattle.honest_line.proofs.Trusted.{keys_of-dialogue}
 use Rattle.load_engine.specs.declared.stop.Stop.{Stop}
 use Rattle.load_engine.specs.declared.stop.Stop.TheVariants.{Ended, LineFailed, KeepFailed, TurnsOver}

@@ -15,9 +15,9 @@ use Rattle.host_core.specs.PhaseTable.{move, listens, sends, taken, turn_of, aft
 use Rattle.host_core.proofs.Frame.{on_move}
 use Rattle.octal.specs.Octal.{digit_of}
 use Rattle.line_world.specs.Wire.{Wire}
-use Rattle.load_devices.specs.declared.item.Item.{Item}
-use Rattle.load_devices.specs.declared.item.Item.TheVariants.{Sent, Heard as Came}
-use Rattle.load_devices.specs.Dialogue.{said, dialogue}
+use Rattle.host_devices.specs.declared.item.Item.{Item}
+use Rattle.host_devices.specs.declared.item.Item.TheVariants.{Sent, Heard as Came}
+use Rattle.host_devices.specs.Dialogue.{said, dialogue}
 use Rattle.honest_line.specs.Moves.{Moves, MovesOn, Gives, Passes}
 use Rattle.honest_line.proofs.Wires.{one_first, moves_carried, later, later_carries, passes_then}
 

@@ -6,7 +6,7 @@ use Rattle.host_core.specs.declared.phase.End.TheVariants.{Loaded, Started, Unce
 use Rattle.host_core.specs.declared.phase.Phase.{Phase}
 use Rattle.host_core.specs.declared.phase.Phase.TheVariants.{Settle, Sync, Address, Slash, Before, Value, Deposit, Return, Start, Go, Ended}
 use Rattle.host_core.specs.Laws.{led}
-use Rattle.load_devices.specs.Dialogue.{dialogue, keys_of}
+use Rattle.host_devices.specs.Dialogue.{dialogue, keys_of}
 use Rattle.exchange_core.specs.Exchange.{begun as exchange_begun, led as exchange_led}
 use Rattle.exchange_law.specs.Law.{MayExchange, dialogue as exchange_dialogue}
 use Rattle.exchange_law.specs.Line.{Link, Passes}

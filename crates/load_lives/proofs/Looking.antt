@@ -16,8 +16,8 @@ use Rattle.line_world.specs.declared.event.Event.TheVariants.{Take}
 use Rattle.line_world.specs.Invariant.{IsKept}
 use Rattle.line_world.specs.Scene.{over as load_over}
 use Rattle.line_world.specs.Wire.{Wire, sent}
-use Rattle.load_devices.specs.declared.item.Item.{Item}
-use Rattle.load_devices.specs.declared.item.Item.TheVariants.{Sent}
+use Rattle.host_devices.specs.declared.item.Item.{Item}
+use Rattle.host_devices.specs.declared.item.Item.TheVariants.{Sent}
 use Rattle.tape_image.specs.Plan.{IsPlan}
 use Rattle.tape_image.specs.Word.{WordValue}
 use Rattle.reading_core.specs.declared.phase.Phase.{Phase}

@@ -5,8 +5,8 @@ use Rattle.tape_image.specs.Plan.{PlanValue, IsPlan}
 use Rattle.host_core.specs.declared.progress.Progress.{Progress}
 use Rattle.host_core.specs.Console.{go}
 use Rattle.host_core.specs.Core.{Core}
-use Rattle.load_devices.specs.declared.item.Item.{Item}
-use Rattle.load_devices.specs.Dialogue.{keys_of}
+use Rattle.host_devices.specs.declared.item.Item.{Item}
+use Rattle.host_devices.specs.Dialogue.{keys_of}
 use Rattle.load_record.specs.declared.version.Version.{Version}
 use Rattle.load_record.specs.declared.version.Version.TheVariants.{Second}
 use Rattle.load_record.specs.Law.{SaysAtMost}

@@ -5,7 +5,7 @@ use Rattle.std.proofs.lemmas.List.Elements.{Contains-append_left, Contains-appen
 use Rattle.tape_image.specs.Plan.{PlanValue}
 use Rattle.host_core.specs.Console.{go}
 use Rattle.line_world.specs.Wire.{Wire, sent}
-use Rattle.load_devices.specs.Dialogue.{keys_of}
+use Rattle.host_devices.specs.Dialogue.{keys_of}
 use Rattle.honest_line.specs.Honest.{resting}
 use Rattle.honest_line.proofs.Going.{MayRun, passes_back}
 use Rattle.load_lives.specs.Lives.{WireAndRecord, Life, Reopens, Lived, typed}

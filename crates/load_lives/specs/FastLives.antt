@@ -10,8 +10,8 @@ use Rattle.host_core.specs.Core.{Core, begun}
 use Rattle.host_core.specs.Laws.{led}
 use Rattle.line_world.specs.Promises.{EndsAtGo}
 use Rattle.line_world.specs.Safe.{FirstStand, IsLoaded}
-use Rattle.load_devices.specs.declared.item.Item.{Item}
-use Rattle.load_devices.specs.Dialogue.{dialogue, keys_of, said}
+use Rattle.host_devices.specs.declared.item.Item.{Item}
+use Rattle.host_devices.specs.Dialogue.{dialogue, keys_of, said}
 use Rattle.honest_line.specs.Starts.{RunsByGo}
 use Rattle.load_record.specs.declared.version.Version.TheVariants.{Second}
 use Rattle.load_record.specs.Reading.{Says}

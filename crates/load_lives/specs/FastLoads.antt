@@ -7,8 +7,8 @@ use Rattle.host_core.specs.Core.{Core, begun}
 use Rattle.host_core.specs.Laws.{led}
 use Rattle.line_world.specs.Promises.{EndsAtGo}
 use Rattle.line_world.specs.Safe.{FirstStand, IsLoaded}
-use Rattle.load_devices.specs.declared.item.Item.{Item}
-use Rattle.load_devices.specs.Dialogue.{dialogue, keys_of}
+use Rattle.host_devices.specs.declared.item.Item.{Item}
+use Rattle.host_devices.specs.Dialogue.{dialogue, keys_of}
 use Rattle.exchange_law.specs.Law.{said_all}
 use Rattle.exchange_law.specs.Line.{Link, Passes}
 use Rattle.exchange_law.specs.Station.{Program}

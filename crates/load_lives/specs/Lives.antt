@@ -9,8 +9,8 @@ use Rattle.host_core.specs.Laws.{led}
 use Rattle.line_world.specs.Wire.{Wire, forgiven, most_waiting}
 use Rattle.line_world.specs.Safe.{IsSafe}
 use Rattle.line_world.specs.Promises.{EndsAtGo}
-use Rattle.load_devices.specs.declared.item.Item.{Item}
-use Rattle.load_devices.specs.Dialogue.{said, dialogue, keys_of}
+use Rattle.host_devices.specs.declared.item.Item.{Item}
+use Rattle.host_devices.specs.Dialogue.{said, dialogue, keys_of}
 use Rattle.honest_line.specs.Moves.{Passes}
 use Rattle.honest_line.specs.Honest.{resting}
 use Rattle.honest_line.specs.Starts.{RunsByGo}

@@ -5,8 +5,8 @@ use Rattle.host_core.specs.declared.progress.Progress.{Progress}
 use Rattle.host_core.specs.Console.{go}
 use Rattle.line_world.specs.Promises.{EndsAtGo}
 use Rattle.line_world.specs.Safe.{FirstStand, IsLoaded}
-use Rattle.load_devices.specs.declared.item.Item.{Item}
-use Rattle.load_devices.specs.Dialogue.{keys_of}
+use Rattle.host_devices.specs.declared.item.Item.{Item}
+use Rattle.host_devices.specs.Dialogue.{keys_of}
 use Rattle.honest_line.specs.Starts.{RunsByGo}
 use Rattle.load_record.specs.Reading.{Says}
 use Rattle.load_lives.specs.Lives.{GoesOnFrom, IsLeft}

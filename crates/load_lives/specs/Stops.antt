@@ -6,8 +6,8 @@ use Rattle.tape_image.specs.Word.{WordValue}
 use Rattle.host_core.specs.declared.heard.Heard.{Heard}
 use Rattle.host_core.specs.declared.progress.Progress.{Progress}
 use Rattle.host_core.specs.Core.{Core, begun}
-use Rattle.load_devices.specs.declared.item.Item.{Item}
-use Rattle.load_devices.specs.Dialogue.{said, dialogue}
+use Rattle.host_devices.specs.declared.item.Item.{Item}
+use Rattle.host_devices.specs.Dialogue.{said, dialogue}
 use Rattle.load_engine.specs.declared.stop.Stop.{Stop}
 use Rattle.load_engine.specs.Run.{driving}
 use Rattle.load_engine.specs.Session.{Session, SessionTold}

@@ -11,8 +11,8 @@ use Rattle.host_core.specs.declared.phase.Phase.TheVariants.{Ended}
 use Rattle.host_core.specs.Core.{Core, begun, word_nr}
 use Rattle.host_core.specs.Laws.{led}
 use Rattle.line_world.specs.Safe.{FirstStand}
-use Rattle.load_devices.specs.declared.item.Item.{Item}
-use Rattle.load_devices.specs.Dialogue.{dialogue}
+use Rattle.host_devices.specs.declared.item.Item.{Item}
+use Rattle.host_devices.specs.Dialogue.{dialogue}
 use Rattle.exchange_core.specs.declared.chunk.Chunk.{Chunk}
 use Rattle.exchange_core.specs.Chunk.{AreChunks, chunk_nr}
 use Rattle.exchange_core.specs.Exchange.{begun as exchange_begun, led as exchange_led}

@@ -2,8 +2,8 @@
 ghost use Rattle.std.specs.Prelude.{◌≡◌, [], ◌++◌, ℕ, ◌+◌, ◌-◌, ◌<◌, ◌↔◌, IsTrue, IsOk, OnOk, IfOk, IfErr, Some, None, slice_get, true, false};
 ghost use Rattle.std.specs.Io.KnownBytes.{Keeps};
 ghost use Rattle.tape_image.specs.Plan.{PlanValue};
-ghost use Rattle.load_devices.specs.Failures.{one_more};
-ghost use Rattle.load_devices.specs.declared.fault.KeepFault.{KeepFault};
+ghost use Rattle.host_devices.specs.Failures.{one_more};
+ghost use Rattle.host_devices.specs.declared.fault.KeepFault.{KeepFault};
 ghost use Rattle.load_record.specs.declared.version.Version.TheVariants.{Second};
 ghost use Rattle.load_record.specs.Keeper.{Failed, HasCutShort, HasKept, HoldsRecord, Lasts, Wrote, fault_now};
 ghost use Rattle.load_record.specs.RecordText.{ending, mark_text, open_run, record_text, second_piece, second_run};
@@ -12,7 +12,7 @@ use crate::lasting_write::LastingWrite;
 use crate::output::{write_begin, write_mark, write_word};
 use crate::run::OpenRun;
 use byte_io::WriteFault;
-use load_devices::{Keep, KeepFault};
+use host_devices::{Keep, KeepFault};
 use std::marker::Model;
 use tape_image::{Plan, Word};
 

@@ -2,8 +2,8 @@
 use Rattle.std.specs.Prelude.{◌≡◌, ◌⊎◌, ℕ, List, [], ◌++◌, Option, Some, None}
 use Rattle.machine_load.specs.Load.{Setting}
 use Rattle.honest_line.specs.LineTable.{LineValue}
-use Rattle.load_devices.specs.declared.line.Line.{Ghosts as Line}
-use Rattle.load_devices.specs.Told.{HasAsked}
+use Rattle.host_devices.specs.declared.line.Line.{Ghosts as Line}
+use Rattle.host_devices.specs.Told.{HasAsked}
 use Rattle.machine_load.specs.RecordDisk.{RecordDisk, FileKnown, IsClosedAfter}
 use Rattle.machine_look.specs.declared.saving.SaveOptions.{SaveOptions}
 use Rattle.machine_look.specs.Save.{TakesUp}

@@ -1,7 +1,7 @@
 -- What surroundings tell that tell all: their steps, their record and the lines that were given back.
 use Rattle.std.specs.Prelude.{ℕ, List, map, Option, Some}
 use Rattle.honest_line.specs.LineTable.{LineValue}
-use Rattle.load_devices.specs.Devices.{LineTold, line_told}
+use Rattle.host_devices.specs.Devices.{LineTold, line_told}
 use Rattle.machine_load.specs.Load.{Setting}
 use Rattle.machine_load.specs.Step as asked
 use Rattle.load_tests.specs.Told.{memory_line}

@@ -13,7 +13,7 @@ use crate::disk_text::DiskText;
 use crate::memory_reach::MemoryReach;
 use console_lines::Reach;
 use honest_line::MemoryLine;
-use load_devices::{LineFault, Unwatched};
+use host_devices::{LineFault, Unwatched};
 use load_record::FileKeep;
 use machine_load::{LoadFault, Outcome, Surroundings, load};
 use odt_machine::Odt;

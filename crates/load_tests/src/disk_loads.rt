@@ -7,7 +7,7 @@ ghost use Rattle.load_tests.specs.Told.{record_told, IsAskedAndClosed};
 
 use crate::memory_reach::MemoryReach;
 use honest_line::MemoryLine;
-use load_devices::Unwatched;
+use host_devices::Unwatched;
 use machine_load::{Around, LoadFault, Outcome, load};
 use record_file::RecordFile;
 use request_values::LoadOptions;

@@ -5,7 +5,7 @@ ghost use Rattle.simulated_system.specs.ToldSteps.{steps_of, written_to};
 ghost use Rattle.load_tests.specs.Told.{shelf_told, IsTapeNotPut, IsTapePut};
 
 use crate::memory_reach::MemoryReach;
-use load_devices::Unwatched;
+use host_devices::Unwatched;
 use machine_look::{LookFault, SaveEnd, SaveOptions, save};
 use simulated_system::ToldDisk;
 use std::alloc::Global;

@@ -3,7 +3,7 @@
 use crate::bench::{Bench, load_once};
 use honest_line::MemoryLine;
 use host_core::End;
-use load_devices::Item;
+use host_devices::Item;
 use load_engine::Stop;
 use machine_load::LoadEnd;
 use odt_machine::{LARGEST_WORDS, Odt, PLAIN_STYLE};

@@ -2,7 +2,7 @@
 
 use console_lines::Reach;
 use honest_line::MemoryLine;
-use load_devices::LineFault;
+use host_devices::LineFault;
 use odt_machine::Odt;
 use std::alloc::Global;
 

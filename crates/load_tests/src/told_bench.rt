@@ -12,7 +12,7 @@ use crate::bench::Bench;
 use crate::disk_text::DiskText;
 use crate::load_step::LoadStep;
 use honest_line::MemoryLine;
-use load_devices::{LineFault, Unwatched};
+use host_devices::{LineFault, Unwatched};
 use load_record::FileKeep;
 use machine_load::{LoadFault, Outcome, Surroundings, load};
 use record_file::{OldRecord, RecordFault};

@@ -4,7 +4,7 @@
 //! six digits and a space eight: 12 keys and 30 characters, behind the silence that comes first.
 
 use honest_line::{Loss, MemoryLine};
-use load_devices::{Item, Line, LineFault};
+use host_devices::{Item, Line, LineFault};
 use odt_machine::{Odt, Style};
 use std::alloc::Global;
 use std::process::Abort;

@@ -8,9 +8,9 @@ use Rattle.odt_machine.specs.Machine.{Machine}
 use Rattle.host_core.specs.declared.heard.Heard.{Heard}
 use Rattle.line_world.specs.Invariant.{RunsWith}
 use Rattle.line_world.specs.Wire.{Wire}
-use Rattle.load_devices.specs.declared.item.Item.{Item}
-use Rattle.load_devices.specs.declared.item.Item.TheVariants.{Sent, Heard as Came}
-use Rattle.load_devices.specs.Dialogue.{said, keys_of}
+use Rattle.host_devices.specs.declared.item.Item.{Item}
+use Rattle.host_devices.specs.declared.item.Item.TheVariants.{Sent, Heard as Came}
+use Rattle.host_devices.specs.Dialogue.{said, keys_of}
 use Rattle.honest_line.specs.Moves.{Passes}
 use Rattle.honest_line.specs.Honest.{resting}
 use Rattle.honest_line.proofs.Wires.{passes_lost}

@@ -16,9 +16,9 @@ use Rattle.odt_machine.specs.Machine.{Machine, IsWide, ModeFits, is_word}
 use Rattle.host_core.specs.declared.heard.Heard.{Heard}
 use Rattle.host_core.specs.declared.heard.Heard.TheVariants.{Got, Quiet}
 use Rattle.line_world.specs.Wire.{Wire, sent}
-use Rattle.load_devices.specs.declared.item.Item.{Item}
-use Rattle.load_devices.specs.declared.item.Item.TheVariants.{Sent, Heard as Came}
-use Rattle.load_devices.specs.Dialogue.{keys_of}
+use Rattle.host_devices.specs.declared.item.Item.{Item}
+use Rattle.host_devices.specs.declared.item.Item.TheVariants.{Sent, Heard as Came}
+use Rattle.host_devices.specs.Dialogue.{keys_of}
 use Rattle.honest_line.specs.Moves.{Moves, MovesTimes, MovesOn, Gives, Passes}
 use Rattle.honest_line.specs.Honest.{resting}
 use Rattle.trial_core.specs.TrialTable.{IsTrying}

@@ -5,9 +5,9 @@ use Rattle.std.proofs.lemmas.Bool.Decides.{nat_tests}
 use Rattle.std.proofs.lemmas.List.Elements.{All-cons, All-nil, All-contains}
 use Rattle.octal.specs.Octal.{is_digit}
 use Rattle.line_world.specs.Promises.{EndsAtGo}
-use Rattle.load_devices.specs.declared.item.Item.{Item}
-use Rattle.load_devices.specs.declared.item.Item.TheVariants.{Sent, Heard as Came}
-use Rattle.load_devices.specs.Dialogue.{keys_of}
+use Rattle.host_devices.specs.declared.item.Item.{Item}
+use Rattle.host_devices.specs.declared.item.Item.TheVariants.{Sent, Heard as Came}
+use Rattle.host_devices.specs.Dialogue.{keys_of}
 use Rattle.reading_core.specs.Reader.{begun}
 use Rattle.looking_law.specs.Belief.{dialogue}
 use Rattle.looking_law.specs.Harmless.{IsLooking, OnlyLook}

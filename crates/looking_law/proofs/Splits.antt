@@ -7,8 +7,8 @@ use Rattle.host_core.specs.declared.heard.Heard.{Heard}
 use Rattle.host_core.specs.declared.heard.Heard.TheVariants.{Got, Quiet}
 use Rattle.line_world.specs.Invariant.{OneWay}
 use Rattle.line_world.specs.Wire.{Wire, heard, sent, with_answer, without_down, without_up}
-use Rattle.load_devices.specs.declared.item.Item.{Item}
-use Rattle.load_devices.specs.declared.item.Item.TheVariants.{Sent, Heard as Came}
+use Rattle.host_devices.specs.declared.item.Item.{Item}
+use Rattle.host_devices.specs.declared.item.Item.TheVariants.{Sent, Heard as Came}
 use Rattle.honest_line.specs.Moves.{Gives, Moves, MovesOn, MovesTimes, Passes}
 use Rattle.honest_line.specs.Honest.{resting}
 use Rattle.honest_line.proofs.Wires.{later, none_moves, one_first, passes_then}

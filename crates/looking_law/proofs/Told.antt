@@ -4,8 +4,8 @@ use Rattle.odt_machine.specs.Machine.{Machine}
 use Rattle.host_core.specs.declared.heard.Heard.{Heard}
 use Rattle.line_world.specs.Invariant.{OneWay}
 use Rattle.line_world.specs.Wire.{Wire, sent}
-use Rattle.load_devices.specs.declared.item.Item.{Item}
-use Rattle.load_devices.specs.declared.item.Item.TheVariants.{Sent, Heard as Came}
+use Rattle.host_devices.specs.declared.item.Item.{Item}
+use Rattle.host_devices.specs.declared.item.Item.TheVariants.{Sent, Heard as Came}
 use Rattle.honest_line.specs.Moves.{Passes}
 use Rattle.honest_line.specs.Honest.{IsHonest, resting}
 use Rattle.honest_line.proofs.Wires.{none_moves, passes_then}

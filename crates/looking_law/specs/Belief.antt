@@ -3,9 +3,9 @@ use Rattle.std.specs.Prelude.{◌≡◌, ℕ, ◌+◌, ◌≤◌, false, List, [
 use Rattle.odt_machine.specs.Machine.{Machine, IsMachine}
 use Rattle.odt_machine.specs.Laws.{is_running}
 use Rattle.host_core.specs.declared.heard.Heard.{Heard}
-use Rattle.load_devices.specs.declared.item.Item.{Item}
-use Rattle.load_devices.specs.declared.item.Item.TheVariants.{Sent, Heard as Came}
-use Rattle.load_devices.specs.Dialogue.{said, keys_of}
+use Rattle.host_devices.specs.declared.item.Item.{Item}
+use Rattle.host_devices.specs.declared.item.Item.TheVariants.{Sent, Heard as Came}
+use Rattle.host_devices.specs.Dialogue.{said, keys_of}
 use Rattle.honest_line.specs.Honest.{IsHonest}
 use Rattle.reading_core.specs.Reader.{Reader, begun}
 use Rattle.reading_core.specs.Invariant.{IsReader}

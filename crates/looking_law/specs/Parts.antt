@@ -1,7 +1,7 @@
 -- What several hosts said on one line, part by part.
 use Rattle.std.specs.Prelude.{ℕ, All, List, [], ◌∷◌, ◌++◌}
 use Rattle.odt_machine.specs.Machine.{Machine}
-use Rattle.load_devices.specs.declared.item.Item.{Item}
+use Rattle.host_devices.specs.declared.item.Item.{Item}
 use Rattle.honest_line.specs.Honest.{IsHonest}
 use Rattle.looking_law.specs.Belief.{IsReadyMachine}
 use Rattle.looking_law.specs.Rows.{AreHonest, in_a_row}

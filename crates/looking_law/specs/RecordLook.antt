@@ -4,7 +4,7 @@ use Rattle.tape_image.specs.Plan.{PlanValue}
 use Rattle.host_core.specs.declared.heard.Heard.{Heard}
 use Rattle.host_core.specs.declared.progress.Progress.{Progress}
 use Rattle.host_core.specs.Core.{word_nr}
-use Rattle.load_devices.specs.declared.item.Item.{Item}
+use Rattle.host_devices.specs.declared.item.Item.{Item}
 use Rattle.reading_core.specs.Addresses.{AreAddresses}
 use Rattle.reading_core.specs.Reader.{begun}
 use Rattle.looking_law.specs.Belief.{dialogue}

@@ -2,8 +2,8 @@
 use Rattle.std.specs.Prelude.{◌≡◌, ℕ, ◌+◌, ◌^◌, ◌<◌, All, List, [], ◌∷◌, ◌++◌}
 use Rattle.odt_machine.specs.Machine.{Machine}
 use Rattle.host_core.specs.declared.heard.Heard.{Heard}
-use Rattle.load_devices.specs.declared.item.Item.{Item}
-use Rattle.load_devices.specs.Dialogue.{keys_of}
+use Rattle.host_devices.specs.declared.item.Item.{Item}
+use Rattle.host_devices.specs.Dialogue.{keys_of}
 use Rattle.honest_line.specs.Honest.{IsHonest}
 use Rattle.reading_core.specs.Addresses.{AreAddresses, IsAddress}
 use Rattle.reading_core.specs.Laws.{led}

@@ -1,9 +1,9 @@
 -- Loads by their lives.
 use Rattle.std.proofs.Common.{◌≡◌, ◌⊎◌, List, [], Option, Some, None, refl, subst, inl, inr}
 use Rattle.host_core.specs.Core.{Core}
-use Rattle.load_devices.specs.Devices.{Devices, KeeperCalls}
-use Rattle.load_devices.specs.Told.{Gains}
-use Rattle.load_devices.specs.Turns.{most_turns}
+use Rattle.host_devices.specs.Devices.{Devices, KeeperCalls}
+use Rattle.host_devices.specs.Told.{Gains}
+use Rattle.host_devices.specs.Turns.{most_turns}
 use Rattle.load_engine.specs.declared.stop.Stop.{Stop}
 use Rattle.load_engine.specs.Driven.{IsDriven, IsKeptBy, turns_give}
 use Rattle.load_engine.specs.Run.{driving}

@@ -1,7 +1,7 @@
 -- Reports that fail, and the loads that they are of.
 use Rattle.std.proofs.Common.{◌≡◌, ℕ, Bool, true, false, List, Option, None, Result, Ok, Err, IfErr, IfOk, IsErrAnd, [], ◌∷◌, inr, inl, refl, sym, subst, ap}
 use Rattle.std.proofs.KnownBytes.{Keeps-refl, Keeps-trans}
-use Rattle.load_devices.specs.Devices.{LineTold}
+use Rattle.host_devices.specs.Devices.{LineTold}
 use Rattle.machine_load.specs.Step.{LoadStep, Connected, begin_step}
 use Rattle.machine_load.proofs.Steps.{gains_more}
 use Rattle.machine_load.specs.declared.looks.Looks.{Looks}

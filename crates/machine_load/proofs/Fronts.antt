@@ -3,9 +3,9 @@ use Rattle.std.proofs.Common.{◌≡◌, ◌⊎◌, ℕ, Bool, true, false, if�
 use Rattle.std.specs.Prelude.{option_to_list}
 use Rattle.tape_image.specs.Image.{Image}
 use Rattle.host_core.specs.declared.heard.Heard.{Heard}
-use Rattle.load_devices.specs.declared.item.Item.{Item}
-use Rattle.load_devices.specs.declared.item.Item.TheVariants.{Sent, Heard as Came}
-use Rattle.load_devices.specs.Dialogue.{said, dialogue}
+use Rattle.host_devices.specs.declared.item.Item.{Item}
+use Rattle.host_devices.specs.declared.item.Item.TheVariants.{Sent, Heard as Came}
+use Rattle.host_devices.specs.Dialogue.{said, dialogue}
 use Rattle.load_lives.proofs.Stopping.{fronts_are_stopped}
 use Rattle.exchange_core.specs.declared.chunk.Chunk.{Chunk}
 use Rattle.exchange_core.specs.declared.exchange.Exchange.{Exchange}

@@ -9,9 +9,9 @@ use Rattle.host_core.specs.declared.progress.Progress.{Progress}
 use Rattle.host_core.specs.Console.{go}
 use Rattle.host_core.specs.Core.{Core, begun}
 use Rattle.host_core.specs.Laws.{led}
-use Rattle.load_devices.specs.declared.item.Item.{Item}
-use Rattle.load_devices.specs.Dialogue.{dialogue, keys_of}
-use Rattle.load_devices.specs.Turns.{most_turns}
+use Rattle.host_devices.specs.declared.item.Item.{Item}
+use Rattle.host_devices.specs.Dialogue.{dialogue, keys_of}
+use Rattle.host_devices.specs.Turns.{most_turns}
 use Rattle.load_engine.specs.declared.stop.Stop.{Stop}
 use Rattle.load_engine.specs.declared.stop.Stop.TheVariants.{Ended, LineFailed, KeepFailed, TurnsOver}
 use Rattle.load_engine.specs.Run.{driving}
@@ -35,7 +35,7 @@ use Rattle.stub_engine.specs.Parts.{failure_of}
 use Rattle.load_lives.specs.FastLives.{FastLife, LinkAndRecord, PassesAt, last_core as fast_core}
 use Rattle.load_lives.specs.LooksFirst.{LookingLife as FastLookingLife, IsLookingLife as IsFastLookingLife}
 use Rattle.load_lives.specs.StubParts.{AreStubParts, StubPart, stubs_said, verified_by}
-use Rattle.load_devices.specs.Devices.{Devices, LineTold, devices}
+use Rattle.host_devices.specs.Devices.{Devices, LineTold, devices}
 use Rattle.looking_law.specs.RecordLook.{HasLooked}
 use Rattle.sample_looks.specs.declared.finding.Finding.{Finding}
 use Rattle.sample_looks.specs.declared.finding.Finding.TheVariants.{AllStand, Stale, Unfinished}

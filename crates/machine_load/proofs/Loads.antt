@@ -4,8 +4,8 @@ use Rattle.std.specs.Io.KnownBytes.{Appends}
 use Rattle.byte_io.specs.Output.{WritesAllBut}
 use Rattle.console_lines.specs.Dialling.{asked_once}
 use Rattle.host_core.specs.Core.{Core}
-use Rattle.load_devices.specs.Devices.{LineTold, line_told}
-use Rattle.load_devices.specs.Told.{Gains}
+use Rattle.host_devices.specs.Devices.{LineTold, line_told}
+use Rattle.host_devices.specs.Told.{Gains}
 use Rattle.load_engine.specs.declared.stop.Stop.{Stop}
 use Rattle.machine_load.specs.declared.beginning.BegunLife.{BegunLife}
 use Rattle.machine_load.specs.declared.fault.LoadFault.{LoadFault}

@@ -11,11 +11,11 @@ use Rattle.host_core.specs.Console.{go}
 use Rattle.host_core.specs.Core.{Core, begun}
 use Rattle.host_core.specs.Host.{IsHost}
 use Rattle.host_core.proofs.Turns.{begun_kept}
-use Rattle.load_devices.specs.declared.item.Item.{Item}
-use Rattle.load_devices.specs.declared.item.Kept.{Kept}
-use Rattle.load_devices.specs.declared.item.Kept.TheVariants.{Word}
-use Rattle.load_devices.specs.Dialogue.{dialogue, keys_of}
-use Rattle.load_devices.specs.Turns.{most_turns}
+use Rattle.host_devices.specs.declared.item.Item.{Item}
+use Rattle.host_devices.specs.declared.item.Kept.{Kept}
+use Rattle.host_devices.specs.declared.item.Kept.TheVariants.{Word}
+use Rattle.host_devices.specs.Dialogue.{dialogue, keys_of}
+use Rattle.host_devices.specs.Turns.{most_turns}
 use Rattle.load_engine.specs.declared.stop.Stop.{Stop}
 use Rattle.load_engine.specs.Driven.{turns_give}
 use Rattle.load_engine.specs.Keeping.{AllOrFront, KeepsEach, KeptBy}

@@ -1,6 +1,6 @@
 -- What was asked first and what was asked then.
 use Rattle.std.proofs.Common.{List, ◌++◌, Option, Some, None, ap, ◌∙◌, append_assoc}
-use Rattle.load_devices.specs.Told.{Gains}
+use Rattle.host_devices.specs.Told.{Gains}
 
 pub gains_more : {A : Type 0} (a b d : Option (List A)) (xs ys : List A) → Gains a b xs → Gains b d ys → Gains a d (xs ++ ys)
 gains_more None b d xs ys first then_ = tt

@@ -1,7 +1,7 @@
 -- How an opened life begins, over the line that is reached for it and with the keeper that is begun for it.
 use Rattle.std.specs.Prelude.{◌≡◌, ◌⊎◌, List, [], ◌∷◌, Option, Some, IfSome}
 use Rattle.console_lines.specs.Dialling.{Call, LineRequest, asked_once}
-use Rattle.load_devices.specs.Devices.{line_told}
+use Rattle.host_devices.specs.Devices.{line_told}
 use Rattle.machine_load.specs.declared.beginning.Beginning.{Beginning}
 use Rattle.machine_load.specs.declared.beginning.Beginning.TheVariants.{Over, Begun}
 use Rattle.machine_load.specs.declared.beginning.BegunLife.{BegunLife}

@@ -1,6 +1,6 @@
 -- What a load asks for its line: for its console once, or not at all.
 use Rattle.std.specs.Prelude.{◌⊎◌, List, [], Option, Some, None}
-use Rattle.load_devices.specs.Told.{Gains}
+use Rattle.host_devices.specs.Told.{Gains}
 use Rattle.console_lines.specs.Dialling.{LineRequest, Call, IsAskedInVain, asked_once}
 use Rattle.machine_load.specs.declared.fault.LoadFault.{LoadFault}
 use Rattle.machine_load.specs.declared.fault.LoadFault.TheVariants.{ReadRecord, RecordInUse, Record, Connect}

@@ -2,7 +2,7 @@
 use Rattle.std.specs.Prelude.{◌≡◌, ℕ, List, [], ◌∷◌, Option, Some, is_some}
 use Rattle.tape_image.specs.Plan.{PlanValue}
 use Rattle.load_engine.specs.declared.stop.Stop.{Stop}
-use Rattle.load_devices.specs.Devices.{KeeperCalls, LineTold}
+use Rattle.host_devices.specs.Devices.{KeeperCalls, LineTold}
 use Rattle.machine_load.specs.declared.load_end.LoadEnd.TheVariants.{Driven}
 use Rattle.machine_load.specs.Asked.{Change}
 use Rattle.machine_load.specs.Load.{SurroundingsTold, Finish, Going, Asks}

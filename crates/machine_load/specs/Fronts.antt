@@ -1,7 +1,7 @@
 -- Where a load may be killed while its stubs are brought in.
 use Rattle.std.specs.Prelude.{◌≡◌, ℕ, List, ◌++◌}
 use Rattle.tape_image.specs.Plan.{PlanValue}
-use Rattle.load_devices.specs.declared.item.Item.{Item}
+use Rattle.host_devices.specs.declared.item.Item.{Item}
 use Rattle.exchange_law.specs.Law.{said_all}
 use Rattle.exchange_law.specs.Station.{Program}
 use Rattle.load_lives.specs.StubParts.{AreStubParts, StubPart, stubs_said}

@@ -1,7 +1,7 @@
 -- What is told of a load's line once it was given back.
 use Rattle.std.specs.Prelude.{◌≡◌, List, [], ◌∷◌, Option, Some, None}
-use Rattle.load_devices.specs.Told.{Gains}
-use Rattle.load_devices.specs.Devices.{LineTold}
+use Rattle.host_devices.specs.Told.{Gains}
+use Rattle.host_devices.specs.Devices.{LineTold}
 use Rattle.console_lines.specs.Reached.{IsUnused}
 use Rattle.host_core.specs.Core.{Core}
 use Rattle.machine_load.specs.declared.looks.Looks.{Looks}

@@ -3,10 +3,10 @@ use Rattle.std.specs.Prelude.{◌≡◌, ◌^◌, ◌<◌, ℕ, false, List, [],
 use mathlib.Core.Logic.{inl, inr}
 use Rattle.tape_image.specs.Plan.{PlanValue, IsPlan}
 use Rattle.host_core.specs.Core.{Core}
-use Rattle.load_devices.specs.declared.item.Item.{Item}
-use Rattle.load_devices.specs.Dialogue.{dialogue}
+use Rattle.host_devices.specs.declared.item.Item.{Item}
+use Rattle.host_devices.specs.Dialogue.{dialogue}
 use Rattle.load_engine.specs.declared.stop.Stop.{Stop}
-use Rattle.load_devices.specs.Devices.{Devices, LineTold}
+use Rattle.host_devices.specs.Devices.{Devices, LineTold}
 use Rattle.load_record.specs.Keeper.{Keeper, HoldsRecord}
 use Rattle.load_lives.specs.Keepers.{WentOutAt, record_calls}
 use Rattle.load_lives.specs.Lives.{PassesOver, WireAndRecord, last_core}

@@ -7,15 +7,15 @@ use Rattle.host_core.specs.declared.phase.End.{End}
 use Rattle.host_core.specs.declared.phase.End.TheVariants.{Loaded, MaybeStarted}
 use Rattle.host_core.specs.declared.progress.Progress.{Progress}
 use Rattle.host_core.specs.Core.{Core, begun, ended}
-use Rattle.load_devices.specs.declared.item.Kept.{Kept}
-use Rattle.load_devices.specs.Told.{Gains}
+use Rattle.host_devices.specs.declared.item.Kept.{Kept}
+use Rattle.host_devices.specs.Told.{Gains}
 use Rattle.load_engine.specs.declared.stop.Stop.{Stop}
 use Rattle.load_engine.specs.declared.stop.Stop.TheVariants.{Ended}
 use Rattle.load_record.specs.declared.version.Version.TheVariants.{Second}
 use Rattle.load_record.specs.RecordText.{record_text}
 use Rattle.load_record.specs.Reading.{Says}
 use Rattle.byte_io.specs.Output.{WritesAllBut}
-use Rattle.load_devices.specs.Devices.{Devices, LineTold, devices}
+use Rattle.host_devices.specs.Devices.{Devices, LineTold, devices}
 use Rattle.console_lines.specs.Reached.{IsUnused}
 use Rattle.machine_load.specs.Asked.{Change, LoadTask, Opened, opened_as, ◌⇒◌}
 use Rattle.machine_load.specs.GivenBack.{IsGivenBack}

@@ -6,7 +6,7 @@ use Rattle.tape_image.specs.Plan.{PlanValue}
 use Rattle.load_record.specs.declared.reader.RecordError.{RecordError}
 use Rattle.load_record.specs.Reading.{Says}
 use Rattle.load_record.specs.declared.reader.RecordError.TheVariants.{NotARecord}
-use Rattle.load_devices.specs.Devices.{LineTold}
+use Rattle.host_devices.specs.Devices.{LineTold}
 use Rattle.machine_load.specs.Asked.{Change, LoadTask, ◌⇒◌}
 use Rattle.machine_load.specs.GivenBack.{GivesLooked, GivesNone}
 use Rattle.host_core.specs.Core.{Core}

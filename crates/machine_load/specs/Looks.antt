@@ -1,9 +1,9 @@
 -- The looks of a load: at words that its record has, before it is believed.
 use Rattle.std.specs.Prelude.{◌≡◌, ℕ, ◌-◌, ◌≤◌, false, List, [], length, Option, Some, None}
-use Rattle.load_devices.specs.Devices.{LineTold}
+use Rattle.host_devices.specs.Devices.{LineTold}
 use Rattle.host_core.specs.declared.phase.End.TheVariants as host
 use Rattle.host_core.specs.Core.{Core, begun}
-use Rattle.load_devices.specs.Turns.{most_turns}
+use Rattle.host_devices.specs.Turns.{most_turns}
 use Rattle.machine_load.specs.Asked.{Change, ◌⇒◌}
 use Rattle.load_engine.specs.declared.stop.Stop.TheVariants as drive
 use Rattle.machine_load.specs.declared.load_end.LoadEnd.{LoadEnd}

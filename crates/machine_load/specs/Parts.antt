@@ -1,8 +1,8 @@
 -- The parts of a life on its line: its stubs, where it brings some in, and its host behind them.
 use Rattle.std.specs.Prelude.{◌≡◌, Option, Some, None}
 use Rattle.host_core.specs.Core.{Core}
-use Rattle.load_devices.specs.Devices.{Devices, KeeperCalls, LineTold, devices}
-use Rattle.load_devices.specs.Turns.{most_turns}
+use Rattle.host_devices.specs.Devices.{Devices, KeeperCalls, LineTold, devices}
+use Rattle.host_devices.specs.Turns.{most_turns}
 use Rattle.load_engine.specs.declared.stop.Stop.{Stop}
 use Rattle.load_engine.specs.Driven.{IsDriven, IsKeptBy, turns_give}
 use Rattle.load_engine.specs.Run.{Driving, driving}

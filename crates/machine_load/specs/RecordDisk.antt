@@ -2,7 +2,7 @@
 use Rattle.std.specs.Prelude.{◌≡◌, ◌⊎◌, ℕ, Bool, List, [], ◌++◌, Option, Some, None, Result, Ok, Err, ⊤}
 use Rattle.record_file.specs.Beginning.{IsBegun, IsNotBegun}
 use Rattle.record_file.specs.Closing.{IsRecordClosed, Remains}
-use Rattle.load_devices.specs.Told.{HasAsked}
+use Rattle.host_devices.specs.Told.{HasAsked}
 use Rattle.record_file.specs.DiskStep.{DiskStep}
 use Rattle.record_file.specs.Reading.{IsRead, IsNotRead}
 use Rattle.record_file.specs.declared.made.Made.{Made}

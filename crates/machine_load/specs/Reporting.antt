@@ -2,7 +2,7 @@
 use Rattle.std.specs.Prelude.{◌≡◌}
 use Rattle.std.specs.Io.KnownBytes.{Appends}
 use Rattle.byte_io.specs.Output.{WritesPrefix}
-use Rattle.load_devices.specs.declared.line.Line.{Ghosts as Line}
+use Rattle.host_devices.specs.declared.line.Line.{Ghosts as Line}
 use Rattle.machine_load.specs.declared.fault.LoadFault.{LoadFault}
 use Rattle.machine_load.specs.declared.fault.LoadFault.TheVariants.{WriteOutput}
 use Rattle.machine_load.specs.declared.lived.Lived.{Lived}

@@ -1,10 +1,10 @@
 -- A load as those tell of it with whom it is done: the surroundings and the output, the line and the keeper.
 use Rattle.std.specs.Prelude.{◌≡◌, ◌⊎◌, List, Option, IsSome, option_map}
 use Rattle.std.specs.declared.io.Write.{Ghosts as Write}
-use Rattle.load_devices.specs.declared.keep.Keep.{Ghosts as Keep}
-use Rattle.load_devices.specs.declared.line.Line.{Ghosts as Line}
-use Rattle.load_devices.specs.Told.{Gains}
-use Rattle.load_devices.specs.Devices.{calls_of, line_told}
+use Rattle.host_devices.specs.declared.keep.Keep.{Ghosts as Keep}
+use Rattle.host_devices.specs.declared.line.Line.{Ghosts as Line}
+use Rattle.host_devices.specs.Told.{Gains}
+use Rattle.host_devices.specs.Devices.{calls_of, line_told}
 use Rattle.machine_load.specs.declared.fault.LoadFault.{LoadFault}
 use Rattle.machine_load.specs.declared.lived.Lived.{Lived}
 use Rattle.machine_load.specs.declared.outcome.Outcome.{Outcome}

@@ -1,6 +1,6 @@
 -- What a load asks of its surroundings, and what they answer.
 use Rattle.std.specs.Prelude.{Result, Ok, Err}
-use Rattle.load_devices.specs.declared.fault.LineFault.{LineFault}
+use Rattle.host_devices.specs.declared.fault.LineFault.{LineFault}
 use Rattle.record_file.specs.declared.old_record.OldRecord.{OldRecord}
 use Rattle.record_file.specs.declared.old_record.Writable.{Writable}
 use Rattle.record_file.specs.declared.record_fault.RecordFault.{RecordFault}

@@ -3,7 +3,7 @@
 use crate::records::Records;
 use crate::surroundings::Surroundings;
 use console_lines::Reach;
-use load_devices::LineFault;
+use host_devices::LineFault;
 use record_file::{OldRecord, RecordFault};
 use std::alloc::Global;
 use tape_image::Plan;

@@ -1,5 +1,5 @@
 use byte_io::WriteFault;
-use load_devices::LineFault;
+use host_devices::LineFault;
 use load_record::RecordError;
 use record_file::RecordFault;
 use std::alloc::AllocError;

@@ -1,6 +1,6 @@
 //! The looks of a load: at words that its record has, before it is believed.
 ghost use Rattle.std.specs.Prelude.{◌≡◌, [], IfOk};
-ghost use Rattle.load_devices.specs.Devices.{line_told};
+ghost use Rattle.host_devices.specs.Devices.{line_told};
 ghost use Rattle.machine_load.specs.Asked.{◌⇒◌};
 ghost use Rattle.machine_load.specs.Looks.{AreLooksAt, IsSampled, held_up_by, unfinished_at};
 ghost use Rattle.reading_core.specs.Addresses.{addresses_of};
@@ -9,7 +9,7 @@ ghost use Rattle.reading_core.specs.Reader.{begun};
 use crate::first_life::FirstLife;
 use crate::load_end::LoadEnd;
 use host_core::End;
-use load_devices::{Line, Unwatched};
+use host_devices::{Line, Unwatched};
 use load_engine::Stop;
 use reading_core::{End as ReadingEnd, ReadingCore};
 use reading_engine::Stop as ReadingStop;

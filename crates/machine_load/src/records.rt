@@ -6,7 +6,7 @@ ghost use Rattle.record_file.specs.RecordFault.{IsUnbegun, IsUnread};
 ghost use Rattle.record_file.specs.Taking.{kind_of};
 ghost use Rattle.tape_image.specs.Plan.{PlanValue};
 
-use load_devices::{Keep, MemoryKeep};
+use host_devices::{Keep, MemoryKeep};
 use record_file::{Disk, DiskRecord, OldRecord, RecordFault, RecordFile, Writable};
 use std::alloc::Global;
 use tape_image::Plan;

@@ -1,12 +1,12 @@
 //! The stubs of a load.
 ghost use Rattle.std.specs.Prelude.{◌≡◌, None, is_some};
 ghost use Rattle.host_core.specs.Core.{ended};
-ghost use Rattle.load_devices.specs.Devices.{calls_of, devices_of};
+ghost use Rattle.host_devices.specs.Devices.{calls_of, devices_of};
 ghost use Rattle.machine_load.specs.Parts.{AreBrought, AreKept, stubs_of};
 ghost use Rattle.machine_load.specs.Stubs.{hindrance};
 
 use crate::first_life::FirstLife;
-use load_devices::{Keep, Line, Onlooker};
+use host_devices::{Keep, Line, Onlooker};
 use load_engine::Stop;
 use std::alloc::Global;
 use stub_engine::{Stop as StubStop, Tally, bring_in};

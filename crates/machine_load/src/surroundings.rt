@@ -1,17 +1,17 @@
 ghost use Rattle.std.specs.Prelude.{◌≡◌, ℕ, List, [], ◌∷◌, Option, None, IfOk, IfErr, OnOk, ⊤};
 ghost use Rattle.std.specs.Io.KnownBytes.{Keeps};
 ghost use Rattle.tape_values.specs.Told.{IsAsTold};
-ghost use Rattle.load_devices.specs.Told.{Gains};
+ghost use Rattle.host_devices.specs.Told.{Gains};
 ghost use Rattle.machine_load.specs.Load.{IsTextBegun};
 ghost use Rattle.machine_load.specs.RecordDisk.{RecordDisk, IsReadAnswered, IsBeginAnswered};
 ghost use Rattle.record_file.specs.RecordFault.{IsUnread, IsUnbegun};
-ghost use Rattle.load_devices.specs.Devices.{LineTold, line_told};
+ghost use Rattle.host_devices.specs.Devices.{LineTold, line_told};
 ghost use Rattle.console_lines.specs.Reached.{IsUnused};
 ghost use Rattle.console_lines.specs.Dialling.{LineRequest, Call, ToDevice, asked_for};
 ghost use Rattle.tape_image.specs.Plan.{PlanValue};
 ghost use Rattle.machine_load.specs.Step.{LoadStep, RecordGivenBack, read_step, connect_step, begin_step};
 
-use load_devices::{Keep, Line, LineFault};
+use host_devices::{Keep, Line, LineFault};
 use record_file::{OldRecord, RecordFault};
 use std::alloc::Global;
 use tape_image::Plan;

@@ -3,8 +3,8 @@ use Rattle.std.proofs.Common.{◌≡◌, ℕ, ◌-◌, ◌^◌, ◌<◌, List, [
 use Rattle.odt_machine.specs.Machine.{Machine, word_at}
 use Rattle.tape_image.specs.Word.{WordValue}
 use Rattle.host_core.specs.declared.heard.Heard.{Heard}
-use Rattle.load_devices.specs.declared.item.Item.{Item}
-use Rattle.load_devices.specs.Turns.{most_turns}
+use Rattle.host_devices.specs.declared.item.Item.{Item}
+use Rattle.host_devices.specs.Turns.{most_turns}
 use Rattle.reading_core.specs.Addresses.{AreAddresses, addresses_of}
 use Rattle.reading_core.specs.Invariant.{IsReader}
 use Rattle.reading_core.specs.Laws.{led}

@@ -4,11 +4,11 @@ use Rattle.tape_values.specs.Told.{IsAsTold}
 use Rattle.tape_image.specs.Word.{WordValue}
 use Rattle.console_lines.specs.Console.{ConsoleTold}
 use Rattle.console_lines.specs.Dialling.{asked_once}
-use Rattle.load_devices.specs.Devices.{LineTold}
-use Rattle.load_devices.specs.Failures.{CountsFault, IsLastFault}
-use Rattle.load_devices.specs.Told.{Gains}
-use Rattle.load_devices.specs.Turns.{most_turns}
-use Rattle.load_devices.specs.declared.item.Item.{Item}
+use Rattle.host_devices.specs.Devices.{LineTold}
+use Rattle.host_devices.specs.Failures.{CountsFault, IsLastFault}
+use Rattle.host_devices.specs.Told.{Gains}
+use Rattle.host_devices.specs.Turns.{most_turns}
+use Rattle.host_devices.specs.declared.item.Item.{Item}
 use Rattle.reading_core.specs.Addresses.{AreAddresses, IsRange, addresses_of}
 use Rattle.reading_core.specs.Bound.{reading_bound}
 use Rattle.reading_core.specs.Invariant.{IsReader}

@@ -1,8 +1,8 @@
 -- Turns that are none, and what is known of an answer.
 use Rattle.std.proofs.Common.{◌≡◌, true, Some, Result, Ok, Err, OnOk, refl, subst, arith}
 use Rattle.std.specs.Prelude.{IfErr, is_err}
-use Rattle.load_devices.specs.Devices.{LineTold}
-use Rattle.load_devices.specs.Turns.{most_turns}
+use Rattle.host_devices.specs.Devices.{LineTold}
+use Rattle.host_devices.specs.Turns.{most_turns}
 use Rattle.reading_core.specs.declared.phase.End.{End}
 use Rattle.reading_core.specs.Invariant.{IsReader}
 use Rattle.reading_core.specs.Reader.{Reader, ended}

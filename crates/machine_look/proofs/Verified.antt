@@ -12,7 +12,7 @@ use Rattle.reading_core.specs.declared.phase.End.TheVariants.{Complete, GaveUp a
 use Rattle.reading_core.specs.Addresses.{addresses_of}
 use Rattle.reading_core.specs.Reader.{Reader, begun, ended}
 use Rattle.looking_law.specs.Belief.{IsTrueReading}
-use Rattle.load_devices.specs.Devices.{LineTold}
+use Rattle.host_devices.specs.Devices.{LineTold}
 use Rattle.request_values.specs.Change.{Change, ◌⇒◌}
 use Rattle.reading_engine.specs.Inquired.{TellsEnd}
 use Rattle.reading_engine.specs.declared.stop.Stop.{Stop}

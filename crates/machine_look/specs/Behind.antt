@@ -4,9 +4,9 @@ use Rattle.tape_image.specs.Plan.{plan_of}
 use Rattle.tape_image.specs.Word.{WordValue, whole_word}
 use Rattle.tape_values.specs.Tape.{TapeValue}
 use Rattle.odt_machine.specs.Machine.{Machine, word_at}
-use Rattle.load_devices.specs.Told.{Gains}
-use Rattle.load_devices.specs.Turns.{most_turns}
-use Rattle.load_devices.specs.declared.item.Item.{Item}
+use Rattle.host_devices.specs.Told.{Gains}
+use Rattle.host_devices.specs.Turns.{most_turns}
+use Rattle.host_devices.specs.declared.item.Item.{Item}
 use Rattle.console_lines.specs.Console.{ConsoleTold}
 use Rattle.console_lines.specs.Dialling.{asked_once}
 use Rattle.reading_core.specs.Addresses.{AreAddresses, addresses_between, addresses_from, addresses_of}

@@ -1,7 +1,7 @@
 -- What looks and reading came to, and what is closed behind them.
 use Rattle.std.specs.Prelude.{◌≡◌, ℕ, ◌+◌, ◌*◌, ◌<◌, ◌≤◌, List, ◌++◌, length, Option, Some, None, ⊤}
 use Rattle.tape_values.specs.Block.{top}
-use Rattle.load_devices.specs.Turns.{most_turns}
+use Rattle.host_devices.specs.Turns.{most_turns}
 use Rattle.reading_engine.specs.Inquired.{TellsEnd}
 use Rattle.request_values.specs.Change.{◌⇒◌}
 use Rattle.tape_shelf.specs.declared.shelf.ShelfFault.{ShelfFault}

@@ -1,13 +1,13 @@
 -- A look at a machine: a reading that begins with nothing read, over a line that was reached for it.
 use Rattle.std.specs.Prelude.{◌≡◌, ℕ, ◌≤◌, List, [], ◌∷◌, length, Option, Some, None, Result, OnOk}
 use Rattle.odt_machine.specs.Machine.{Machine}
-use Rattle.load_devices.specs.Told.{Gains}
-use Rattle.load_devices.specs.Failures.{CountsFault, IsLastFault}
-use Rattle.load_devices.specs.Devices.{LineTold}
+use Rattle.host_devices.specs.Told.{Gains}
+use Rattle.host_devices.specs.Failures.{CountsFault, IsLastFault}
+use Rattle.host_devices.specs.Devices.{LineTold}
 use Rattle.reading_engine.specs.Failing.{line_fault}
-use Rattle.load_devices.specs.Turns.{most_turns}
+use Rattle.host_devices.specs.Turns.{most_turns}
 use Rattle.tape_values.specs.Told.{IsAsTold}
-use Rattle.load_devices.specs.declared.item.Item.{Item}
+use Rattle.host_devices.specs.declared.item.Item.{Item}
 use Rattle.reading_engine.specs.Honest.{IsHonest}
 use Rattle.console_lines.specs.Dialling.{Call, LineRequest, asked_once}
 use Rattle.reading_core.specs.Bound.{reading_bound}

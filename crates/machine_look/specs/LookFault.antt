@@ -3,7 +3,7 @@ use Rattle.std.specs.Prelude.{◌≡◌, ◌⊎◌, ℕ, ◌<◌, ◌≤◌, Lis
 use Rattle.std.specs.Io.KnownBytes.{Keeps}
 use Rattle.tape_image.specs.Plan.{PlanValue}
 use Rattle.tape_image.specs.Word.{WordValue}
-use Rattle.load_devices.specs.Turns.{most_turns}
+use Rattle.host_devices.specs.Turns.{most_turns}
 use Rattle.console_lines.specs.Dialling.{IsAskedInVain}
 use Rattle.reading_core.specs.Addresses.{addresses_of}
 use Rattle.reading_core.specs.Reader.{Reader, begun, ended}

@@ -2,10 +2,10 @@
 use Rattle.std.specs.Prelude.{◌≡◌, ℕ, ◌+◌, ◌<◌, ◌≤◌, List, [], ◌∷◌, ◌++◌, length, Option, None}
 use Rattle.std.specs.Io.KnownBytes.{Appends, Keeps}
 use Rattle.tape_values.specs.Tape.{plain_text}
-use Rattle.load_devices.specs.Turns.{most_turns}
+use Rattle.host_devices.specs.Turns.{most_turns}
 use Rattle.console_lines.specs.Console.{ConsoleTold}
 use Rattle.console_lines.specs.declared.reach.Reach.{Ghosts as Reach}
-use Rattle.load_devices.specs.Devices.{LineTold}
+use Rattle.host_devices.specs.Devices.{LineTold}
 use Rattle.console_lines.specs.Dialling.{Call, LineRequest}
 use Rattle.byte_io.specs.Output.{WritesAllBut}
 use Rattle.reading_core.specs.Reader.{Reader}

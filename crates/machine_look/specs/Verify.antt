@@ -6,7 +6,7 @@ use Rattle.tape_image.specs.Word.{WordValue}
 use Rattle.odt_machine.specs.Machine.{Machine}
 use Rattle.line_world.specs.Safe.{FirstStand}
 use Rattle.byte_io.specs.Output.{WritesAllBut}
-use Rattle.load_devices.specs.Turns.{most_turns}
+use Rattle.host_devices.specs.Turns.{most_turns}
 use Rattle.reading_core.specs.Addresses.{addresses_of}
 use Rattle.reading_core.specs.Reader.{Reader, begun, ended}
 use Rattle.reading_engine.specs.declared.stop.Stop.{Stop}

@@ -1,4 +1,4 @@
-use load_devices::{Onlooker, Sight};
+use host_devices::{Onlooker, Sight};
 
 /// Who looks on at a reading behind what was found: these words and mishaps are counted, too.
 #[derive(Drop)]

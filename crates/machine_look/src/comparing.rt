@@ -3,7 +3,7 @@ ghost use Rattle.std.specs.Prelude.{◌≡◌, [], None, Some, IfErr, IfOk, OnEr
 ghost use Rattle.std.specs.Io.KnownBytes.{Appends};
 ghost use Rattle.console_lines.specs.Console.{console_told};
 ghost use Rattle.console_lines.specs.Dialling.{IsAskedInVain};
-ghost use Rattle.load_devices.specs.Devices.{line_told};
+ghost use Rattle.host_devices.specs.Devices.{line_told};
 ghost use Rattle.reading_core.specs.Addresses.{addresses_of};
 ghost use Rattle.reading_core.specs.Invariant.{IsReader};
 ghost use Rattle.reading_core.specs.Reader.{ended};
@@ -18,7 +18,7 @@ use crate::difference::show_differences;
 use crate::look_fault::LookFault;
 use byte_io::WriteFault;
 use console_lines::Reach;
-use load_devices::{Line, MOST_TURNS, Onlooker};
+use host_devices::{Line, MOST_TURNS, Onlooker};
 use reading_core::ReadingCore;
 use reading_engine::{Stop, inquire};
 use std::io::Write;

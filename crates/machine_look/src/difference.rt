@@ -8,7 +8,7 @@ ghost use Rattle.machine_look.specs.VerifyReport.{difference_lines, lines_of};
 
 use crate::verify_report::difference_line;
 use byte_io::{WriteFault, write_and_flush};
-use load_devices::Onlooker;
+use host_devices::Onlooker;
 use std::io::Write;
 use tape_image::{Word, stands};
 

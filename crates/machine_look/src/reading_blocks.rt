@@ -1,7 +1,7 @@
 //! Reading, with each block on the shelf as soon as its last word was read.
 ghost use Rattle.std.specs.Prelude.{◌≡◌, ◌+◌, ◌*◌, ◌/◌, ◌<◌, ◌≤◌, ◌↔◌, ◌++◌, [], List, ℕ, None, Some, length, IfErr, IfOk, IsTrue, OnOk, ⊤};
 ghost use Rattle.tape_values.specs.Block.{top};
-ghost use Rattle.load_devices.specs.Devices.{line_told};
+ghost use Rattle.host_devices.specs.Devices.{line_told};
 ghost use Rattle.reading_core.specs.Invariant.{IsReader};
 ghost use Rattle.reading_core.specs.Reader.{ended};
 ghost use Rattle.reading_engine.specs.Inquired.{IsInquired, inquiry};
@@ -19,7 +19,7 @@ use crate::hosts::Hosts;
 use crate::look_fault::LookFault;
 use crate::saving::SaveOptions;
 use console_lines::Reach;
-use load_devices::{Line, MOST_TURNS, Onlooker, Unwatched};
+use host_devices::{Line, MOST_TURNS, Onlooker, Unwatched};
 use reading_core::ReadingCore;
 use reading_engine::{Stop, inquire};
 use sample_looks::{Finding, Looked, look_at_samples};

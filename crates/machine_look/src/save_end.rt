@@ -1,4 +1,4 @@
-use load_devices::LineFault;
+use host_devices::LineFault;
 
 /// How a `save` ended.
 #[derive(Clone, Copy, Debug, PartialEq, Eq)]

@@ -19,7 +19,7 @@ use crate::save_end::SaveEnd;
 use crate::save_report::{SaveCounts, held_end, save_end, save_report};
 use byte_io::write_and_flush;
 use console_lines::Reach;
-use load_devices::Onlooker;
+use host_devices::Onlooker;
 use request_values::AddressRange;
 use std::alloc::Global;
 use std::io::Write;

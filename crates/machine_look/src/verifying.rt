@@ -12,7 +12,7 @@ use crate::verify_end::VerifyEnd;
 use crate::verify_report::{last_lines, verify_end};
 use byte_io::write_and_flush;
 use console_lines::Reach;
-use load_devices::Onlooker;
+use host_devices::Onlooker;
 use reading_core::ReadingCore;
 use std::alloc::Global;
 use std::io::Write;

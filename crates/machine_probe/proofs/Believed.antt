@@ -4,7 +4,7 @@ use Rattle.std.proofs.lemmas.Bool.{eq-eqb}
 use Rattle.std.proofs.lemmas.List.Elements.{All-nil, All-cons}
 use Rattle.tape_image.specs.Memory.{top_of}
 use Rattle.odt_machine.specs.Machine.{Machine, word_at}
-use Rattle.load_devices.specs.declared.item.Item.{Item}
+use Rattle.host_devices.specs.declared.item.Item.{Item}
 use Rattle.honest_line.specs.Honest.{IsHonest}
 use Rattle.machine_probe.specs.declared.search.Search.{Search}
 use Rattle.machine_probe.specs.declared.search.Search.TheVariants as search

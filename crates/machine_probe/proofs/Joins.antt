@@ -1,8 +1,8 @@
 -- How the runs of a probe come to stand one behind another.
 use Rattle.std.proofs.Common.{◌≡◌, ℕ, ◌+◌, ◌-◌, ◌*◌, ◌/◌, true, false, Bool, List, [], ◌∷◌, ◌++◌, Option, Some, None, inr, refl, arith, ap, sym, subst, ◌∙◌, append_assoc, append-nil}
-use Rattle.load_devices.specs.declared.item.Item.{Item}
-use Rattle.load_devices.specs.Told.{Gains, SaysNothing}
-use Rattle.load_devices.proofs.Told.{gains_join, gains_kept, gains_none}
+use Rattle.host_devices.specs.declared.item.Item.{Item}
+use Rattle.host_devices.specs.Told.{Gains, SaysNothing}
+use Rattle.host_devices.proofs.Told.{gains_join, gains_kept, gains_none}
 use Rattle.looking_law.specs.Rows.{in_a_row}
 use Rattle.probe_report.specs.declared.findings.Attempt.{Attempt}
 use Rattle.probe_report.specs.declared.findings.Findings.{Findings}

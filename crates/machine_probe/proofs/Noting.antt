@@ -1,8 +1,8 @@
 -- How the notes of a line go on.
 use Rattle.std.proofs.Common.{◌≡◌, List, [], ◌∷◌, ◌++◌, Option, Some, None, ap, sym, ◌∙◌}
 use Rattle.tape_values.specs.Told.{IsAsTold}
-use Rattle.load_devices.specs.declared.item.Item.{Item}
-use Rattle.load_devices.specs.Told.{Gains, SaysNothing}
+use Rattle.host_devices.specs.declared.item.Item.{Item}
+use Rattle.host_devices.specs.Told.{Gains, SaysNothing}
 use Rattle.probe_report.specs.Notes.{Noted, notes_of}
 use Rattle.machine_probe.specs.Noted.{AreNotesSince}
 

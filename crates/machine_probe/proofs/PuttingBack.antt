@@ -11,9 +11,9 @@ use Rattle.host_core.specs.declared.phase.Phase.TheVariants.{Settle, Sync, Addre
 use Rattle.host_core.specs.Core.{Core, begun, ended, word_nr}
 use Rattle.host_core.specs.Host.{Basis, EndFits, IsHost, PhaseFits, basis_of}
 use Rattle.host_core.specs.Laws.{led}
-use Rattle.load_devices.specs.declared.item.Item.{Item}
-use Rattle.load_devices.specs.declared.item.Kept.{Kept}
-use Rattle.load_devices.specs.Dialogue.{dialogue}
+use Rattle.host_devices.specs.declared.item.Item.{Item}
+use Rattle.host_devices.specs.declared.item.Kept.{Kept}
+use Rattle.host_devices.specs.Dialogue.{dialogue}
 use Rattle.honest_line.specs.Trust.{IsTrusted, IsTrustworthy, MayBegin}
 use Rattle.honest_line.proofs.Trusted.{trustworthy}
 use Rattle.looking_law.specs.Belief.{IsReadyMachine}

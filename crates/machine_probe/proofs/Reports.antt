@@ -3,9 +3,9 @@ use Rattle.std.proofs.Common.{◌≡◌, ℕ, ◌^◌, ◌<◌, List, [], Option
 use Rattle.std.specs.Io.KnownBytes.{Appends, Keeps}
 use Rattle.std.proofs.KnownBytes.{Keeps-refl}
 use Rattle.byte_io.specs.Output.{WritesAllBut, WritesPrefix}
-use Rattle.load_devices.specs.Told.{Gains}
-use Rattle.load_devices.specs.declared.item.Item.{Item}
-use Rattle.load_devices.specs.declared.line.Line.{Ghosts as Line}
+use Rattle.host_devices.specs.Told.{Gains}
+use Rattle.host_devices.specs.declared.item.Item.{Item}
+use Rattle.host_devices.specs.declared.line.Line.{Ghosts as Line}
 use Rattle.console_lines.specs.Dialling.{asked_once}
 use Rattle.probe_report.specs.declared.findings.Findings.{Findings}
 use Rattle.probe_report.specs.declared.pace.Pace.{Pace}
@@ -20,7 +20,7 @@ use Rattle.machine_probe.specs.declared.probe_options.ProbeOptions.{ProbeOptions
 use Rattle.machine_probe.specs.Follow.{IsProbe}
 use Rattle.machine_probe.specs.Noted.{AreNotesSince}
 use Rattle.console_lines.specs.Console.{ConsoleTold}
-use Rattle.load_devices.specs.Devices.{line_told}
+use Rattle.host_devices.specs.Devices.{line_told}
 use Rattle.machine_probe.specs.Probe.{IsProbeCutShort, IsReport, IsProbeReported, IsProbeReportedOver, OverLine}
 use Rattle.machine_probe.specs.ProbeFault.{WayTold, way_of, IsProbeFault, IsUnreported, IsWanting, IsWantOfMemory}
 use Rattle.machine_probe.specs.declared.probe_fault.ProbeFault.{ProbeFault}

@@ -2,12 +2,12 @@
 use Rattle.std.proofs.Common.{◌≡◌, ℕ, ◌+◌, ◌*◌, ◌<◌, ◌≤◌, List, [], ◌∷◌, length, Some, refl, arith, ap, subst, sym, ◌∙◌, append-nil}
 use Rattle.tape_image.specs.Memory.{top_of}
 use Rattle.odt_machine.specs.Machine.{Machine}
-use Rattle.load_devices.specs.declared.item.Item.{Item}
-use Rattle.load_devices.specs.Devices.{LineTold}
-use Rattle.load_devices.specs.Dialogue.{keys_of}
-use Rattle.load_devices.specs.Failures.{CountsFault, IsLastFault}
-use Rattle.load_devices.specs.Told.{Gains}
-use Rattle.load_devices.proofs.Told.{gains_none, gains_join}
+use Rattle.host_devices.specs.declared.item.Item.{Item}
+use Rattle.host_devices.specs.Devices.{LineTold}
+use Rattle.host_devices.specs.Dialogue.{keys_of}
+use Rattle.host_devices.specs.Failures.{CountsFault, IsLastFault}
+use Rattle.host_devices.specs.Told.{Gains}
+use Rattle.host_devices.proofs.Told.{gains_none, gains_join}
 use Rattle.reading_engine.specs.Honest.{IsHonest}
 use Rattle.reading_core.specs.declared.phase.End.{End}
 use Rattle.reading_core.specs.declared.phase.End.TheVariants.{Complete, GaveUp, NoWord}

@@ -1,7 +1,7 @@
 -- What the engine of the looks makes of a pass.
 use Rattle.std.proofs.Common.{◌≡◌, ℕ, [], Some, refl, ap, subst, ◌∙◌}
-use Rattle.load_devices.specs.Devices.{LineTold}
-use Rattle.load_devices.specs.Failures.{CountsFault, IsLastFault}
+use Rattle.host_devices.specs.Devices.{LineTold}
+use Rattle.host_devices.specs.Failures.{CountsFault, IsLastFault}
 use Rattle.reading_core.specs.declared.phase.End.TheVariants.{Complete, GaveUp, NoWord}
 use Rattle.reading_core.specs.Invariant.{IsReader}
 use Rattle.reading_core.specs.Reader.{Reader}

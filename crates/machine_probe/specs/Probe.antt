@@ -2,12 +2,12 @@
 use Rattle.std.specs.Prelude.{◌≡◌, ℕ, List, [], ◌∷◌, Option}
 use Rattle.std.specs.Io.KnownBytes.{Appends}
 use Rattle.byte_io.specs.Output.{WritesAllBut}
-use Rattle.load_devices.specs.declared.item.Item.{Item}
-use Rattle.load_devices.specs.Told.{Gains}
-use Rattle.load_devices.specs.declared.line.Line.{Ghosts as Line}
+use Rattle.host_devices.specs.declared.item.Item.{Item}
+use Rattle.host_devices.specs.Told.{Gains}
+use Rattle.host_devices.specs.declared.line.Line.{Ghosts as Line}
 use Rattle.console_lines.specs.Dialling.{asked_once}
 use Rattle.console_lines.specs.Console.{ConsoleTold}
-use Rattle.load_devices.specs.Devices.{LineTold, line_told}
+use Rattle.host_devices.specs.Devices.{LineTold, line_told}
 use Rattle.looking_law.specs.Rows.{in_a_row}
 use Rattle.probe_report.specs.declared.findings.Findings.{Findings}
 use Rattle.probe_report.specs.declared.pace.Pace.{Pace}

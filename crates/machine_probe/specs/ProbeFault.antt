@@ -1,9 +1,9 @@
 -- How a probe comes to nothing, and what was done before (this project's own).
 use Rattle.std.specs.Prelude.{◌≡◌, ◌⊎◌, List, [], ◌∷◌, Option}
 use Rattle.std.specs.Io.KnownBytes.{Keeps}
-use Rattle.load_devices.specs.Told.{Gains}
-use Rattle.load_devices.specs.declared.item.Item.{Item}
-use Rattle.load_devices.specs.declared.line.Line.{Ghosts as Line}
+use Rattle.host_devices.specs.Told.{Gains}
+use Rattle.host_devices.specs.declared.item.Item.{Item}
+use Rattle.host_devices.specs.declared.line.Line.{Ghosts as Line}
 use Rattle.request_values.specs.Change.{Change, ◌⇒◌}
 use Rattle.console_lines.specs.Dialling.{Call, LineRequest, IsAskedInVain, asked_once}
 use Rattle.tape_values.specs.Told.{IsAsTold}
@@ -12,7 +12,7 @@ use Rattle.machine_probe.specs.declared.probe_fault.ProbeFault.TheVariants.{Conn
 use Rattle.machine_probe.specs.declared.probe_options.ProbeOptions.{ProbeOptions}
 use Rattle.machine_probe.specs.Follow.{IsBrokenOff}
 use Rattle.console_lines.specs.Console.{ConsoleTold}
-use Rattle.load_devices.specs.Devices.{LineTold, line_told}
+use Rattle.host_devices.specs.Devices.{LineTold, line_told}
 use Rattle.console_lines.specs.declared.reach.Reach.{Ghosts as Reach}
 use Rattle.machine_probe.specs.Probe.{IsProbeCutShort}
 use Rattle.machine_probe.specs.Runs.{OnLine}

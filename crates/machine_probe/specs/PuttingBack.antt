@@ -6,8 +6,8 @@ use Rattle.odt_machine.specs.Machine.{Machine, is_word, word_at}
 use Rattle.host_core.specs.declared.phase.End.TheVariants.{Loaded}
 use Rattle.host_core.specs.Core.{Core, begun}
 use Rattle.host_core.specs.Host.{IsHost}
-use Rattle.load_devices.specs.declared.item.Item.{Item}
-use Rattle.load_devices.specs.declared.item.Kept.{Kept}
+use Rattle.host_devices.specs.declared.item.Item.{Item}
+use Rattle.host_devices.specs.declared.item.Kept.{Kept}
 use Rattle.honest_line.specs.Honest.{IsHonest}
 use Rattle.looking_law.specs.Belief.{IsReadyMachine}
 use Rattle.load_engine.specs.declared.stop.Stop.{Stop}

@@ -1,7 +1,7 @@
 -- The runs of a probe: each with what was said in it.
 use Rattle.std.specs.Prelude.{◌≡◌, ℕ, List, [], ◌∷◌, Option, Some}
-use Rattle.load_devices.specs.declared.item.Item.{Item}
-use Rattle.load_devices.specs.Told.{Gains}
+use Rattle.host_devices.specs.declared.item.Item.{Item}
+use Rattle.host_devices.specs.Told.{Gains}
 use Rattle.machine_probe.specs.declared.search.Search.{Search}
 use Rattle.machine_probe.specs.MemoryEnd.{IsFound}
 use Rattle.machine_probe.specs.Passes.{Searches, ahead, limits, three_passes}

@@ -1,6 +1,6 @@
 ghost use Rattle.std.specs.Prelude.{◌≡◌, IfOk, OnErr};
-ghost use Rattle.load_devices.specs.Devices.{line_told};
-ghost use Rattle.load_devices.specs.Told.{SaysNothing};
+ghost use Rattle.host_devices.specs.Devices.{line_told};
+ghost use Rattle.host_devices.specs.Told.{SaysNothing};
 ghost use Rattle.machine_probe.specs.MemoryEnd.{FindsEnd};
 ghost use Rattle.machine_probe.specs.Passes.{ArePieces, IsRoom, limits, pass_over, passed};
 ghost use Rattle.machine_probe.specs.Steps.{Stepped};
@@ -8,7 +8,7 @@ ghost use Rattle.machine_probe.specs.Steps.{Stepped};
 use crate::pieces::{LARGE, Pieces, SMALL, WORDS};
 use crate::room::Room;
 use crate::search::Search;
-use load_devices::{Line, Unwatched};
+use host_devices::{Line, Unwatched};
 use reading_core::End;
 use reading_engine::{Stop, inquire};
 use std::alloc::{AllocError, Global};

@@ -5,7 +5,7 @@ ghost use Rattle.tape_values.specs.Told.{IsAsTold};
 
 use crate::stopwatch::Stopwatch;
 use host_core::Heard;
-use load_devices::{Line, LineFault};
+use host_devices::{Line, LineFault};
 use probe_report::{Notes, Pace};
 use std::marker::{Brand, Model, PhantomData};
 use std::time::Clock;
@@ -13,7 +13,7 @@ use std::time::Clock;
 /// A name for what a line told at first, which only proofs read.
 pub(crate) trait FirstTold {
     ghost use Rattle.std.specs.Prelude.{List, Option};
-    ghost use Rattle.load_devices.specs.declared.item.Item.{Item};
+    ghost use Rattle.host_devices.specs.declared.item.Item.{Item};
 
     /// What the line told at first.
     ghost told: { Option (List Item) };

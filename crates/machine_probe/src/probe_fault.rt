@@ -1,5 +1,5 @@
 use byte_io::WriteFault;
-use load_devices::LineFault;
+use host_devices::LineFault;
 use std::alloc::AllocError;
 
 /// Why a probe came to nothing.

@@ -1,6 +1,6 @@
 //! The command `probe`.
 ghost use Rattle.std.specs.Prelude.{◌≡◌, [], IfErr, IfOk, OnErr, OnOk};
-ghost use Rattle.load_devices.specs.Told.{Gains};
+ghost use Rattle.host_devices.specs.Told.{Gains};
 ghost use Rattle.console_lines.specs.Dialling.{asked_once};
 ghost use Rattle.tape_values.specs.Told.{IsAsTold};
 ghost use Rattle.reading_core.specs.Addresses.{IsAddress};
@@ -18,7 +18,7 @@ use crate::probe_options::ProbeOptions;
 use crate::runs::{Lookers, make_runs};
 use byte_io::write_and_flush;
 use console_lines::Reach;
-use load_devices::Line;
+use host_devices::Line;
 use probe_report::{ProbeEnd, Report, put_report};
 use std::alloc::{AllocError, Global};
 use std::io::Write;

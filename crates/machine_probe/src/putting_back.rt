@@ -6,7 +6,7 @@ ghost use Rattle.machine_probe.specs.Runs.{OnLine, One};
 
 use crate::probe_options::ProbeOptions;
 use host_core::{End, HostCore, Progress};
-use load_devices::{Line, MemoryKeep, Unwatched};
+use host_devices::{Line, MemoryKeep, Unwatched};
 use load_engine::{Stop, drive};
 use std::alloc::{AllocError, Global};
 use tape_image::Plan;

@@ -2,7 +2,7 @@
 ghost use Rattle.std.specs.Prelude.{◌≡◌, true, IfOk, OnErr};
 ghost use Rattle.reading_core.specs.Addresses.{IsAddress};
 ghost use Rattle.reading_core.specs.Invariant.{IsReader};
-ghost use Rattle.load_devices.specs.Told.{SaysNothing};
+ghost use Rattle.host_devices.specs.Told.{SaysNothing};
 ghost use Rattle.looking_law.specs.Again.{looker};
 ghost use Rattle.probe_report.specs.Judging.{verdict_of};
 ghost use Rattle.machine_probe.specs.Came.{attempt_of, extent_of, first_of, sighting_of, trial_end_of};
@@ -15,7 +15,7 @@ use crate::memory_end::find_end;
 use crate::probe_options::ProbeOptions;
 use crate::putting_back::{Deposit, put_back};
 use crate::search::Search;
-use load_devices::{Line, Unwatched};
+use host_devices::{Line, Unwatched};
 use probe_report::{Attempt, Extent, Findings, Sighting, TrialEnd, Verdict, judge};
 use reading_core::{End, ReadingCore};
 use reading_engine::{Stop, inquire};

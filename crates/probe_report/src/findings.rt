@@ -1,4 +1,4 @@
-use load_devices::LineFault;
+use host_devices::LineFault;
 use trial_core::Seen;
 
 /// What a look at the word gave.

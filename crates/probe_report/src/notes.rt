@@ -1,7 +1,7 @@
 //! What is noted of what is said on a line.
 ghost use Rattle.std.specs.Prelude.{◌≡◌, ◌≤◌, ℕ, ◌==◌, ◌&&◌, ◌||◌, List, [], ◌∷◌, ◌++◌, length};
 ghost use Rattle.host_core.specs.Console.{prompt};
-ghost use Rattle.load_devices.specs.declared.item.Item.{Item};
+ghost use Rattle.host_devices.specs.declared.item.Item.{Item};
 ghost use Rattle.probe_report.specs.Notes.{echoes, last_of, notes_of, tail_length};
 
 use arrayvec::ArrayVec;

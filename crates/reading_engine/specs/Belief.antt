@@ -1,7 +1,7 @@
 -- What may be believed of the engine's answer over an honest line.
 use Rattle.std.specs.Prelude.{List, Option}
-use Rattle.load_devices.specs.declared.item.Item.{Item}
-use Rattle.load_devices.specs.Dialogue.{heard_of}
+use Rattle.host_devices.specs.declared.item.Item.{Item}
+use Rattle.host_devices.specs.Dialogue.{heard_of}
 use Rattle.load_engine.specs.Session.{HasGained}
 use Rattle.reading_core.specs.Reader.{Reader}
 use Rattle.looking_law.specs.Belief.{dialogue, IsBelievable}

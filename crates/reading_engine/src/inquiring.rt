@@ -1,12 +1,12 @@
 ghost use Rattle.std.specs.Prelude.{◌≡◌, None, Some};
-ghost use Rattle.load_devices.specs.Devices.{line_told};
-ghost use Rattle.load_devices.specs.Failures.{count_after, fault_of};
+ghost use Rattle.host_devices.specs.Devices.{line_told};
+ghost use Rattle.host_devices.specs.Failures.{count_after, fault_of};
 ghost use Rattle.reading_core.specs.Invariant.{IsReader};
 ghost use Rattle.reading_core.specs.Reader.{ended};
 ghost use Rattle.reading_engine.specs.Inquired.{Inquired, IsInquired, failure_of, inquiry};
 
 use crate::stop::Stop;
-use load_devices::{Line, LineFault, Onlooker, Sight};
+use host_devices::{Line, LineFault, Onlooker, Sight};
 use reading_core::ReadingCore;
 
 /// Lends the core to the line for at most so many turns.

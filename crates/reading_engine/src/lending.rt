@@ -7,7 +7,7 @@ ghost use Rattle.reading_engine.specs.Lent.{ReadsTrue};
 use crate::inquiring::inquire;
 use crate::stop::Stop;
 use honest_line::{LentLine, MemoryLine, Opening};
-use load_devices::Unwatched;
+use host_devices::Unwatched;
 use reading_core::ReadingCore;
 use std::marker::Brand;
 

@@ -1,4 +1,4 @@
-use load_devices::LineFault;
+use host_devices::LineFault;
 use reading_core::End;
 
 /// Why the engine stopped.

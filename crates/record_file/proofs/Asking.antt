@@ -1,6 +1,6 @@
 -- What was asked, and how that went.
 use Rattle.std.proofs.Common.{◌≡◌, List, [], Option, ◌∷◌, true, false, Result, Ok, Err}
-use Rattle.load_devices.specs.Told.{HasAsked, Tells}
+use Rattle.host_devices.specs.Told.{HasAsked, Tells}
 use Rattle.record_file.specs.DiskStep.{DiskStep, DiskRequest, Did, Failed, answered}
 use Rattle.std.specs.Result.{is_err, IfErr, IfOk, IsErr}
 

@@ -2,10 +2,10 @@
 use Rattle.std.proofs.Common.{◌≡◌, ℕ, List, [], ◌++◌, Bool, Option, Some, None, Result, Ok, Err, refl, ap, subst, sym, ◌∷◌, ◌∙◌}
 use Rattle.std.specs.Prelude.{MatchOption, option_map}
 use Rattle.std.specs.Result.{IfOk, IfErr}
-use Rattle.load_devices.proofs.Told.{tells_join, tells_none}
+use Rattle.host_devices.proofs.Told.{tells_join, tells_none}
 use Rattle.record_file.specs.Beginning.{Course, Replaced, GivenUp, course, new_name, IsRenaming, Whole, Unsynced, NotRenamed, Moved, IsWriting, NotHeld, NoRoom, NotWritten, Written, IsBeside, OutOfReach, NoMemory, NoFolder, AtFolder, IsLetGo, IsWrittenOver, IsNotWrittenOver, IsBegun, Beside, InPlace, IsNotBegun, NotBeside, NotInPlace}
 use Rattle.record_file.specs.Closing.{IsRecordClosed}
-use Rattle.load_devices.specs.Told.{HasAsked}
+use Rattle.host_devices.specs.Told.{HasAsked}
 use Rattle.record_file.specs.DiskStep.{DiskStep}
 use Rattle.record_file.specs.Holding.{IsHolding}
 use Rattle.record_file.specs.Reading.{kind_after, IsRead, Held, Absent, IsNotRead, IsWayFound, LetGo}

@@ -2,8 +2,8 @@
 use Rattle.std.proofs.Common.{◌≡◌, ℕ, ◌+◌, ◌<◌, ◌≤◌, ◌⊎◌, inl, inr, ◌∙◌, sym, subst, refl, List, [], ◌∷◌, ◌++◌, Bool, true, false, Option, Some, None, Result, Ok, Err}
 use Rattle.record_file.specs.Beginning.{IsLeftover, Left, Strange as StrangeNew, Taken, IsMaking, Fresh, Again, IsMakingHeld, new_name, Course, NotReplaced, GivenUp, Replaced, IsRenaming, Whole, Unsynced, NotRenamed, Moved, IsFolderSync, IsFileCut, IsLetGo, Goes, LeadsElsewhere, Stays, StaysBehindLink, IsWriting, NotHeld as NotHeldNew, NoRoom, NotWritten, Written, IsBeside, IsMadeReady, ReadyDevice, ReadyFile, IsUnready, MovedAway, IsWrittenOver, Device as OverDevice, PlainFile as OverFile, AtFolder, course, IsMakingSynced, OldFile, NewFile, NewBehindLink, Unresolved}
 use Rattle.record_file.specs.Course.{is_done, was_made, renamed}
-use Rattle.load_devices.proofs.Told.{tells_join}
-use Rattle.load_devices.specs.Told.{HasAsked, Tells}
+use Rattle.host_devices.proofs.Told.{tells_join}
+use Rattle.host_devices.specs.Told.{HasAsked, Tells}
 use Rattle.record_file.specs.DiskStep.{DiskStep, LedTo, Resolve, Look, LookAtName, FindSoleFile, Open, Hold, Rename, Remove, SyncFolder, Did, Failed, step_by, answered, IsNameSeen, Seen, Unseen, IsLookAtName, SeenThere, UnseenThere}
 use Rattle.record_file.specs.Folder.{IsFolderOf}
 use Rattle.record_file.specs.Holding.{hold_steps, IsHeld, PlainFile, Device, Unknown, InUse, Moved as HeldMoved, DeviceMoved, IsFound, IsMade, Linked, Appeared, LeadsNowhere, IsOpened, Found, Strange, IsTry, Taken as TakenIn, NotHeld, AreVain, OneMore, IsHeldAtLast, IsNotHeld}

@@ -2,7 +2,7 @@
 ghost use Rattle.std.specs.Prelude.{◌≡◌, [], ◌∷◌, IfOk, OnSome, Some};
 ghost use Rattle.record_file.specs.Beginning.{IsLeftover, IsMaking};
 ghost use Rattle.record_file.specs.Course.{is_done};
-ghost use Rattle.load_devices.specs.Told.{HasAsked};
+ghost use Rattle.host_devices.specs.Told.{HasAsked};
 ghost use Rattle.record_file.specs.DiskStep.{Failed, Open};
 ghost use Rattle.record_file.specs.Folder.{IsFolderOf};
 

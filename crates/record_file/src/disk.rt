@@ -1,7 +1,7 @@
 //! Where files are: what is asked of the system for a record, and for the tape of a save.
 ghost use Rattle.std.specs.Prelude.{◌≡◌, [], ◌∷◌, ℕ, List, Option, None, IfOk, OnSome, ⊤};
 ghost use Rattle.record_file.specs.DiskStep.{Look, LookAtName, FindSoleFile, FindFile, Open, Hold, Link, Rename, Remove, SyncFolder, Cut, SyncFile};
-ghost use Rattle.load_devices.specs.Told.{Tells};
+ghost use Rattle.host_devices.specs.Told.{Tells};
 ghost use Rattle.record_file.specs.DiskStep.{DiskStep, answered, resolved, step_by};
 
 use crate::file_id::{found_same, found_sole};

@@ -1,14 +1,14 @@
 //! A record that is begun anew: the old one is replaced whole, or written over where it is.
 ghost use Rattle.std.specs.Prelude.{◌≡◌, false, List, ℕ, IfOk, IfErr, IfSome, OnOk};
 ghost use Rattle.std.specs.Io.KnownBytes.{Appends};
-ghost use Rattle.load_devices.specs.declared.fault.KeepFault.TheVariants as keep;
+ghost use Rattle.host_devices.specs.declared.fault.KeepFault.TheVariants as keep;
 ghost use Rattle.load_record.specs.declared.version.Version.TheVariants.{Second};
 ghost use Rattle.load_record.specs.RecordText.{record_text};
 ghost use Rattle.record_file.specs.Beginning.{course, IsMakingHeld, IsRenaming, IsBeside, IsFolderSync, IsMakingSynced};
 ghost use Rattle.record_file.specs.Beginning.{IsFileCut, IsMadeReady, IsUnready, IsWrittenOver, IsNotWrittenOver};
 ghost use Rattle.record_file.specs.Course.{is_done, was_made, renamed};
 ghost use Rattle.record_file.specs.DiskRecord.{HasBegun};
-ghost use Rattle.load_devices.specs.Told.{HasAsked};
+ghost use Rattle.host_devices.specs.Told.{HasAsked};
 ghost use Rattle.record_file.specs.InPlace.{ChangesNoByte, HasRead, MayBeWrittenOver};
 ghost use Rattle.record_file.specs.RecordFault.{IsUnbegun};
 ghost use Rattle.record_file.specs.Taking.{kind_of};
@@ -20,7 +20,7 @@ use crate::held_file::{HeldFile, is_named, let_go};
 use crate::in_place::begun_in_memory;
 use crate::made::Made;
 use crate::record_fault::RecordFault;
-use load_devices::KeepFault;
+use host_devices::KeepFault;
 use load_record::FileKeep;
 use std::alloc::Global;
 use std::fs::OpenFile;

@@ -2,7 +2,7 @@
 ghost use Rattle.std.specs.Prelude.{◌≡◌, OnErr, ◌∷◌, IfErr, IfOk, None, Some, option_map, true, false};
 ghost use Rattle.std.specs.Bool.{OnTrue};
 ghost use Rattle.record_file.specs.Beginning.{IsLetGo};
-ghost use Rattle.load_devices.specs.Told.{HasAsked, Tells};
+ghost use Rattle.host_devices.specs.Told.{HasAsked, Tells};
 ghost use Rattle.record_file.specs.DiskStep.{IsNameSeen, IsLookAtName, Failed, Open};
 ghost use Rattle.record_file.specs.Holding.{IsFound, IsMade, IsOpened, hold_steps, IsHeld, IsTry, IsHolding, IsNotHeld};
 ghost use Rattle.record_file.specs.Taking.{made_of, IsOpenedAs, kind_of, tried, device_of, IsMadeSo};

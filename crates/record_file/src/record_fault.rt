@@ -1,5 +1,5 @@
 use byte_io::InputFault;
-use load_devices::KeepFault;
+use host_devices::KeepFault;
 use std::alloc::AllocError;
 
 /// Why a record can't be read, or not be begun anew.

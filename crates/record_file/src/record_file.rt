@@ -3,7 +3,7 @@ ghost use Rattle.std.specs.Prelude.{◌≡◌, None, false, IfErr, IfOk, IsSome,
 ghost use Rattle.record_file.specs.Beginning.{IsBegun, IsNotBegun};
 ghost use Rattle.record_file.specs.Closing.{IsRecordClosed, Remains};
 ghost use Rattle.record_file.specs.DiskRecord.{HasBegun};
-ghost use Rattle.load_devices.specs.Told.{HasAsked};
+ghost use Rattle.host_devices.specs.Told.{HasAsked};
 ghost use Rattle.record_file.specs.InPlace.{HasRead, MayBeWrittenOver};
 ghost use Rattle.load_record.specs.RecordText.{record_text};
 ghost use Rattle.load_record.specs.declared.version.Version.TheVariants.{Second};

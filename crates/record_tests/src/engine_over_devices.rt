@@ -2,7 +2,7 @@
 
 use console_lines::SocketLine;
 use host_core::{End, HostCore, Progress};
-use load_devices::{Keep, Unwatched};
+use host_devices::{Keep, Unwatched};
 use load_engine::{Stop, drive};
 use load_record::FileKeep;
 use simulated_system::{AMPLE, QUIET_MS, SimulatedConsole, SimulatedSystem, plan_of_one_word};

@@ -3,7 +3,7 @@
 
 use crate::frail_surroundings::{Frail, RECORD, Stopped, VERIFIED, load_one_word, machine};
 use host_core::End;
-use load_devices::KeepFault;
+use host_devices::KeepFault;
 use load_engine::Stop;
 use machine_load::{LoadEnd, LoadFault};
 use record_file::Writable;

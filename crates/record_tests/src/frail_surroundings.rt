@@ -2,7 +2,7 @@
 
 use byte_io::read_up_to;
 use honest_line::MemoryLine;
-use load_devices::{LineFault, Unwatched};
+use host_devices::{LineFault, Unwatched};
 use load_record::{FileKeep, LastingWrite, RECORD_LIMIT};
 use machine_load::{LoadEnd, LoadFault, Surroundings, load};
 use odt_machine::{LARGEST_WORDS, Odt, PLAIN_STYLE};

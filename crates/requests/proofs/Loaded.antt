@@ -2,8 +2,8 @@
 use Rattle.std.proofs.Common.{◌≡◌, ◌∙◌, ℕ, List, Option, Some, None, Result, Ok, Err, IfOk, IfErr, inl, inr, ap, subst, option_map, ⊎_elim}
 use Rattle.std.specs.Prelude.{⊤}
 use Rattle.console_lines.specs.Console.{ConsoleTold}
-use Rattle.load_devices.specs.Devices.{LineTold}
-use Rattle.load_devices.specs.Told.{Gains, HasAsked}
+use Rattle.host_devices.specs.Devices.{LineTold}
+use Rattle.host_devices.specs.Told.{Gains, HasAsked}
 use Rattle.machine_load.proofs.OnDisk.{closed_ok}
 use Rattle.machine_load.specs.declared.load_end.LoadEnd.{LoadEnd}
 use Rattle.machine_load.specs.declared.load_end.LoadEnd.TheVariants.{Driven, Unfinished, Stale}

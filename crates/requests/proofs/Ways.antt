@@ -3,7 +3,7 @@ use Rattle.std.proofs.Common.{◌≡◌, ◌∙◌, ℕ, List, Option, refl, sub
 use Rattle.console_lines.specs.Console.{ConsoleTold}
 use Rattle.console_lines.specs.Dialling.{Call, LineRequest}
 use Rattle.console_lines.specs.Path.{call_to}
-use Rattle.load_devices.specs.Devices.{LineTold}
+use Rattle.host_devices.specs.Devices.{LineTold}
 use Rattle.input_files.specs.Inputs.{Known}
 
 module _ {S : Type 0} (asked : S → Option (List LineRequest)) (lines : S → Option (List LineTold)) where

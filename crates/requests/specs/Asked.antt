@@ -3,7 +3,7 @@ use Rattle.std.specs.Prelude.{ℕ, List, Option, None}
 use Rattle.console_lines.specs.Console.{ConsoleTold}
 use Rattle.console_lines.specs.Dialling.{LineRequest}
 use Rattle.console_lines.specs.Path.{call_to}
-use Rattle.load_devices.specs.Devices.{LineTold}
+use Rattle.host_devices.specs.Devices.{LineTold}
 use Rattle.input_files.specs.Inputs.{Known}
 use Rattle.input_files.specs.Opening.{InputStep}
 use Rattle.record_file.specs.DiskStep.{DiskStep}

@@ -3,9 +3,9 @@ use Rattle.std.specs.Prelude.{◌≡◌, ℕ, ◌+◌, ◌*◌, ◌<◌, ◌≤�
 use Rattle.host_core.specs.declared.phase.End.{End}
 use Rattle.host_core.specs.declared.phase.End.TheVariants as end
 use Rattle.std.specs.declared.io.Write.{Ghosts as Write}
-use Rattle.load_devices.specs.declared.line.Line.{Ghosts as Line}
-use Rattle.load_devices.specs.Told.{Gains}
-use Rattle.load_devices.specs.Devices.{LineTold, line_told}
+use Rattle.host_devices.specs.declared.line.Line.{Ghosts as Line}
+use Rattle.host_devices.specs.Told.{Gains}
+use Rattle.host_devices.specs.Devices.{LineTold, line_told}
 use Rattle.endings.specs.declared.failure.Failure.{Failure}
 use Rattle.endings.specs.declared.failure.Failure.TheVariants.{CannotWrite}
 use Rattle.load_engine.specs.declared.stop.Stop.{Stop}

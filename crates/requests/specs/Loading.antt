@@ -3,7 +3,7 @@ use Rattle.std.specs.Prelude.{◌≡◌, ◌⊎◌, ℕ, List, Option, Some, Non
 use Rattle.std.specs.declared.io.Write.{Ghosts as Write}
 use Rattle.console_lines.specs.Console.{ConsoleTold}
 use Rattle.tape_image.specs.Plan.{PlanValue, starting}
-use Rattle.load_devices.specs.Told.{Gains, HasAsked}
+use Rattle.host_devices.specs.Told.{Gains, HasAsked}
 use Rattle.machine_load.specs.Asked.{Change, task, ◌⇒◌}
 use Rattle.machine_load.specs.Called.{asked_by, IsAskedBefore}
 use Rattle.machine_load.specs.declared.surroundings.Surroundings.{Ghosts as Surroundings}
@@ -12,8 +12,8 @@ use Rattle.machine_load.specs.Load.{SurroundingsTold, Ending, GoesOn, Setting, I
 use Rattle.machine_load.specs.LoadFault.{IsLoadFault}
 use Rattle.machine_load.specs.RecordDisk.{FileKnown, IsClosedAfter, RecordDisk, disk_asked_by, disk_asked_before}
 use Rattle.machine_load.specs.declared.fault.LoadFault.{LoadFault}
-use Rattle.load_progress.specs.declared.showing.KeptIn.{KeptIn}
-use Rattle.load_progress.specs.declared.showing.KeptIn.TheVariants.{Nothing, Record}
+use Rattle.progress_display.specs.declared.showing.KeptIn.{KeptIn}
+use Rattle.progress_display.specs.declared.showing.KeptIn.TheVariants.{Nothing, Record}
 use Rattle.record_file.specs.DiskStep.{DiskStep}
 use Rattle.endings.specs.declared.failure.Failure.{Failure}
 use Rattle.endings.specs.declared.status.Status.{Status}

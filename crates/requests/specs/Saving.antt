@@ -1,6 +1,6 @@
 -- What becomes of a request to save what a real machine holds.
 use Rattle.std.specs.Prelude.{◌≡◌, ◌⊎◌, List, Option, None, Some}
-use Rattle.load_devices.specs.Told.{HasAsked}
+use Rattle.host_devices.specs.Told.{HasAsked}
 use Rattle.record_file.specs.DiskStep.{DiskStep}
 use Rattle.machine_look.specs.LookFault.{IsSaveFault}
 use Rattle.machine_look.specs.Save.{IsSavedAndReported, SaveTold, save_told}

@@ -1,11 +1,11 @@
 //! What a person at the terminal is told beside the report.
 
 use host_core::End;
-use load_devices::Line;
+use host_devices::Line;
 use load_engine::Stop;
-use load_progress::{KeptIn, ProgressLine};
 use machine_load::{LoadEnd, Outcome, StubStop, Stubs};
 use octal::Octal;
+use progress_display::{KeptIn, ProgressLine};
 use request_values::Load;
 use std::alloc::Global;
 use std::fmt;

@@ -7,7 +7,7 @@ ghost use Rattle.requests.specs.Listening.{IsHeardOut, IsListenedTo, IsListening
 use console_lines::{listen, silences_within};
 use endings::Failure;
 use host_core::End;
-use load_devices::Line;
+use host_devices::Line;
 use load_engine::Stop;
 use machine_load::LoadEnd;
 use request_values::Load;

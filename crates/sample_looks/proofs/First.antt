@@ -19,9 +19,9 @@ use Rattle.line_world.specs.Site.{Ground, IsThere}
 use Rattle.line_world.specs.Wire.{Wire, forgiven, sent}
 use Rattle.line_world.proofs.Events.{safe_of}
 use Rattle.line_world.proofs.Starts.{ends_join}
-use Rattle.load_devices.specs.declared.item.Item.{Item}
-use Rattle.load_devices.specs.declared.item.Item.TheVariants.{Sent, Heard as Came}
-use Rattle.load_devices.specs.Dialogue.{keys_of}
+use Rattle.host_devices.specs.declared.item.Item.{Item}
+use Rattle.host_devices.specs.declared.item.Item.TheVariants.{Sent, Heard as Came}
+use Rattle.host_devices.specs.Dialogue.{keys_of}
 use Rattle.honest_line.specs.Honest.{resting}
 use Rattle.honest_line.specs.Moves.{MovesOn, Passes}
 use Rattle.honest_line.specs.Trust.{IsTrusted}

@@ -2,7 +2,7 @@
 use Rattle.std.specs.Prelude.{◌≡◌, ℕ, List, Option}
 use Rattle.tape_image.specs.Word.{WordValue}
 use Rattle.odt_machine.specs.Machine.{Machine}
-use Rattle.load_devices.specs.declared.item.Item.{Item}
+use Rattle.host_devices.specs.declared.item.Item.{Item}
 use Rattle.load_engine.specs.Session.{HasGained}
 use Rattle.looking_law.specs.Belief.{IsReadyMachine}
 use Rattle.reading_engine.specs.Honest.{IsHonest}

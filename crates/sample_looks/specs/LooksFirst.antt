@@ -8,8 +8,8 @@ use Rattle.host_core.specs.Console.{go}
 use Rattle.host_core.specs.Core.{begun}
 use Rattle.line_world.specs.Safe.{IsSafe}
 use Rattle.line_world.specs.Promises.{EndsAtGo}
-use Rattle.load_devices.specs.declared.item.Item.{Item}
-use Rattle.load_devices.specs.Dialogue.{dialogue, keys_of, said}
+use Rattle.host_devices.specs.declared.item.Item.{Item}
+use Rattle.host_devices.specs.Dialogue.{dialogue, keys_of, said}
 use Rattle.honest_line.specs.Honest.{IsHonest}
 use Rattle.honest_line.specs.Starts.{RunsByGo}
 use Rattle.honest_line.specs.Trust.{IsTrusted, MayBegin}

@@ -1,7 +1,7 @@
 //! Looking at samples, over a line that is given.
 ghost use Rattle.std.specs.Prelude.{◌≡◌, ◌≤◌, [], Some, length, IfOk};
-ghost use Rattle.load_devices.specs.Devices.{line_told};
-ghost use Rattle.load_devices.specs.Turns.{most_turns};
+ghost use Rattle.host_devices.specs.Devices.{line_told};
+ghost use Rattle.host_devices.specs.Turns.{most_turns};
 ghost use Rattle.reading_core.specs.Addresses.{AreAddresses, addresses_of};
 ghost use Rattle.reading_core.specs.Bound.{reading_bound};
 ghost use Rattle.reading_core.specs.Invariant.{IsReader};
@@ -11,7 +11,7 @@ ghost use Rattle.sample_looks.specs.Finding.{IsFound};
 ghost use Rattle.sample_looks.specs.Looked.{IsSoOver};
 
 use crate::finding::{Finding, found};
-use load_devices::{Line, MOST_TURNS, Onlooker};
+use host_devices::{Line, MOST_TURNS, Onlooker};
 use reading_core::ReadingCore;
 use reading_engine::{Stop, inquire};
 use std::alloc::{AllocError, Global};

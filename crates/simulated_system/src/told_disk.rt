@@ -1,7 +1,7 @@
 //! A disk that tells what it was asked.
 ghost use Rattle.std.specs.Prelude.{◌≡◌, ◌∷◌, [], None, IfOk, MatchResult};
 ghost use Rattle.std.specs.String.{string_bytes};
-ghost use Rattle.load_devices.specs.Told.{Tells};
+ghost use Rattle.host_devices.specs.Told.{Tells};
 ghost use Rattle.record_file.specs.DiskStep.{step_by};
 ghost use Rattle.simulated_system.specs.ToldSteps.{request_of, step_of, steps_of};
 

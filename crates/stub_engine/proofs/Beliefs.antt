@@ -1,7 +1,7 @@
 -- What a stretch of the engine says over a station's line.
 use Rattle.std.proofs.Common.{ℕ, ◌-◌, List, [], length, Option, Some, None, inl, inr, sym, subst, ◌∙◌, append-nil}
 use Rattle.tape_image.specs.Plan.{PlanValue}
-use Rattle.load_devices.specs.declared.item.Item.{Item}
+use Rattle.host_devices.specs.declared.item.Item.{Item}
 use Rattle.load_engine.proofs.Sessions.{gained_is}
 use Rattle.exchange_core.specs.declared.chunk.Chunk.{Chunk}
 use Rattle.exchange_core.specs.declared.exchange.Exchange.{Exchange}

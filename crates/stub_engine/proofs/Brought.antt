@@ -3,11 +3,11 @@ use Rattle.std.proofs.Common.{◌≡◌, ℕ, ◌^◌, ◌<◌, ◌≤◌, false
 use Rattle.tape_image.specs.Plan.{PlanValue}
 use Rattle.tape_image.specs.Word.{WordValue}
 use Rattle.host_core.specs.Core.{Core, begun}
-use Rattle.load_devices.specs.declared.fault.KeepFault.{KeepFault}
-use Rattle.load_devices.specs.declared.item.Kept.{Kept}
-use Rattle.load_devices.specs.Devices.{Devices, KeeperCalls, LineTold, devices}
-use Rattle.load_devices.specs.Failures.{CountsFault, IsLastFault}
-use Rattle.load_devices.specs.Turns.{most_turns}
+use Rattle.host_devices.specs.declared.fault.KeepFault.{KeepFault}
+use Rattle.host_devices.specs.declared.item.Kept.{Kept}
+use Rattle.host_devices.specs.Devices.{Devices, KeeperCalls, LineTold, devices}
+use Rattle.host_devices.specs.Failures.{CountsFault, IsLastFault}
+use Rattle.host_devices.specs.Turns.{most_turns}
 use Rattle.load_engine.specs.declared.stop.Stop.{Stop as LoadStop}
 use Rattle.load_engine.specs.Keeping.{keeping}
 use Rattle.load_engine.specs.Session.{session_told}

@@ -1,9 +1,9 @@
 -- Stubs' parts one after another.
 use Rattle.std.proofs.Common.{◌≡◌, ℕ, ◌+◌, List, [], ◌∷◌, ◌++◌, Option, Some, None, inr, refl, arith, ap, sym, subst, ◌∙◌, append_assoc, append-nil}
 use Rattle.tape_image.specs.Plan.{PlanValue}
-use Rattle.load_devices.specs.declared.item.Item.{Item}
-use Rattle.load_devices.specs.Dialogue.{dialogue}
-use Rattle.load_devices.proofs.Told.{gains_join}
+use Rattle.host_devices.specs.declared.item.Item.{Item}
+use Rattle.host_devices.specs.Dialogue.{dialogue}
+use Rattle.host_devices.proofs.Told.{gains_join}
 use Rattle.host_core.specs.Laws.{led}
 use Rattle.exchange_law.specs.Law.{said_all}
 use Rattle.exchange_law.specs.Start.{program as stub_program}

@@ -3,13 +3,13 @@ use Rattle.std.proofs.Common.{◌≡◌, ℕ, suc, ◌+◌, ◌-◌, ◌<◌, �
 use Rattle.std.proofs.lemmas.List.{drop_more, length-map, length-take-le, map-append}
 use Rattle.std.proofs.Math.Seq.{take-add, drop-drop}
 use Rattle.tape_image.specs.Word.{WordValue}
-use Rattle.load_devices.specs.declared.fault.KeepFault.{KeepFault}
-use Rattle.load_devices.specs.declared.item.Kept.{Kept}
-use Rattle.load_devices.specs.declared.item.Kept.TheVariants.{Word}
-use Rattle.load_devices.specs.Devices.{KeeperCalls}
-use Rattle.load_devices.specs.Failures.{CountsFault}
-use Rattle.load_devices.proofs.Told.{gains_join, gains_kept, gains_none}
-use Rattle.load_devices.specs.Told.{Gains, SaysNothing}
+use Rattle.host_devices.specs.declared.fault.KeepFault.{KeepFault}
+use Rattle.host_devices.specs.declared.item.Kept.{Kept}
+use Rattle.host_devices.specs.declared.item.Kept.TheVariants.{Word}
+use Rattle.host_devices.specs.Devices.{KeeperCalls}
+use Rattle.host_devices.specs.Failures.{CountsFault}
+use Rattle.host_devices.proofs.Told.{gains_join, gains_kept, gains_none}
+use Rattle.host_devices.specs.Told.{Gains, SaysNothing}
 use Rattle.load_engine.specs.Keeping.{AllOrFront, KeepsEach, KeepsAllButLast, keeping}
 use Rattle.load_engine.proofs.Keepings.{each_join}
 use Rattle.stub_engine.specs.Keeping.{GainsFront, IsKeptBy, IsToldBy, KeepsFront, words_kept}

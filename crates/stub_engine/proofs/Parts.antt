@@ -10,11 +10,11 @@ use Rattle.host_core.specs.declared.phase.Phase.{Phase}
 use Rattle.host_core.specs.declared.phase.Phase.TheVariants.{Settle, Sync, Address, Slash, Before, Value, Deposit, Return, Start, Go, Ended as PhaseEnded}
 use Rattle.host_core.specs.Core.{Core, begun, ended}
 use Rattle.host_core.specs.Laws.{led}
-use Rattle.load_devices.specs.declared.item.Item.{Item}
-use Rattle.load_devices.specs.Devices.{Devices}
-use Rattle.load_devices.specs.Dialogue.{dialogue}
-use Rattle.load_devices.specs.Turns.{most_turns}
-use Rattle.load_devices.proofs.Told.{gains_join, gains_none}
+use Rattle.host_devices.specs.declared.item.Item.{Item}
+use Rattle.host_devices.specs.Devices.{Devices}
+use Rattle.host_devices.specs.Dialogue.{dialogue}
+use Rattle.host_devices.specs.Turns.{most_turns}
+use Rattle.host_devices.proofs.Told.{gains_join, gains_none}
 use Rattle.load_engine.specs.declared.stop.Stop.{Stop as LoadStop}
 use Rattle.load_engine.specs.declared.stop.Stop.TheVariants.{Ended as LoadEnded, LineFailed as LoadLineFailed, KeepFailed as LoadKeepFailed, TurnsOver as LoadTurnsOver}
 use Rattle.load_engine.specs.Run.{driving}

@@ -3,14 +3,14 @@ use Rattle.std.proofs.Common.{◌≡◌, ℕ, ◌+◌, ◌-◌, ◌<◌, ◌≤�
 use Rattle.std.proofs.lemmas.List.{take-append-drop, take_more}
 use Rattle.tape_image.specs.Plan.{PlanValue}
 use Rattle.host_core.specs.declared.heard.Heard.{Heard}
-use Rattle.load_devices.specs.declared.fault.LineFault.{LineFault}
-use Rattle.load_devices.specs.declared.fault.KeepFault.{KeepFault}
-use Rattle.load_devices.specs.declared.item.Item.{Item}
-use Rattle.load_devices.specs.declared.item.Item.TheVariants.{Sent, Heard as Came}
-use Rattle.load_devices.specs.Devices.{Devices}
-use Rattle.load_devices.specs.Failures.{CountsFault}
-use Rattle.load_devices.specs.Told.{Gains, SaysNothing}
-use Rattle.load_devices.proofs.Told.{gains_kept, gains_join, gains_none}
+use Rattle.host_devices.specs.declared.fault.LineFault.{LineFault}
+use Rattle.host_devices.specs.declared.fault.KeepFault.{KeepFault}
+use Rattle.host_devices.specs.declared.item.Item.{Item}
+use Rattle.host_devices.specs.declared.item.Item.TheVariants.{Sent, Heard as Came}
+use Rattle.host_devices.specs.Devices.{Devices}
+use Rattle.host_devices.specs.Failures.{CountsFault}
+use Rattle.host_devices.specs.Told.{Gains, SaysNothing}
+use Rattle.host_devices.proofs.Told.{gains_kept, gains_join, gains_none}
 use Rattle.exchange_core.specs.declared.chunk.Chunk.{Chunk}
 use Rattle.exchange_core.specs.declared.exchange.Exchange.{Exchange}
 use Rattle.exchange_core.specs.declared.phase.End.{End}

@@ -2,9 +2,9 @@
 use Rattle.std.specs.Prelude.{◌≡◌, ◌+◌, ◌≤◌, ◌^◌, length, Option, Some, None, ⊤}
 use Rattle.tape_image.specs.Memory.{most_words}
 use Rattle.host_core.specs.Core.{Core}
-use Rattle.load_devices.specs.Devices.{Devices, LineTold, devices}
-use Rattle.load_devices.specs.Failures.{CountsFault, IsLastFault}
-use Rattle.load_devices.specs.Turns.{most_turns}
+use Rattle.host_devices.specs.Devices.{Devices, LineTold, devices}
+use Rattle.host_devices.specs.Failures.{CountsFault, IsLastFault}
+use Rattle.host_devices.specs.Turns.{most_turns}
 use Rattle.load_engine.specs.declared.stop.Stop.{Stop as LoadStop}
 use Rattle.load_engine.specs.Driven.{IsDriven}
 use Rattle.load_engine.specs.Failing.{keep_fault as load_keep_fault}

@@ -1,7 +1,7 @@
 -- Which device's failure stopped the engine.
 use Rattle.std.specs.Prelude.{Option, Some, None}
-use Rattle.load_devices.specs.declared.fault.KeepFault.{KeepFault}
-use Rattle.load_devices.specs.declared.fault.LineFault.{LineFault}
+use Rattle.host_devices.specs.declared.fault.KeepFault.{KeepFault}
+use Rattle.host_devices.specs.declared.fault.LineFault.{LineFault}
 use Rattle.stub_engine.specs.declared.exchange_stop.ExchangeStop.{ExchangeStop as Stop}
 use Rattle.stub_engine.specs.declared.exchange_stop.ExchangeStop.TheVariants.{LineFailed, KeepFailed}
 

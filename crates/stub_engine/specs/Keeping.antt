@@ -1,11 +1,11 @@
 -- What an engine gives a keeper to keep, and what it makes of it.
 use Rattle.std.specs.Prelude.{ℕ, ◌+◌, ◌-◌, ◌<◌, List, length, map, take, drop, Option}
 use Rattle.tape_image.specs.Word.{WordValue}
-use Rattle.load_devices.specs.declared.item.Kept.{Kept}
-use Rattle.load_devices.specs.declared.item.Kept.TheVariants.{Word}
-use Rattle.load_devices.specs.Devices.{KeeperCalls}
-use Rattle.load_devices.specs.Failures.{CountsFault, IsLastFault}
-use Rattle.load_devices.specs.Told.{Gains}
+use Rattle.host_devices.specs.declared.item.Kept.{Kept}
+use Rattle.host_devices.specs.declared.item.Kept.TheVariants.{Word}
+use Rattle.host_devices.specs.Devices.{KeeperCalls}
+use Rattle.host_devices.specs.Failures.{CountsFault, IsLastFault}
+use Rattle.host_devices.specs.Told.{Gains}
 use Rattle.load_engine.specs.Keeping.{AllOrFront, Keeping, KeepsEach, KeepsAllButLast}
 
 -- a list's words from one number to another, as what is to be kept

@@ -5,8 +5,8 @@ use Rattle.host_core.specs.declared.phase.End.{End}
 use Rattle.host_core.specs.declared.phase.End.TheVariants.{Started}
 use Rattle.host_core.specs.Core.{ended}
 use Rattle.host_core.specs.Laws.{led}
-use Rattle.load_devices.specs.declared.item.Item.{Item}
-use Rattle.load_devices.specs.Told.{Gains}
+use Rattle.host_devices.specs.declared.item.Item.{Item}
+use Rattle.host_devices.specs.Told.{Gains}
 use Rattle.load_engine.specs.declared.stop.Stop.{Stop as LoadStop}
 use Rattle.load_engine.specs.declared.stop.Stop.TheVariants.{Ended as LoadEnded, LineFailed as LoadLineFailed}
 use Rattle.load_engine.specs.declared.stop.Stop.TheVariants.{KeepFailed as LoadKeepFailed, TurnsOver as LoadTurnsOver}

@@ -1,12 +1,12 @@
 //! How a stub is brought in, and started.
 ghost use Rattle.host_core.specs.Core.{begun};
 ghost use Rattle.std.specs.Prelude.{false};
-ghost use Rattle.load_devices.specs.Devices.{line_told};
+ghost use Rattle.host_devices.specs.Devices.{line_told};
 ghost use Rattle.stub_engine.specs.Brought.{IsBringerDriven};
 
 use crate::unkept::Unkept;
 use host_core::{HostCore, Progress};
-use load_devices::{Line, MOST_TURNS, Unwatched};
+use host_devices::{Line, MOST_TURNS, Unwatched};
 use load_engine::{Stop, drive};
 use tape_image::Plan;
 

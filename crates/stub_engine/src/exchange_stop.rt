@@ -1,5 +1,5 @@
 use exchange_core::End;
-use load_devices::{KeepFault, LineFault};
+use host_devices::{KeepFault, LineFault};
 
 /// Why the engine stopped.
 #[derive(Clone, Copy, Debug, PartialEq, Eq)]

@@ -1,7 +1,7 @@
 ghost use Rattle.std.specs.Prelude.{◌≡◌, ◌≤◌, None, Some, length, OnOk, OnErr};
-ghost use Rattle.load_devices.specs.Devices.{calls_of, devices_of};
-ghost use Rattle.load_devices.specs.Failures.{count_after, fault_of};
-ghost use Rattle.load_devices.specs.Told.{Gains};
+ghost use Rattle.host_devices.specs.Devices.{calls_of, devices_of};
+ghost use Rattle.host_devices.specs.Failures.{count_after, fault_of};
+ghost use Rattle.host_devices.specs.Told.{Gains};
 ghost use Rattle.load_engine.specs.Keeping.{keeping};
 ghost use Rattle.exchange_core.specs.Chunk.{AreChunks};
 ghost use Rattle.exchange_core.specs.Exchange.{IsExchange, begun, ended};
@@ -12,7 +12,7 @@ ghost use Rattle.stub_engine.specs.Keeping.{IsKeptBy, IsToldBy, words_kept};
 
 use crate::exchange_stop::ExchangeStop;
 use exchange_core::{Chunk, Exchange};
-use load_devices::{Keep, KeepFault, Line, LineFault, Onlooker, Sight};
+use host_devices::{Keep, KeepFault, Line, LineFault, Onlooker, Sight};
 use tape_image::{Plan, Word};
 
 /// Exchanges the chunks with the stub at the other end of the line, behind the plan's first `from`

@@ -1,5 +1,5 @@
 use host_core::End;
-use load_devices::{KeepFault, LineFault};
+use host_devices::{KeepFault, LineFault};
 use std::alloc::AllocError;
 use tape_values::Memory;
 

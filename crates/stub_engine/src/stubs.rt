@@ -1,7 +1,7 @@
 //! The stubs of a load.
 ghost use Rattle.std.specs.Prelude.{◌≡◌, ◌<◌, ◌≤◌, ◌^◌, length, Some};
-ghost use Rattle.load_devices.specs.Devices.{calls_of, devices_of};
-ghost use Rattle.load_devices.specs.Failures.{fault_of};
+ghost use Rattle.host_devices.specs.Devices.{calls_of, devices_of};
+ghost use Rattle.host_devices.specs.Failures.{fault_of};
 ghost use Rattle.stub_engine.specs.Brought.{AreAllStubs, IsNextStub, stubs_give};
 ghost use Rattle.stub_engine.specs.Keeping.{IsKeptBy};
 ghost use Rattle.stub_engine.specs.Parts.{bringing, most_in_vain, why_left, why_unstarted};
@@ -14,7 +14,7 @@ use crate::planning::{PlannedStub, planned_stub};
 use crate::stop::Stop;
 use crate::tally::Tally;
 use host_core::End;
-use load_devices::{Keep, Line, MOST_TURNS, Onlooker};
+use host_devices::{Keep, Line, MOST_TURNS, Onlooker};
 use load_engine::Stop as LoadStop;
 use std::alloc::Global;
 use tape_image::Plan;

@@ -1,6 +1,6 @@
 ghost use Rattle.std.specs.Prelude.{None};
 
-use load_devices::{Keep, KeepFault};
+use host_devices::{Keep, KeepFault};
 use tape_image::Word;
 
 /// A keeper that keeps nothing: a stub's words are no progress of the load.

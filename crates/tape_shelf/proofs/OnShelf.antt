@@ -5,12 +5,12 @@ use Rattle.std.specs.Bool.{IsTrue}
 use Rattle.std.specs.Io.KnownBytes.{Appends}
 use Rattle.std.specs.Prelude.{OnSome, option_map, is_err, replicate, IfErr, IsErrAnd, OnErr, ⊤}
 use Rattle.std.specs.String.{string_bytes}
-use Rattle.load_devices.specs.Failures.{fault_of}
-use Rattle.load_devices.specs.Told.{HasAsked, Tells}
+use Rattle.host_devices.specs.Failures.{fault_of}
+use Rattle.host_devices.specs.Told.{HasAsked, Tells}
 use Rattle.record_file.specs.DiskStep.{DiskStep, Did, Failed, LedTo, answered, step_by, LookAtName, FindSoleFile, FindFile, Open, Hold, Link, Rename, Remove, Cut, SyncFile}
 use Rattle.record_file.specs.Folder.{IsFolderOf}
 use Rattle.record_file.specs.declared.disk.Access.TheVariants.{ReadOnly, ReadWrite}
-use Rattle.load_devices.proofs.Told.{tells_join, tells_none}
+use Rattle.host_devices.proofs.Told.{tells_join, tells_none}
 use Rattle.request_values.specs.Change.{Change, ◌⇒◌}
 use Rattle.tape_shelf.specs.Room.{room_of, IsFolderOpened}
 use Rattle.tape_shelf.specs.ShelfDisk.{Closing, Place, Room, ShelfDisk, closing_in, HasNoPart, HasNoRoom, HasPart, HasRoom, LeaveAll, resuming, IsPutOn, IsPut, Written, IsNoFileName, IsSearch, Free, IsNotReserved, NoRoom, IsReserved, Reserved, IsMakingHeld, IsTaking, IsTakingHeld, Unmade, Taken, NotTaken, IsGone, Goes, IsLeftBehind, IsOnDisk, Synced, IsNaming, Renamed, NotRenamed, IsSettling, IsNamed, Named, Unnamed, IsClosed, part_name, IsAdded, IsNotAdded, IsUnadded, NoFile}

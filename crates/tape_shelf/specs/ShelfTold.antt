@@ -1,6 +1,6 @@
 -- What a shelf tells of the steps that were done on it, and what each of them asks of its disk.
 use Rattle.std.specs.Prelude.{◌≡◌, ℕ, List, [], ◌∷◌, Option, Some, None}
-use Rattle.load_devices.specs.Told.{Gains}
+use Rattle.host_devices.specs.Told.{Gains}
 use Rattle.record_file.specs.DiskStep.{DiskStep}
 use Rattle.request_values.specs.Change.{Change}
 use Rattle.tape_shelf.specs.Shelf.{ShelfStep, Reserve, NotReserved, Resume, NotResumed, Add, NotAdded, Put, NotPut}

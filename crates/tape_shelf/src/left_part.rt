@@ -1,7 +1,7 @@
 //! The file beside a tape that an earlier save left, and that another one goes on with.
 ghost use Rattle.std.specs.Prelude.{◌≡◌, ◌∷◌, List, ℕ, Some, [], IfErr, IfOk, OnErr, OnOk, OnSome, false};
 ghost use Rattle.std.specs.String.{string_bytes};
-ghost use Rattle.load_devices.specs.Told.{HasAsked};
+ghost use Rattle.host_devices.specs.Told.{HasAsked};
 ghost use Rattle.record_file.specs.DiskStep.{Did, FindFile, FindSoleFile, Hold, Open};
 ghost use Rattle.record_file.specs.Folder.{IsFolderOf};
 ghost use Rattle.record_file.specs.declared.disk.Access.TheVariants.{ReadOnly, ReadWrite};

@@ -3,8 +3,8 @@ ghost use Rattle.std.specs.Prelude.{◌≡◌, ◌+◌, ◌∷◌, List, ℕ, Op
 ghost use Rattle.std.specs.Prelude.{◌↔◌, IsTrue, false, replicate, true};
 ghost use Rattle.std.specs.Io.KnownBytes.{Appends};
 ghost use Rattle.std.specs.String.{string_bytes};
-ghost use Rattle.load_devices.specs.Failures.{fault_of};
-ghost use Rattle.load_devices.specs.Told.{HasAsked};
+ghost use Rattle.host_devices.specs.Failures.{fault_of};
+ghost use Rattle.host_devices.specs.Told.{HasAsked};
 ghost use Rattle.record_file.specs.DiskStep.{Did, Failed, Link, LookAtName, SyncFile};
 ghost use Rattle.record_file.specs.Folder.{IsFolderOf};
 ghost use Rattle.tape_shelf.specs.Room.{IsFolderOpened, room_of};

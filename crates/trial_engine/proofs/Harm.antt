@@ -1,7 +1,7 @@
 -- A stretch of the engine is harmless, over an honest line.
 use Rattle.std.proofs.Common.{ℕ, ◌-◌, List, length, Option, Some, None, inl, inr, refl, sym, subst}
 use Rattle.host_core.specs.declared.heard.Heard.{Heard}
-use Rattle.load_devices.specs.declared.item.Item.{Item}
+use Rattle.host_devices.specs.declared.item.Item.{Item}
 use Rattle.load_engine.proofs.Sessions.{gained_is}
 use Rattle.trial_core.specs.declared.trial.Trial.{Trial}
 use Rattle.trial_core.specs.Trial.{IsTrial}

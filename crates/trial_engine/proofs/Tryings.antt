@@ -1,8 +1,8 @@
 -- What turns make of a trial.
 use Rattle.std.proofs.Common.{ℕ, Option, ap, ◌∙◌}
 use Rattle.std.specs.Prelude.{IfSome}
-use Rattle.load_devices.specs.Devices.{LineTold}
-use Rattle.load_devices.specs.Failures.{CountsFault, IsLastFault}
+use Rattle.host_devices.specs.Devices.{LineTold}
+use Rattle.host_devices.specs.Failures.{CountsFault, IsLastFault}
 use Rattle.trial_core.specs.declared.trial.Trial.{Trial}
 use Rattle.trial_core.specs.Trial.{IsTrial}
 use Rattle.trial_core.proofs.Lives.{led_address, led_digits, led_patience}

@@ -1,6 +1,6 @@
 -- Whether the line's failure stopped the engine.
 use Rattle.std.specs.Prelude.{Option, Some, None}
-use Rattle.load_devices.specs.declared.fault.LineFault.{LineFault}
+use Rattle.host_devices.specs.declared.fault.LineFault.{LineFault}
 use Rattle.trial_engine.specs.declared.stop.Stop.{Stop}
 use Rattle.trial_engine.specs.declared.stop.Stop.TheVariants.{LineFailed}
 

@@ -1,11 +1,11 @@
 ghost use Rattle.std.specs.Prelude.{◌≡◌, None, Some};
-ghost use Rattle.load_devices.specs.Devices.{line_told};
-ghost use Rattle.load_devices.specs.Failures.{count_after, fault_of};
+ghost use Rattle.host_devices.specs.Devices.{line_told};
+ghost use Rattle.host_devices.specs.Failures.{count_after, fault_of};
 ghost use Rattle.trial_core.specs.Trial.{IsTrial, ended};
 ghost use Rattle.trial_engine.specs.Conducted.{Conducted, IsTrialMade, failure_of, trying};
 
 use crate::stop::Stop;
-use load_devices::{Line, LineFault};
+use host_devices::{Line, LineFault};
 use trial_core::Trial;
 
 /// Lends the trial to the line for at most so many turns.

@@ -1,6 +1,6 @@
 //! An onlooker that counts.
 
-use load_devices::{Onlooker, Sight};
+use host_devices::{Onlooker, Sight};
 use std::cell::Cell;
 
 /// Counts the steps that it is told of, and keeps the last.

@@ -1,7 +1,7 @@
 //! The keeper in memory, and the texts of the devices' faults.
 
 use crate::assertion::check_that;
-use load_devices::{Keep, KeepFault, Kept, LineFault, MemoryKeep};
+use host_devices::{Keep, KeepFault, Kept, LineFault, MemoryKeep};
 use std::alloc::Global;
 use std::fmt::Display;
 use std::process::Abort;

@@ -9,7 +9,7 @@ use crate::counting_onlooker::Watch;
 use crate::tapes::{ONE_WORD, fresh_host};
 use honest_line::{Loss, MemoryLine};
 use host_core::{End, Heard, HostCore};
-use load_devices::{Item, Keep, KeepFault, Kept, Line, LineFault, MemoryKeep};
+use host_devices::{Item, Keep, KeepFault, Kept, Line, LineFault, MemoryKeep};
 use load_engine::{Stop, drive, drive_in_memory};
 use odt_machine::{Odt, PLAIN_STYLE};
 use std::alloc::Global;

@@ -3,7 +3,7 @@
 use crate::assertion::check_that;
 use honest_line::{Loss, MemoryLine};
 use host_core::Heard;
-use load_devices::{Line, LineFault};
+use host_devices::{Line, LineFault};
 use odt_machine::{Mode, Odt, PLAIN_STYLE};
 use std::alloc::Global;
 use std::process::Abort;

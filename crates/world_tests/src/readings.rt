@@ -5,7 +5,7 @@
 use crate::assertion::check_that;
 use crate::counting_onlooker::Watch;
 use honest_line::{Loss, MemoryLine};
-use load_devices::{Item, Line, LineFault, Onlooker, Unwatched};
+use host_devices::{Item, Line, LineFault, Onlooker, Unwatched};
 use odt_machine::{Odt, Style};
 use reading_core::{End, ReadingCore};
 use reading_engine::{Stop, inquire, inquire_in_memory};

@@ -3,7 +3,7 @@
 
 use crate::assertion::check_that;
 use honest_line::{Loss, MemoryLine};
-use load_devices::Item;
+use host_devices::Item;
 use machine_probe::{Search, find_end};
 use odt_machine::{Odt, PLAIN_STYLE};
 use reading_core::End;

@@ -1,6 +1,6 @@
 use Rattle.std.proofs.Common.{◌≡◌, ◌+◌, Some, None, refl, sym, subst, ◌∙◌, arith}
-use Rattle.load_devices.specs.Devices.{calls_of, devices_of}
-use Rattle.load_devices.specs.Failures.{CountsFault}
+use Rattle.host_devices.specs.Devices.{calls_of, devices_of}
+use Rattle.host_devices.specs.Failures.{CountsFault}
 use Rattle.load_engine.specs.Failing.{line_fault}
 use Rattle.load_engine.specs.Run.{driving}
 use Rattle.load_engine.specs.Session.{Session, told_by}

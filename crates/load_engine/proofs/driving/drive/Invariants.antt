@@ -1,7 +1,7 @@
 use Rattle.std.proofs.Common.{◌≡◌, None}
 use Rattle.host_core.specs.Core.{ended}
 use Rattle.host_core.specs.Host.{IsHost}
-use Rattle.load_devices.specs.Devices.{calls_of, devices_of}
+use Rattle.host_devices.specs.Devices.{calls_of, devices_of}
 use Rattle.load_engine.specs.Driven.{IsKeptBy, turns_give}
 use Rattle.load_engine.specs.Run.{driving}
 use Rattle.load_engine.specs.Session.{Session, told_by}

@@ -1,7 +1,7 @@
 use Rattle.std.proofs.Common.{◌≡◌, ◌<◌, ◌≤◌, [], ◌∷◌, sym, ◌∙◌, ap, arith}
 use Rattle.std.specs.Prelude.{option_to_list}
 use Rattle.host_core.specs.Word.{WordValue}
-use Rattle.load_devices.specs.declared.item.Kept.TheVariants.{Word}
+use Rattle.host_devices.specs.declared.item.Kept.TheVariants.{Word}
 use Rattle.load_engine.proofs.News.{step_mark, step_word, step_none, step_start, word_at, marked_already, not_marked}
 use Rattle.load_engine.proofs.driving.step.Goals as goal
 use Rattle.load_engine.proofs.driving.step.Goals.{then-going+then-not-before, else-going+then-verified-before, else-going-via-then-going+else-not-before, else-going-via-else-going, else-going+else-verified-before}

@@ -1,10 +1,10 @@
 use Rattle.std.proofs.Common.{IsSome, Some, None, ap, refl, sym, subst, ◌∙◌}
 use Rattle.std.specs.Prelude.{option_to_list}
-use Rattle.load_devices.specs.Devices.{calls_of}
-use Rattle.load_devices.specs.Dialogue.{news_between, said}
-use Rattle.load_devices.specs.Failures.{one_more}
-use Rattle.load_devices.specs.Told.{Gains}
-use Rattle.load_devices.proofs.Told.{gains_none}
+use Rattle.host_devices.specs.Devices.{calls_of}
+use Rattle.host_devices.specs.Dialogue.{news_between, said}
+use Rattle.host_devices.specs.Failures.{one_more}
+use Rattle.host_devices.specs.Told.{Gains}
+use Rattle.host_devices.proofs.Told.{gains_none}
 use Rattle.load_engine.specs.Driven.{IsKeptBy, turns_give}
 use Rattle.load_engine.specs.Keeping.{KeepsEach}
 use Rattle.load_engine.specs.Run.{driving}

@@ -1,6 +1,6 @@
 use Rattle.std.proofs.Common.{Some, subst, sym, ◌∙◌}
 use Rattle.honest_line.specs.LineTable.{LineValue}
-use Rattle.load_devices.specs.Devices.{devices}
+use Rattle.host_devices.specs.Devices.{devices}
 use Rattle.load_engine.specs.Driven.{IsDriven}
 use Rattle.load_engine.specs.Lent.{LoadsSafely, memory_told}
 use Rattle.load_engine.specs.Run.{driving}

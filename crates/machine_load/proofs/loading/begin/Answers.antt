@@ -1,6 +1,6 @@
 use Rattle.std.proofs.Common.{refl, sym, subst, ◌∙◌, inr, [], ◌∷◌}
-use Rattle.load_devices.specs.Devices.{line_told}
-use Rattle.load_devices.specs.Told.{Gains}
+use Rattle.host_devices.specs.Devices.{line_told}
+use Rattle.host_devices.specs.Told.{Gains}
 use Rattle.machine_load.specs.Scene.{around_of}
 use Rattle.machine_load.proofs.Faults.{all_stand, behind_looks_fault, looked_first}
 use Rattle.machine_load.proofs.loading.begin.Goals as goal

@@ -1,5 +1,5 @@
 use Rattle.std.proofs.Common.{◌∙◌, refl, rules, subst, sym}
-use Rattle.load_devices.specs.Devices.{calls_of, devices_of, line_told}
+use Rattle.host_devices.specs.Devices.{calls_of, devices_of, line_told}
 use Rattle.machine_load.specs.Asked.{opened_as, task, ◌⇒◌}
 use Rattle.machine_load.specs.Beginning.{IsBeginning, IsBeginningOn, SendsFew, asked_to_begin}
 use Rattle.machine_load.specs.Driving.{IsDrivenOn}
@@ -7,7 +7,7 @@ use Rattle.machine_load.specs.LoadFault.{IsDrivingFault, IsLoadFault, gone}
 use Rattle.machine_load.specs.Parts.{IsDrivenBehind, IsKeptBehind, course, held}
 use Rattle.machine_load.specs.RecordDisk.{DiskAsked, disk_asked_before}
 use Rattle.machine_load.specs.Scene.{around_of, gone_of, keeper_of, scene, tells_of}
-use Rattle.load_devices.specs.Told.{Gains}
+use Rattle.host_devices.specs.Told.{Gains}
 use Rattle.machine_load.proofs.Driving.{free, hindered}
 use Rattle.machine_load.proofs.Faults.{of_driving, error_is, not_loaded}
 use Rattle.machine_load.proofs.OnDisk.{not_begun_on}

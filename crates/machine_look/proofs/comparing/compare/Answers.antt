@@ -1,7 +1,7 @@
 use Rattle.std.proofs.Common.{◌≡◌, ◌+◌, None, Some, refl, subst, sym, ◌∙◌, arith}
 use Rattle.std.specs.Io.KnownBytes.{Appends}
-use Rattle.load_devices.specs.Devices.{line_told}
-use Rattle.load_devices.specs.Turns.{most_turns}
+use Rattle.host_devices.specs.Devices.{line_told}
+use Rattle.host_devices.specs.Turns.{most_turns}
 use Rattle.reading_engine.specs.declared.stop.Stop.{Stop}
 use Rattle.reading_engine.specs.declared.stop.Stop.TheVariants.{TurnsOver}
 use Rattle.reading_engine.specs.Inquired.{IsInquired, inquiry}

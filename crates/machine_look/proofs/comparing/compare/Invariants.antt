@@ -1,6 +1,6 @@
 -- The turns so far, and the differences that were read in them.
 use Rattle.std.proofs.Common.{◌≡◌, [], None}
-use Rattle.load_devices.specs.Devices.{line_told}
+use Rattle.host_devices.specs.Devices.{line_told}
 use Rattle.reading_core.specs.Reader.{ended}
 use Rattle.reading_engine.specs.Inquired.{IsInquired, inquiry}
 use Rattle.machine_look.specs.Shown.{ShowsTo}

@@ -3,10 +3,10 @@ use Rattle.std.specs.Io.KnownBytes.{Appends}
 use Rattle.std.proofs.KnownBytes.{Appends-nil}
 use Rattle.byte_io.proofs.Fronts.{front_longer}
 use Rattle.console_lines.specs.Dialling.{asked_once}
-use Rattle.load_devices.specs.Devices.{line_told}
-use Rattle.load_devices.specs.Failures.{CountsFault}
-use Rattle.load_devices.specs.Told.{Gains}
-use Rattle.load_devices.specs.Turns.{most_turns}
+use Rattle.host_devices.specs.Devices.{line_told}
+use Rattle.host_devices.specs.Failures.{CountsFault}
+use Rattle.host_devices.specs.Told.{Gains}
+use Rattle.host_devices.specs.Turns.{most_turns}
 use Rattle.reading_engine.specs.Failing.{line_fault}
 use Rattle.reading_engine.specs.Inquired.{Inquired, inquiry}
 use Rattle.request_values.specs.Change.{◌⇒◌}

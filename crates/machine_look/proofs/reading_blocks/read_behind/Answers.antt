@@ -1,6 +1,6 @@
 use Rattle.std.proofs.Common.{refl, sym, arith}
-use Rattle.load_devices.specs.Devices.{line_told}
-use Rattle.load_devices.specs.Turns.{most_turns}
+use Rattle.host_devices.specs.Devices.{line_told}
+use Rattle.host_devices.specs.Turns.{most_turns}
 use Rattle.reading_engine.proofs.Inquiries.{no_turns, turns_are_over}
 use Rattle.tape_shelf.specs.SavedSteps.{adds, full}
 use Rattle.tape_shelf.specs.ShelfAt.{ShelfAt, shelf_at}

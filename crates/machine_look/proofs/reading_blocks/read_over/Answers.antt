@@ -2,10 +2,10 @@ use Rattle.std.proofs.Common.{◌≡◌, ◌∙◌, ℕ, ◌+◌, ◌*◌, ◌�
 use Rattle.tape_image.specs.Word.{WordValue}
 use Rattle.reading_core.specs.Bound.{reading_bound}
 use Rattle.console_lines.specs.Dialling.{asked_once}
-use Rattle.load_devices.specs.Devices.{line_told}
-use Rattle.load_devices.specs.Failures.{CountsFault}
-use Rattle.load_devices.specs.Told.{Gains}
-use Rattle.load_devices.specs.Turns.{most_turns}
+use Rattle.host_devices.specs.Devices.{line_told}
+use Rattle.host_devices.specs.Failures.{CountsFault}
+use Rattle.host_devices.specs.Told.{Gains}
+use Rattle.host_devices.specs.Turns.{most_turns}
 use Rattle.reading_core.specs.Addresses.{AreAddresses}
 use Rattle.reading_core.specs.Reader.{Reader, begun}
 use Rattle.reading_core.specs.declared.phase.End.TheVariants.{Complete}

@@ -3,7 +3,7 @@ use Rattle.std.specs.Io.KnownBytes.{Appends}
 use Rattle.std.proofs.KnownBytes.{Appends-trans, Keeps-refl}
 use Rattle.byte_io.specs.Output.{WritesPrefix}
 use Rattle.byte_io.proofs.Fronts.{front_behind}
-use Rattle.load_devices.specs.Turns.{most_turns}
+use Rattle.host_devices.specs.Turns.{most_turns}
 use Rattle.tape_image.specs.Word.{WordValue}
 use Rattle.machine_look.specs.declared.look_fault.LookFault.TheVariants.{WriteOutput, Memory}
 use Rattle.console_lines.specs.Console.{console_told}

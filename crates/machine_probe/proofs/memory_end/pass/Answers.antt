@@ -1,5 +1,5 @@
 use Rattle.std.proofs.Common.{◌∙◌, arith, ap}
-use Rattle.load_devices.specs.Devices.{line_told}
+use Rattle.host_devices.specs.Devices.{line_told}
 use Rattle.reading_core.specs.Reader.{Reader}
 use Rattle.machine_probe.proofs.Founds.{found_below}
 use Rattle.machine_probe.proofs.Stepping.{stepped}

@@ -1,6 +1,6 @@
 use Rattle.std.proofs.Common.{IfOk, OnErr, [], ◌∷◌, inl, inr, refl, sym, subst}
-use Rattle.load_devices.specs.Devices.{line_told}
-use Rattle.load_devices.specs.Told.{Gains}
+use Rattle.host_devices.specs.Devices.{line_told}
+use Rattle.host_devices.specs.Told.{Gains}
 use Rattle.console_lines.specs.Dialling.{asked_once}
 use Rattle.console_lines.proofs.Asked.{in_vain}
 use Rattle.request_values.specs.Change.{◌⇒◌}

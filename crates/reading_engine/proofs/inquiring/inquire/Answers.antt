@@ -1,6 +1,6 @@
 use Rattle.std.proofs.Common.{◌≡◌, ◌+◌, Some, None, sym, subst, ◌∙◌, arith}
-use Rattle.load_devices.specs.Devices.{line_told}
-use Rattle.load_devices.specs.Failures.{CountsFault}
+use Rattle.host_devices.specs.Devices.{line_told}
+use Rattle.host_devices.specs.Failures.{CountsFault}
 use Rattle.reading_engine.specs.declared.stop.Stop.TheVariants.{LineFailed}
 use Rattle.reading_engine.specs.Inquired.{Inquired, inquiry}
 use Rattle.reading_engine.proofs.Inquiries.{inquired}

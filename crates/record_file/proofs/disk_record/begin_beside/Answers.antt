@@ -1,4 +1,4 @@
-use Rattle.load_devices.proofs.Told.{tells_join}
+use Rattle.host_devices.proofs.Told.{tells_join}
 use Rattle.record_file.proofs.Asking.{asked_one}
 use Rattle.record_file.specs.Beginning.{OutOfReach, NoMemory, NoFolder}
 use Rattle.record_file.proofs.Rows.{beside_at_folder, beside_failed, beside_kept, not_held_new, no_room, unwritten, written, held_none, held_some}

@@ -1,4 +1,4 @@
-use Rattle.load_devices.proofs.Told.{tells_join}
+use Rattle.host_devices.proofs.Told.{tells_join}
 use Rattle.record_file.proofs.Asking.{asked_one, on_err, not_ok}
 use Rattle.record_file.proofs.Rows.{over_device, over_file}
 use Rattle.std.proofs.Common.{subst, sym, ◌∙◌}

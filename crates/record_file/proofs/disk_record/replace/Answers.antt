@@ -1,4 +1,4 @@
-use Rattle.load_devices.proofs.Told.{tells_join}
+use Rattle.host_devices.proofs.Told.{tells_join}
 use Rattle.record_file.proofs.Asking.{asked_one, tells_failed, tells_done}
 use Rattle.record_file.proofs.Rows.{whole, unsynced, not_renamed, moved_away}
 use Rattle.record_file.proofs.disk_record.replace.Goals as goal

@@ -1,4 +1,4 @@
-use Rattle.load_devices.proofs.Told.{tells_none, tells_join}
+use Rattle.host_devices.proofs.Told.{tells_none, tells_join}
 use Rattle.record_file.proofs.Asking.{asked_one}
 use Rattle.record_file.proofs.Rows.{old_file, new_file, new_behind_link, unresolved}
 use Rattle.std.proofs.Common.{subst}

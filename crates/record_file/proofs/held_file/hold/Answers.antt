@@ -1,4 +1,4 @@
-use Rattle.load_devices.proofs.Told.{tells_none}
+use Rattle.host_devices.proofs.Told.{tells_none}
 use Rattle.record_file.proofs.Asking.{asked_one, on_err, not_ok}
 use Rattle.record_file.proofs.Rows.{held_at_last, one_more, not_held, of_try}
 use Rattle.std.proofs.Common.{rules, ◌+◌}

@@ -1,5 +1,5 @@
 -- All tries so far held nothing.
-use Rattle.load_devices.specs.Told.{HasAsked}
+use Rattle.host_devices.specs.Told.{HasAsked}
 use Rattle.record_file.specs.Holding.{AreVain}
 use Rattle.record_file.proofs.held_file.hold.Given as goal
 

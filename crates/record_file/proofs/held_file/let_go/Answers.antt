@@ -1,4 +1,4 @@
-use Rattle.load_devices.proofs.Told.{tells_none, tells_join}
+use Rattle.host_devices.proofs.Told.{tells_none, tells_join}
 use Rattle.record_file.proofs.Asking.{asked_one}
 use Rattle.record_file.proofs.Rows.{goes, leads_elsewhere, stays}
 use Rattle.record_file.proofs.held_file.let_go.Goals as goal

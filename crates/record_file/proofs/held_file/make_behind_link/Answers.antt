@@ -1,4 +1,4 @@
-use Rattle.load_devices.proofs.Told.{tells_join}
+use Rattle.host_devices.proofs.Told.{tells_join}
 use Rattle.record_file.proofs.Asking.{asked_one}
 use Rattle.record_file.proofs.Rows.{not_a_link, made_there, not_made_there}
 use Rattle.record_file.proofs.held_file.make_behind_link.Goals as goal

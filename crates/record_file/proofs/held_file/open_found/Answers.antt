@@ -1,5 +1,5 @@
 use Rattle.record_file.specs.Holding.{Writable, Protected, Refused}
-use Rattle.load_devices.proofs.Told.{tells_join}
+use Rattle.host_devices.proofs.Told.{tells_join}
 use Rattle.record_file.proofs.Asking.{asked_one}
 use Rattle.record_file.proofs.held_file.open_found.Goals as goal
 

@@ -1,4 +1,4 @@
-use Rattle.load_devices.proofs.Told.{tells_none}
+use Rattle.host_devices.proofs.Told.{tells_none}
 use Rattle.record_file.proofs.Asking.{asked_one}
 use Rattle.record_file.proofs.Rows.{device_found, out_of_reach, reached}
 use Rattle.record_file.specs.Reading.{Protected}

@@ -1,7 +1,7 @@
 use Rattle.std.proofs.Common.{inl, inr, subst, sym}
 use Rattle.std.proofs.lemmas.Result.{IfOk-weaker, IfErr-weaker}
-use Rattle.load_devices.specs.Devices.{line_told}
-use Rattle.load_devices.specs.Told.{Gains}
+use Rattle.host_devices.specs.Devices.{line_told}
+use Rattle.host_devices.specs.Told.{Gains}
 use Rattle.machine_load.proofs.Driving.{fault_over_line, reported_over_line}
 use Rattle.machine_load.specs.Asked.{task, ◌⇒◌}
 use Rattle.machine_load.specs.Called.{asked_by}

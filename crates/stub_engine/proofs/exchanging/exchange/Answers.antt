@@ -1,5 +1,5 @@
 use Rattle.std.proofs.Common.{◌≡◌, Some, None, ap, arith, sym, subst, ◌∙◌}
-use Rattle.load_devices.specs.Devices.{calls_of, devices_of}
+use Rattle.host_devices.specs.Devices.{calls_of, devices_of}
 use Rattle.exchange_core.specs.declared.exchange.Exchange.{Exchange}
 use Rattle.exchange_core.specs.Exchange.{begun}
 use Rattle.stub_engine.specs.Exchanged.{AreTurns}

@@ -1,5 +1,5 @@
 use Rattle.std.proofs.Common.{◌≡◌, None}
-use Rattle.load_devices.specs.Devices.{calls_of, devices_of}
+use Rattle.host_devices.specs.Devices.{calls_of, devices_of}
 use Rattle.exchange_core.specs.Exchange.{begun, ended}
 use Rattle.stub_engine.specs.Exchanged.{AreTurns, turns_give}
 use Rattle.stub_engine.specs.Exchanging.{exchanging}

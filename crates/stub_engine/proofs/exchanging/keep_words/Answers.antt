@@ -1,9 +1,9 @@
 use Rattle.std.proofs.Common.{◌≡◌, ◌<◌, [], ◌∷◌, length, arith, subst, ◌∙◌}
-use Rattle.load_devices.specs.Devices.{calls_of}
+use Rattle.host_devices.specs.Devices.{calls_of}
 use Rattle.tape_image.specs.Word.{WordValue}
-use Rattle.load_devices.specs.declared.item.Kept.TheVariants.{Word}
-use Rattle.load_devices.specs.Failures.{one_more}
-use Rattle.load_devices.specs.Told.{Gains}
+use Rattle.host_devices.specs.declared.item.Kept.TheVariants.{Word}
+use Rattle.host_devices.specs.Failures.{one_more}
+use Rattle.host_devices.specs.Told.{Gains}
 use Rattle.stub_engine.proofs.Keepings.{each_more, front_stops, told_more, told_stops}
 use Rattle.stub_engine.proofs.exchanging.keep_words.Goals as goal
 

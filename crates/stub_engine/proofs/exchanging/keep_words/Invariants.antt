@@ -1,5 +1,5 @@
 use Rattle.std.proofs.Common.{◌≡◌}
-use Rattle.load_devices.specs.Told.{Gains}
+use Rattle.host_devices.specs.Told.{Gains}
 use Rattle.load_engine.specs.Keeping.{KeepsEach}
 use Rattle.stub_engine.specs.Keeping.{words_kept}
 use Rattle.stub_engine.proofs.exchanging.keep_words.Given as goal

@@ -1,5 +1,5 @@
 use Rattle.std.proofs.Common.{◌≡◌, take}
-use Rattle.load_devices.specs.Told.{Gains}
+use Rattle.host_devices.specs.Told.{Gains}
 use Rattle.exchange_law.specs.Law.{said_all}
 use Rattle.stub_engine.proofs.exchanging.send_all.Given as goal
 

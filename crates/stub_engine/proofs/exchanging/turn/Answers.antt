@@ -1,9 +1,9 @@
 use Rattle.std.proofs.Common.{◌≡◌, ◌≤◌, arith, refl, rules, subst, ◌∙◌}
-use Rattle.load_devices.specs.Failures.{one_more}
+use Rattle.host_devices.specs.Failures.{one_more}
 use Rattle.stub_engine.proofs.Keepings.{kept_none, told_begins}
 use Rattle.stub_engine.proofs.Stretches.{turn_deaf, turn_unkept, turn_sent, turn_unsent}
 use Rattle.stub_engine.proofs.exchanging.turn.Goals as goal
-use Rattle.load_devices.specs.Devices.{calls_of}
+use Rattle.host_devices.specs.Devices.{calls_of}
 
 pub returns-in-Err-clause-turn : goal.returns-in-Err-clause-turn
 returns-in-Err-clause-turn g c = record {

@@ -1,5 +1,5 @@
 use Rattle.std.proofs.Common.{◌≡◌, None, Some, refl, arith, ap, sym, subst}
-use Rattle.load_devices.specs.Devices.{calls_of, devices_of}
+use Rattle.host_devices.specs.Devices.{calls_of, devices_of}
 use Rattle.stub_engine.proofs.Bounds.{bounded, few_sent, few_spent}
 use Rattle.stub_engine.proofs.Brought.{all_in_vain, no_stubs, stubs_join}
 use Rattle.stub_engine.proofs.Keepings.{kept_none, kept_then}

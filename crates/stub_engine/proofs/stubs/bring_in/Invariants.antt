@@ -1,5 +1,5 @@
 use Rattle.std.proofs.Common.{◌+◌, ◌-◌, ◌*◌, ◌≤◌, length, None}
-use Rattle.load_devices.specs.Devices.{calls_of, devices_of}
+use Rattle.host_devices.specs.Devices.{calls_of, devices_of}
 use Rattle.stub_engine.specs.Brought.{AreStubs, stubs_give}
 use Rattle.stub_engine.specs.Keeping.{IsKeptBy}
 use Rattle.stub_engine.specs.Parts.{bringing}

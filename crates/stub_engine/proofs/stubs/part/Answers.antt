@@ -1,6 +1,6 @@
 use Rattle.std.proofs.Common.{arith, ap, sym, subst, ◌∙◌, Some}
-use Rattle.load_devices.specs.Devices.{calls_of, devices_of, line_told}
-use Rattle.load_devices.specs.Failures.{fault_of}
+use Rattle.host_devices.specs.Devices.{calls_of, devices_of, line_told}
+use Rattle.host_devices.specs.Failures.{fault_of}
 use Rattle.stub_engine.specs.declared.tally.Tally.{Tally}
 use Rattle.stub_engine.specs.Failing.{keep_fault}
 use Rattle.load_engine.specs.Keeping.{keeping}

@@ -1,4 +1,4 @@
-use Rattle.load_devices.proofs.Told.{tells_none}
+use Rattle.host_devices.proofs.Told.{tells_none}
 use Rattle.std.proofs.Common.{refl}
 use Rattle.record_file.proofs.Asking.{asked_one, tells_failed, tells_done}
 use Rattle.tape_shelf.specs.ShelfDisk.{Unwritten, Unsure}

@@ -1,5 +1,5 @@
 use Rattle.std.proofs.Common.{refl}
-use Rattle.load_devices.proofs.Told.{tells_none}
+use Rattle.host_devices.proofs.Told.{tells_none}
 use Rattle.record_file.proofs.Asking.{asked_one}
 use Rattle.tape_shelf.specs.ShelfDisk.{Free, There, Unknown, NoFileName}
 use Rattle.tape_shelf.proofs.new_file.find_free.Goals as goal

@@ -1,4 +1,4 @@
-use Rattle.load_devices.proofs.Told.{tells_join}
+use Rattle.host_devices.proofs.Told.{tells_join}
 use Rattle.record_file.proofs.Asking.{asked_one}
 use Rattle.tape_shelf.specs.ShelfDisk.{Linked, NameTaken}
 use Rattle.tape_shelf.proofs.new_file.give_name.Goals as goal

@@ -1,4 +1,4 @@
-use Rattle.load_devices.proofs.Told.{tells_join}
+use Rattle.host_devices.proofs.Told.{tells_join}
 use Rattle.record_file.proofs.Asking.{asked_one, tells_failed, tells_done}
 use Rattle.tape_shelf.specs.Room.{room_of}
 use Rattle.tape_shelf.specs.ShelfDisk.{Uncut, Unsynced}

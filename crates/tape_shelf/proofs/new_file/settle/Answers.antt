@@ -1,4 +1,4 @@
-use Rattle.load_devices.proofs.Told.{tells_join}
+use Rattle.host_devices.proofs.Told.{tells_join}
 use Rattle.record_file.proofs.Asking.{asked_one}
 use Rattle.std.proofs.Common.{subst}
 use Rattle.tape_shelf.specs.ShelfDisk.{IsTakenBack, Settled, Unsettled}

@@ -1,4 +1,4 @@
-use Rattle.load_devices.proofs.Told.{tells_join}
+use Rattle.host_devices.proofs.Told.{tells_join}
 use Rattle.record_file.proofs.Asking.{asked_one}
 use Rattle.std.proofs.Common.{Result, Ok, Err, true, false, ℕ, List, [], ◌∷◌}
 use Rattle.std.specs.Prelude.{Option}

@@ -1,5 +1,5 @@
 use Rattle.std.proofs.Common.{true, false}
-use Rattle.load_devices.proofs.Told.{tells_join, tells_none}
+use Rattle.host_devices.proofs.Told.{tells_join, tells_none}
 use Rattle.record_file.proofs.Asking.{asked_one, tells_failed, tells_done}
 use Rattle.tape_shelf.specs.ShelfDisk.{Unfilled, NotFilled, NotNamed, Unopened, Filled}
 use Rattle.tape_shelf.proofs.new_file.take_room.Goals as goal

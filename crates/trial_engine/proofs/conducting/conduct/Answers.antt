@@ -1,6 +1,6 @@
 use Rattle.std.proofs.Common.{◌≡◌, ◌+◌, Some, None, sym, subst, ◌∙◌, arith}
-use Rattle.load_devices.specs.Devices.{line_told}
-use Rattle.load_devices.specs.Failures.{CountsFault}
+use Rattle.host_devices.specs.Devices.{line_told}
+use Rattle.host_devices.specs.Failures.{CountsFault}
 use Rattle.trial_engine.specs.declared.stop.Stop.TheVariants.{LineFailed}
 use Rattle.trial_engine.specs.Conducted.{Conducted, trying}
 use Rattle.trial_engine.proofs.Stretches.{conducted_join, conducted_wider, conducted_ended, conducted_over}

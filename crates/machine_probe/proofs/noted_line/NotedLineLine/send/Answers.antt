@@ -1,4 +1,4 @@
-use Rattle.load_devices.specs.declared.item.Item.TheVariants.{Sent}
+use Rattle.host_devices.specs.declared.item.Item.TheVariants.{Sent}
 use Rattle.machine_probe.proofs.Noting.{noted_too, still_noted}
 use Rattle.machine_probe.proofs.noted_line.NotedLineLine.send.Goals as goal
 

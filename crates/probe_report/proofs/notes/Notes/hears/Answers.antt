@@ -1,6 +1,6 @@
 use Rattle.std.proofs.Common.{ℕ, ◌&&◌, ◌||◌, ◌==◌, ap, sym, ◌∙◌, ◌++◌, ◌∷◌, []}
 use Rattle.host_core.specs.declared.heard.Heard.{Heard}
-use Rattle.load_devices.specs.declared.item.Item.TheVariants.{Heard as Came}
+use Rattle.host_devices.specs.declared.item.Item.TheVariants.{Heard as Came}
 use Rattle.probe_report.specs.Notes.{Noted, heard_characters, echoes, notes_of}
 use Rattle.probe_report.proofs.Noting.{noted_got, noted_quiet}
 use Rattle.probe_report.proofs.notes.Notes.hears.Goals as goal

@@ -1,0 +1,190 @@
+//! One line on a terminal that says how far it is, rewritten in place.
+ghost use Rattle.std.specs.Prelude.{◌≡◌, IfSome};
+ghost use Rattle.progress_display.specs.ProgressText.{above_line, forecast_text, going_on_text, on_line, showing_text};
+
+use crate::headway::Headway;
+use crate::pace::is_due;
+use crate::showing::{Forecast, GoingOn, KeptIn, Showing};
+use arrayvec::ArrayString;
+use host_devices::{Onlooker, Sight};
+use std::cell::Cell;
+use std::fmt::Write;
+use std::io::Print;
+use std::time::Clock;
+
+// What moves the cursor to the line's beginning and clears the line.
+const CLEARED: &str = "\r\x1b[K";
+
+// How many minutes are long.
+const LONG: u64 = 2;
+
+// Room for the longest line.
+type LineText = ArrayString<128>;
+
+/// Shows, while a load or a reading goes on, how many words are done of all, the mishaps, and the time
+/// left at the pace so far: one line, at most ten times a second. A terminal that has fewer columns cuts
+/// it, so that it never wraps. Where it takes two minutes or more, a line above it says so once, as soon as
+/// the pace is known. What can't be written is left out.
+#[derive(Drop)]
+pub struct ProgressLine<'a, C: Clock, E: Print> {
+    clock: &'a C,
+    terminal: &'a E,
+    headway: Cell<Headway>,
+
+    // When it was last shown, in milliseconds of the clock, where it was.
+    shown: Cell<Option<u64>>,
+
+    kept_in: KeptIn,
+
+    // Whether the line above it is still to be written.
+    is_forecast_due: Cell<bool>,
+}
+
+impl<'a, C: Clock, E: Print> ProgressLine<'a, C, E> {
+    /// A line on a terminal, which shows nothing yet. What is done is kept there.
+    pub fn new(clock: &'a C, terminal: &'a E, kept_in: KeptIn) -> ProgressLine<'a, C, E> {
+        ProgressLine {
+            clock,
+            terminal,
+            headway: Cell::new(Headway::new(0, 0, None)),
+            shown: Cell::new(None),
+            kept_in,
+            is_forecast_due: Cell::new(true),
+        }
+    }
+
+    /// How many words were done when it began.
+    pub fn done_at_first(&self) -> u32 {
+        self.headway.get().done_at_first
+    }
+
+    /// How many words are done.
+    pub fn done(&self) -> u32 {
+        self.headway.get().done
+    }
+
+    /// Writes a text to the terminal, where it goes on.
+    pub fn say(&self, text: &str) {
+        let _ = self.terminal.write_all(text.as_bytes());
+    }
+
+    // The clock's time in milliseconds, where it has one.
+    fn now(&self) -> Option<u64> {
+        let time = self.clock.monotonic().ok()?;
+        u64::try_from(time.as_millis()).ok()
+    }
+
+    // Keeps what is known, and shows it where that is due. A clock with no time makes nothing due.
+    fn keep(&self, headway: Headway) {
+        let now = self.now();
+        let headway = headway.measured_anew(now);
+        self.headway.set(headway);
+        let due = match (self.shown.get(), now) {
+            (Some(shown), Some(now)) => is_due(shown, now),
+            (None, Some(_)) => true,
+            (_, None) => false,
+        };
+        if due {
+            let showing = headway.showing(now);
+            self.forecast(headway, showing.seconds_left);
+            self.put(showing_line(showing), now);
+        }
+    }
+
+    // Says once how long it takes, as soon as the pace is known, where that is long.
+    fn forecast(&self, headway: Headway, seconds_left: Option<u64>) {
+        if !self.is_forecast_due.get() || !headway.has_pace() {
+            return;
+        }
+        self.is_forecast_due.set(false);
+        let minutes = seconds_left.unwrap_or(0) / 60;
+        if minutes < LONG {
+            return;
+        }
+        let goes_on = self.kept_in != KeptIn::Nothing;
+        if let Some(line) = forecast_line(Forecast { minutes, goes_on }) {
+            self.say(line.as_str());
+        }
+    }
+
+    // Puts the line.
+    fn put(&self, line: Option<LineText>, now: Option<u64>) {
+        self.shown.set(now);
+        if let Some(line) = line {
+            self.say(line.as_str());
+        }
+    }
+}
+
+impl<C: Clock, E: Print> Onlooker for ProgressLine<'_, C, E> {
+    fn begins(&self, done: u32, words: u32) {
+        let now = self.now();
+        let headway = Headway::new(done, words, now);
+        self.headway.set(headway);
+        if done == 0 {
+            self.put(showing_line(headway.showing(now)), now);
+        } else {
+            let kept_in = self.kept_in;
+            let going_on = GoingOn {
+                done,
+                words,
+                kept_in,
+            };
+            self.put(going_on_line(going_on), now);
+        }
+    }
+
+    fn sees(&self, sight: Sight) {
+        let earlier = self.headway.get();
+        let headway = earlier.seeing(sight);
+        if headway.is_news(earlier) {
+            self.keep(headway);
+        } else {
+            self.headway.set(headway);
+        }
+    }
+
+    fn stub_begins(&self) {
+        let now = self.now();
+        let headway = self.headway.get().typing_stub().measured_anew(now);
+        self.headway.set(headway);
+        self.put(showing_line(headway.showing(now)), now);
+    }
+
+    fn ends(&self) {
+        self.say(CLEARED);
+    }
+}
+
+// What is written to show how far it is; none where that has no room.
+fn showing_line(showing: Showing) -> Option<LineText>
+    ensures { IfSome result (λ line. line.bytes ≡ on_line (showing_text showing)) }
+{
+    let mut line = LineText::new();
+    match write!(line, "\r\x1b[?7l{showing}\x1b[K\x1b[?7h") {
+        Ok(()) => Some(line),
+        Err(_) => None,
+    }
+}
+
+// What is written to show that it goes on; none where that has no room.
+fn going_on_line(going_on: GoingOn) -> Option<LineText>
+    ensures { IfSome result (λ line. line.bytes ≡ on_line (going_on_text going_on)) }
+{
+    let mut line = LineText::new();
+    match write!(line, "\r\x1b[?7l{going_on}\x1b[K\x1b[?7h") {
+        Ok(()) => Some(line),
+        Err(_) => None,
+    }
+}
+
+// What is written to say how long it takes; none where that has no room.
+fn forecast_line(forecast: Forecast) -> Option<LineText>
+    ensures { IfSome result (λ line. line.bytes ≡ above_line (forecast_text forecast)) }
+{
+    let mut line = LineText::new();
+    match write!(line, "\r{forecast}\x1b[K\n") {
+        Ok(()) => Some(line),
+        Err(_) => None,
+    }
+}

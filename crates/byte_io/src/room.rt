@@ -9,7 +9,7 @@ use itoa::Buffer;
 use octal::oct6;
 
 /// Puts bytes at the end of a text that has room for them.
-pub fn put_into_room(text: &mut Vec<u8>, bytes: &[u8])
+pub fn push_into_room(text: &mut Vec<u8>, bytes: &[u8])
     requires room { vec_len text.old + length bytes.now ≤ vec_capacity text.old }
     ensures items { text.new.items ≡ text.old.items ++ bytes.now }
     ensures room { vec_capacity text.old ≤ vec_capacity text.new }

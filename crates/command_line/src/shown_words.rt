@@ -20,13 +20,13 @@ pub(crate) fn shown_words(alloc: Global, words: &[String]) -> Result<Vec<String>
 fn shown_word(alloc: Global, word: &str) -> Result<String, AllocError> {
     let mut shown = String::new(alloc);
     for character in word.chars() {
-        push_shown(&mut shown, character)?;
+        put_shown(&mut shown, character)?;
     }
     Ok(shown)
 }
 
 // Puts a character behind a text, as it is shown: a control character by its escape.
-fn push_shown(shown: &mut String, character: char) -> Result<(), AllocError> {
+fn put_shown(shown: &mut String, character: char) -> Result<(), AllocError> {
     if character.is_control() {
         write!(shown, "{}", character.escape_default())
     } else {

@@ -19,7 +19,7 @@ use crate::runs::{Lookers, make_runs};
 use byte_io::write_and_flush;
 use console_lines::Reach;
 use host_devices::Line;
-use probe_report::{ProbeEnd, Report, put_report};
+use probe_report::{ProbeEnd, Report, push_report};
 use std::alloc::{AllocError, Global};
 use std::io::Write;
 use std::marker::Brand;
@@ -132,5 +132,5 @@ fn report_runs<L: Line, C: Clock, E: FirstTold>(
     ensures wanting { OnErr result (OnLine (IsBrokenOff options) (L.told line.old) (L.told line.new)) }
 {
     let findings = make_runs(alloc, lookers, options, line)?;
-    Ok(put_report(report, &findings, line.notes(), line.pace()))
+    Ok(push_report(report, &findings, line.notes(), line.pace()))
 }

@@ -5,7 +5,7 @@ ghost use Rattle.octal.specs.Octal.{is_digit, pushed};
 /// so that what passes sixteen bits falls off at the left.
 ///
 /// `None` exactly where `character` is none of `0` to `7`.
-pub fn push_digit(value: u16, character: u8) -> Option<u16>
+pub fn with_digit(value: u16, character: u8) -> Option<u16>
     ensures { result ≡ (if is_digit character then Some (pushed value character) else None) }
 {
     match character {

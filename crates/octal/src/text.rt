@@ -1,7 +1,7 @@
 ghost use Rattle.std.specs.Prelude.{◌≡◌, ℕ, ◌+◌, ◌/◌, ◌%◌, ◌^◌, ◌<◌, ◌≤◌, ◌↔◌, List, All, slice_index, IsTrue, IsSome, IfSome};
 ghost use Rattle.octal.specs.Octal.{is_digit, octal_text, IsOct6};
 
-use crate::digit::push_digit;
+use crate::digit::with_digit;
 use std::fmt;
 
 /// A word that is shown as its six octal digits.
@@ -60,7 +60,7 @@ pub fn read_oct6(text: &[u8; 6]) -> Option<u16>
     }
     let mut word = 0;
     for character in text {
-        word = push_digit(word, *character)?;
+        word = with_digit(word, *character)?;
     }
     Some(word)
 }

@@ -25,7 +25,7 @@ const REPORT_ROOM: usize = 1000;
 pub type Report = ArrayVec<u8, REPORT_ROOM>;
 
 /// Puts the report of a probe into an empty text, and answers how the probe ended.
-pub fn put_report(text: &mut Report, findings: &Findings, notes: &Notes, pace: Pace) -> ProbeEnd
+pub fn push_report(text: &mut Report, findings: &Findings, notes: &Notes, pace: Pace) -> ProbeEnd
     requires { text.old.items ≡ [] }
     ensures text { text.new.items ≡ probe_text findings.now notes.now pace }
     ensures end { result ≡ probe_end findings.now notes.now.prompt }

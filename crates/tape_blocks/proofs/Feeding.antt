@@ -8,16 +8,16 @@ use Rattle.tape_values.specs.Tape.{TapeValue, text_of, IsTape, tape_limit}
 use Rattle.tape_blocks.specs.Refusal.{Test, IsRefused, first_fault, missing_fault, tests_of, fault_at}
 use Rattle.tape_blocks.specs.Reading.{IsReading}
 use Rattle.tape_blocks.specs.Standing.{EndsTape, IsRefusedForGood}
-use Rattle.tape_blocks.specs.Progress.{IsPart, IsReadBy, IsStep, part_of}
+use Rattle.tape_blocks.specs.PartialTape.{IsPart, IsReadBy, IsStep, part_of}
 use Rattle.tape_blocks.specs.TapeReader.{ReaderValue, IsUnderWay, StandsAs, StandsAt, IsForMore, IsFed, IsFinished, used_of}
 use Rattle.tape_blocks.specs.declared.fault.Fault.{Fault}
 use Rattle.tape_blocks.specs.declared.fault.Why.TheVariants.{Cut, NoTransfer, TooLong}
 use Rattle.tape_blocks.specs.declared.fault.ReadError.{ReadError}
 use Rattle.tape_blocks.specs.declared.fault.ReadError.TheVariants.{Tape, Memory}
-use Rattle.tape_blocks.specs.declared.outcome.Outcome.{Outcome}
-use Rattle.tape_blocks.specs.declared.outcome.Outcome.TheVariants.{Open, Done, Failed}
-use Rattle.tape_blocks.specs.declared.progress.Progress.{Progress}
-use Rattle.tape_blocks.specs.declared.progress.Step.TheVariants.{Took}
+use Rattle.tape_blocks.specs.declared.reader_state.ReaderState.{ReaderState}
+use Rattle.tape_blocks.specs.declared.reader_state.ReaderState.TheVariants.{Open, Done, Failed}
+use Rattle.tape_blocks.specs.declared.partial_tape.PartialTape.{PartialTape}
+use Rattle.tape_blocks.specs.declared.partial_tape.Step.TheVariants.{Took}
 use Rattle.tape_blocks.specs.declared.reader.Fed.{Fed}
 use Rattle.tape_blocks.specs.declared.reader.Fed.TheVariants.{More, Done as DoneAt}
 use Rattle.tape_blocks.proofs.Readings.{complete, one_answer}
@@ -99,14 +99,14 @@ under_way_says fed blocks place part u = (
   for_more fed place u.within,
 )
 
--- what stands at a list by its outcome
-stands_as : (r : ReaderValue) (o : Outcome) (fed : List ℕ) → r.outcome ≡ o → StandsAt r fed → StandsAs o r fed
+-- what stands at a list by its state
+stands_as : (r : ReaderValue) (o : ReaderState) (fed : List ℕ) → r.state ≡ o → StandsAt r fed → StandsAs o r fed
 stands_as r o fed e h = subst (λ x. StandsAs x r fed) e h
 
-stands_by : (r : ReaderValue) (o : Outcome) (fed : List ℕ) → r.outcome ≡ o → StandsAs o r fed → StandsAt r fed
+stands_by : (r : ReaderValue) (o : ReaderState) (fed : List ℕ) → r.state ≡ o → StandsAs o r fed → StandsAt r fed
 stands_by r o fed e h = subst (λ x. StandsAs x r fed) (sym e) h
 
-pub done_answers : (r : ReaderValue) (start : ℕ) (fed piece : List ℕ) → r.outcome ≡ Done start → StandsAt r fed → IsFed fed piece (Ok (DoneAt 0))
+pub done_answers : (r : ReaderValue) (start : ℕ) (fed piece : List ℕ) → r.state ≡ Done start → StandsAt r fed → IsFed fed piece (Ok (DoneAt 0))
 done_answers r start fed piece e h =
     let s = stands_as r (Done start) fed e h in
     let within : r.place ≤ length fed = s.0 in
@@ -117,33 +117,33 @@ done_answers r start fed piece e h =
       omega arith,
     )
 
-pub failed_stands : (r : ReaderValue) (error : ReadError) (fed piece : List ℕ) → r.outcome ≡ Failed error → StandsAt r fed → StandsAt r (fed ++ piece)
+pub failed_stands : (r : ReaderValue) (error : ReadError) (fed piece : List ℕ) → r.state ≡ Failed error → StandsAt r fed → StandsAt r (fed ++ piece)
 failed_stands r (Tape fault) fed piece e h =
     stands_by r (Failed (Tape fault)) (fed ++ piece) e (good_longer fed piece fault (stands_as r (Failed (Tape fault)) fed e h))
 failed_stands r Memory fed piece e h = stands_by r (Failed Memory) (fed ++ piece) e tt
 
-pub failed_answers : (r : ReaderValue) (error : ReadError) (fed piece : List ℕ) → r.outcome ≡ Failed error → StandsAt r fed → IsFed fed piece (Err error)
+pub failed_answers : (r : ReaderValue) (error : ReadError) (fed piece : List ℕ) → r.state ≡ Failed error → StandsAt r fed → IsFed fed piece (Err error)
 failed_answers r (Tape fault) fed piece e h =
     let s = stands_as r (Failed (Tape fault)) fed e h in
     (s piece, for_good-final fed fault s, good_longer fed piece fault s)
 failed_answers r Memory fed piece e h = tt
 
-pub failed_finishes : (r : ReaderValue) (error : ReadError) (fed : List ℕ) → r.outcome ≡ Failed error → StandsAt r fed → IsFinished fed (Err error)
+pub failed_finishes : (r : ReaderValue) (error : ReadError) (fed : List ℕ) → r.state ≡ Failed error → StandsAt r fed → IsFinished fed (Err error)
 failed_finishes r (Tape fault) fed e h =
     subst (λ t. IsRefused t fault.at fault.why) (append-nil fed) (stands_as r (Failed (Tape fault)) fed e h [])
 failed_finishes r Memory fed e h = tt
 
-pub open_finishes : (r : ReaderValue) (fed : List ℕ) → r.outcome ≡ Open → StandsAt r fed → IsFinished fed (Err (Tape (missing_fault fed r.place)))
+pub open_finishes : (r : ReaderValue) (fed : List ℕ) → r.state ≡ Open → StandsAt r fed → IsFinished fed (Err (Tape (missing_fault fed r.place)))
 open_finishes r fed e h = (under_way_says fed r.blocks r.place r.part (stands_as r Open fed e h)).0
 
 -- behind a piece that was read to its end
-took_stands : (p : Progress) (fed : List ℕ) → IsPart p → IsReadBy p fed → IsUnderWay fed p.blocks.items p.place (part_of p)
+took_stands : (p : PartialTape) (fed : List ℕ) → IsPart p → IsReadBy p fed → IsUnderWay fed p.blocks.items p.place (part_of p)
 took_stands p fed part read =
     let l = IsReadTo-length fed p.place p.blocks.items (part_of p) read in
     let w = part.within in
     record { read = read; wanting = part.wanting; within = omega arith }
 
-pub took_answers : (p : Progress) (fed piece : List ℕ) → IsPart p → IsReadBy p (fed ++ piece) → IsFed fed piece (Ok More)
+pub took_answers : (p : PartialTape) (fed piece : List ℕ) → IsPart p → IsReadBy p (fed ++ piece) → IsFed fed piece (Ok More)
 took_answers p fed piece part read =
     let s = under_way_says (fed ++ piece) p.blocks.items p.place (part_of p) (took_stands p (fed ++ piece) part read) in
     (missing_fault (fed ++ piece) p.place, s.0, s.1)
@@ -171,32 +171,32 @@ ended_answers fed piece n blocks place start h t =
     (record { blocks = blocks; start = start }, place, (s.0, s.1.is_tape), omega arith)
 
 -- behind a failure
-pub failure_stands : (old new : Progress) (r : ReaderValue) (error : ReadError) (fed piece : List ℕ) → r.outcome ≡ Failed error
+pub failure_stands : (old new : PartialTape) (r : ReaderValue) (error : ReadError) (fed piece : List ℕ) → r.state ≡ Failed error
     → IsReadBy old fed → IsStep old piece new (Err error) → StandsAt r (fed ++ piece)
 failure_stands old new r (Tape fault) fed piece e read s = stands_by r (Failed (Tape fault)) (fed ++ piece) e (s fed read)
 failure_stands old new r Memory fed piece e read s = stands_by r (Failed Memory) (fed ++ piece) e tt
 
-pub failure_answers : (old new : Progress) (error : ReadError) (fed piece : List ℕ) → IsReadBy old fed → IsStep old piece new (Err error) → IsFed fed piece (Err error)
+pub failure_answers : (old new : PartialTape) (error : ReadError) (fed piece : List ℕ) → IsReadBy old fed → IsStep old piece new (Err error) → IsFed fed piece (Err error)
 failure_answers old new (Tape fault) fed piece read s =
     (subst (λ t. IsRefused t fault.at fault.why) (append-nil (fed ++ piece)) (s fed read []), for_good-final (fed ++ piece) fault (s fed read), s fed read)
 failure_answers old new Memory fed piece read s = tt
 
 -- what callers see of a reader
-abbrev pub value : Progress → Outcome → ReaderValue
-value p o = record { blocks = p.blocks.items; places = p.places.items; place = p.place; part = part_of p; outcome = o }
+abbrev pub value : PartialTape → ReaderState → ReaderValue
+value p o = record { blocks = p.blocks.items; places = p.places.items; place = p.place; part = part_of p; state = o }
 
 -- an open reader has read the list at which it stands
-pub came_open : (p : Progress) (o : Outcome) (r : ReaderValue) (fed : List ℕ) → value p o ≡ r → o ≡ Open → StandsAt r fed → IsReadBy p fed
+pub came_open : (p : PartialTape) (o : ReaderState) (r : ReaderValue) (fed : List ℕ) → value p o ≡ r → o ≡ Open → StandsAt r fed → IsReadBy p fed
 came_open p o r fed e f h = (stands_as (value p o) Open fed f (subst (λ x. StandsAt x fed) (sym e) h)).read
 
-pub same_outcome : (p : Progress) (o x : Outcome) (r : ReaderValue) → value p o ≡ r → o ≡ x → r.outcome ≡ x
-same_outcome p o x r e f = ap (λ v. v.outcome) (sym e) ∙ f
+pub same_outcome : (p : PartialTape) (o x : ReaderState) (r : ReaderValue) → value p o ≡ r → o ≡ x → r.state ≡ x
+same_outcome p o x r e f = ap (λ v. v.state) (sym e) ∙ f
 
-pub took_open : (p : Progress) (o : Outcome) (fed : List ℕ) → o ≡ Open → IsPart p → IsReadBy p fed → StandsAt (value p o) fed
+pub took_open : (p : PartialTape) (o : ReaderState) (fed : List ℕ) → o ≡ Open → IsPart p → IsReadBy p fed → StandsAt (value p o) fed
 took_open p o fed e part read = stands_by (value p o) Open fed e (took_stands p fed part read)
 
 -- behind a whole piece
-pub read_whole : (old new : Progress) (fed piece : List ℕ) (n : ℕ) → IsStep old piece new (Ok (Took n)) → n ≡ length piece → IsReadBy old fed → IsReadBy new (fed ++ piece)
+pub read_whole : (old new : PartialTape) (fed piece : List ℕ) (n : ℕ) → IsStep old piece new (Ok (Took n)) → n ≡ length piece → IsReadBy old fed → IsReadBy new (fed ++ piece)
 read_whole old new fed piece n s e read =
     subst (λ t. IsReadBy new (fed ++ t)) (ap (λ k. take k piece) e ∙ take_all (length piece) piece (omega arith)) (s.2 fed read)
 
@@ -225,5 +225,5 @@ pub finished_complete : (input : List ℕ) (result : Result (TapeValue × ℕ) R
 finished_complete input result (Tape fault) e f answer r = complete input result (Err (Tape fault)) e f answer r
 finished_complete input result Memory e f answer r = inr e
 
-pub open_under_way : (r : ReaderValue) (fed : List ℕ) → r.outcome ≡ Open → StandsAt r fed → IsUnderWay fed r.blocks r.place r.part
+pub open_under_way : (r : ReaderValue) (fed : List ℕ) → r.state ≡ Open → StandsAt r fed → IsUnderWay fed r.blocks r.place r.part
 open_under_way r fed e h = stands_as r Open fed e h

@@ -3,7 +3,7 @@ pub mod Refusal
 pub mod Head
 pub mod Standing
 pub mod Layout
-pub mod Progress
+pub mod PartialTape
 pub mod Reading
 pub mod TapeReader
 pub mod Input

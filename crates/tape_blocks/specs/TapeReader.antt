@@ -3,8 +3,8 @@ use Rattle.std.specs.Prelude.{◌≡◌, ◌⊎◌, ◌-◌, ℕ, ◌≤◌, ◌
 use Rattle.tape_values.specs.Block.{BlockValue}
 use Rattle.tape_values.specs.Tape.{TapeValue, tape_limit}
 use Rattle.tape_blocks.specs.Head.{IsSplit, IsWanting}
-use Rattle.tape_blocks.specs.Progress.{part_of}
-use Rattle.tape_blocks.specs.declared.progress.Progress.{Progress}
+use Rattle.tape_blocks.specs.PartialTape.{part_of}
+use Rattle.tape_blocks.specs.declared.partial_tape.PartialTape.{PartialTape}
 use Rattle.tape_blocks.specs.Standing.{IsReadTo, EndsTape, IsRefusedForGood}
 use Rattle.tape_blocks.specs.Reading.{IsReading}
 use Rattle.tape_blocks.specs.declared.fault.Fault.{Fault}
@@ -12,22 +12,22 @@ use Rattle.tape_blocks.specs.declared.fault.Why.{Why}
 use Rattle.tape_blocks.specs.declared.fault.Why.TheVariants.{Cut, NoTransfer}
 use Rattle.tape_blocks.specs.declared.fault.ReadError.{ReadError}
 use Rattle.tape_blocks.specs.declared.fault.ReadError.TheVariants.{Tape, Memory}
-use Rattle.tape_blocks.specs.declared.outcome.Outcome.{Outcome}
-use Rattle.tape_blocks.specs.declared.outcome.Outcome.TheVariants.{Open, Done, Failed}
+use Rattle.tape_blocks.specs.declared.reader_state.ReaderState.{ReaderState}
+use Rattle.tape_blocks.specs.declared.reader_state.ReaderState.TheVariants.{Open, Done, Failed}
 use Rattle.tape_blocks.specs.declared.reader.Fed.{Fed}
 use Rattle.tape_blocks.specs.declared.reader.Fed.TheVariants.{More, Done as DoneAt}
 
--- what a reader keeps: the blocks so far and their places, the place behind them, the bytes of the block under way, and the outcome
+-- what a reader keeps: the blocks so far and their places, the place behind them, the bytes of the block under way, and the state
 pub record ReaderValue : Type 0 where
   pub blocks : List BlockValue
   pub places : List ℕ
   pub place : ℕ
   pub part : List ℕ
-  pub outcome : Outcome
+  pub state : ReaderState
 
 -- the value of a reader that has come so far
-abbrev pub value_of : Progress → Outcome → ReaderValue
-value_of p outcome = record { blocks = p.blocks.items; places = p.places.items; place = p.place; part = part_of p; outcome = outcome }
+abbrev pub value_of : PartialTape → ReaderState → ReaderValue
+value_of p state = record { blocks = p.blocks.items; places = p.places.items; place = p.place; part = part_of p; state = state }
 
 -- the list may yet be the beginning of a tape: blocks that were read, and then the beginning of a block or nothing
 pub record IsUnderWay (fed : List ℕ) (blocks : List BlockValue) (place : ℕ) (part : List ℕ) : Type 0 where
@@ -35,8 +35,8 @@ pub record IsUnderWay (fed : List ℕ) (blocks : List BlockValue) (place : ℕ) 
   pub wanting : IsWanting place part
   pub within : length fed ≤ tape_limit
 
--- by the outcome: the tape goes on, a front of the list is the tape, the list is refused for good. Want of memory says nothing
-abbrev pub StandsAs : Outcome → ReaderValue → List ℕ → Type 0
+-- by the state: the tape goes on, a front of the list is the tape, the list is refused for good. Want of memory says nothing
+abbrev pub StandsAs : ReaderState → ReaderValue → List ℕ → Type 0
 StandsAs Open r fed = IsUnderWay fed r.blocks r.place r.part
 StandsAs (Done start) r fed = (r.place ≤ length fed) × EndsTape (take r.place fed) r.blocks r.place start
 StandsAs (Failed (Tape fault)) r fed = IsRefusedForGood fed fault
@@ -44,15 +44,15 @@ StandsAs (Failed Memory) r fed = ⊤
 
 -- the reader stands at this list
 abbrev pub StandsAt : ReaderValue → List ℕ → Type 0
-StandsAt r fed = StandsAs r.outcome r fed
+StandsAt r fed = StandsAs r.state r fed
 
 -- the tape goes on: no transfer block has come, nothing was refused, and no growth of memory either
 abbrev pub IsOpen : ReaderValue → Type 0
-IsOpen r = r.outcome ≡ Open
+IsOpen r = r.state ≡ Open
 
 -- a growth of memory was refused: the reader answers nothing else from then on
 abbrev pub IsOutOfMemory : ReaderValue → Type 0
-IsOutOfMemory r = r.outcome ≡ Failed Memory
+IsOutOfMemory r = r.state ≡ Failed Memory
 
 -- a refusal that says only that the input is over
 abbrev pub IsForMore : Why → Type 0

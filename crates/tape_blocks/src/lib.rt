@@ -23,9 +23,9 @@ mod head;
 mod input;
 mod law;
 mod layout;
-mod outcome;
-mod progress;
+mod partial_tape;
 mod reader;
+mod reader_state;
 mod writer;
 
 pub use fault::{Fault, FaultText, REFUSED_AT, ReadError, TAPE, Why};

@@ -7,8 +7,8 @@ ghost use Rattle.tape_blocks.specs.TapeReader.{used_of};
 ghost use Rattle.tape_blocks.specs.declared.fault.ReadError.{ReadError as Error};
 
 use crate::fault::ReadError;
-use crate::outcome::Outcome;
-use crate::progress::{Progress, Step};
+use crate::partial_tape::{PartialTape, Step};
+use crate::reader_state::ReaderState;
 use std::alloc::Global;
 use std::marker::Model;
 use tape_values::Tape;
@@ -60,8 +60,8 @@ impl Fed {
 /// After an error it answers the same error again.
 #[derive(Drop)]
 pub struct TapeReader {
-    progress: Progress,
-    outcome: Outcome,
+    partial: PartialTape,
+    state: ReaderState,
 }
 
 impl Model for TapeReader {
@@ -71,9 +71,9 @@ impl Model for TapeReader {
 
     ghost use Rattle.tape_blocks.specs.TapeReader.{IsTapeReader, value_of};
 
-    ghost view = { λ r. value_of r.progress r.outcome };
+    ghost view = { λ r. value_of r.partial r.state };
 
-    ghost invariant = { λ r. IsTapeReader (value_of r.progress r.outcome) r.progress.header.items r.progress.body.items };
+    ghost invariant = { λ r. IsTapeReader (value_of r.partial r.state) r.partial.header.items r.partial.body.items };
 }
 
 impl TapeReader {
@@ -86,8 +86,8 @@ impl TapeReader {
         ensures places { ArePlaced [] result.blocks result.places }
     {
         TapeReader {
-            progress: Progress::new(alloc),
-            outcome: Outcome::Open,
+            partial: PartialTape::new(alloc),
+            state: ReaderState::Open,
         }
     }
 
@@ -115,19 +115,19 @@ impl TapeReader {
         // Bytes 00 between blocks take no memory.
         ensures blank { IsOpen self.old → self.old.part ≡ [] → All (λ byte. byte ≡ 0) piece.now → result ≡ Err ReadError.Memory → ⊥ }
     {
-        match self.outcome {
-            Outcome::Open => {}
-            Outcome::Done(_) => return Ok(Fed::Done(0)),
-            Outcome::Failed(error) => return Err(error),
+        match self.state {
+            ReaderState::Open => {}
+            ReaderState::Done(_) => return Ok(Fed::Done(0)),
+            ReaderState::Failed(error) => return Err(error),
         }
-        match self.progress.read_on(piece) {
+        match self.partial.read_on(piece) {
             Ok(Step::Took(_)) => Ok(Fed::More),
             Ok(Step::Ended(used, start)) => {
-                self.outcome = Outcome::Done(start);
+                self.state = ReaderState::Done(start);
                 Ok(Fed::Done(used))
             }
             Err(error) => {
-                self.outcome = Outcome::Failed(error);
+                self.state = ReaderState::Failed(error);
                 Err(error)
             }
         }
@@ -154,11 +154,11 @@ impl TapeReader {
         ensures blocks { IfOk result (λ read. read.0.blocks ≡ self.blocks) }
         ensures places { IfOk result (λ read. read.1.items ≡ self.places) }
     {
-        let TapeReader { progress, outcome } = self;
-        match outcome {
-            Outcome::Open => Err(progress.missing().into()),
-            Outcome::Done(start) => Ok((Tape::of_sound(progress.blocks, start), progress.places)),
-            Outcome::Failed(error) => Err(error),
+        let TapeReader { partial, state } = self;
+        match state {
+            ReaderState::Open => Err(partial.missing().into()),
+            ReaderState::Done(start) => Ok((Tape::of_sound(partial.blocks, start), partial.places)),
+            ReaderState::Failed(error) => Err(error),
         }
     }
 
@@ -170,8 +170,8 @@ impl TapeReader {
             → IsTape (fed ++ more) blocks start → result ≤ length more }
         ensures over { (IsOpen self.now → ⊥) → result ≡ 0 }
     {
-        match self.outcome {
-            Outcome::Open => self.progress.needs(),
+        match self.state {
+            ReaderState::Open => self.partial.needs(),
             _ => 0,
         }
     }

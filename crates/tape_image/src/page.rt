@@ -57,7 +57,7 @@ impl Page {
 
     /// Appends the words of the page, which is the one of this number. The one error is want of memory
     /// for them.
-    pub(crate) fn push_words(&self, number: usize, words: &mut Vec<Word>) -> Result<(), AllocError>
+    pub(crate) fn put_words(&self, number: usize, words: &mut Vec<Word>) -> Result<(), AllocError>
         requires { number < 112 }
         ensures { IfOk result (λ _. AddsPageWords number self.now words.old.items words.new.items) }
     {

@@ -113,7 +113,7 @@ impl Pages {
         let mut words = Vec::new(alloc);
         for (number, page) in self.table.iter().enumerate() {
             if let Some(page) = page {
-                page.push_words(number, &mut words)?;
+                page.put_words(number, &mut words)?;
             }
         }
         Ok(words)

@@ -88,7 +88,7 @@ fn blocks_in(alloc: Global, range: AddressRange, text: &[u8]) -> Result<Vec<u16>
     let mut numbers = Vec::with_capacity(alloc, words)?;
     for number in 0..words / BLOCK_WORDS {
         let block = &text[BLOCK * number..BLOCK * number + BLOCK];
-        if !push_block(&mut numbers, from, number, block)? {
+        if !put_block(&mut numbers, from, number, block)? {
             break;
         }
     }
@@ -97,7 +97,7 @@ fn blocks_in(alloc: Global, range: AddressRange, text: &[u8]) -> Result<Vec<u16>
 
 // Puts the numbers of a block behind those of the blocks before it. False where it is not complete: then the
 // numbers are as they were.
-fn push_block(
+fn put_block(
     numbers: &mut Vec<u16>,
     from: u16,
     number: usize,
@@ -113,7 +113,7 @@ fn push_block(
     ensures none { IfOk result (λ complete. complete ≡ false → IsCompleteBlock (from + 512 * number) block.now → ⊥) }
 {
     let before = numbers.len();
-    push_words(numbers, &block[HEAD..HEAD + 2 * BLOCK_WORDS])?;
+    put_words(numbers, &block[HEAD..HEAD + 2 * BLOCK_WORDS])?;
     let text = block_text(from, numbers, number);
     if &text[..] == block {
         return Ok(true);
@@ -123,7 +123,7 @@ fn push_block(
 }
 
 // Puts the words of bytes behind other words, of each the low byte first.
-fn push_words(words: &mut Vec<u16>, bytes: &[u8]) -> Result<(), AllocError>
+fn put_words(words: &mut Vec<u16>, bytes: &[u8]) -> Result<(), AllocError>
     requires length { length bytes.now ≡ 512 }
     requires small { All (λ n. n < 65536) words.old.items }
     ensures small { OnOk result (All (λ n. n < 65536) words.new.items) }

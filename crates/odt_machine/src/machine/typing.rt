@@ -10,7 +10,7 @@ use super::{MANY_DIGITS, Odt};
 use crate::answer::{Answer, echo, illegal, opened, prompt, refused, silence};
 use crate::key::Key;
 use crate::mode::Mode;
-use octal::push_digit;
+use octal::with_digit;
 
 impl Odt {
     /// One typed key: the console goes by its key table, and what it prints is the answer.
@@ -125,7 +125,7 @@ fn pushed(value: u16, key: u8) -> u16
     requires { IsTrue (is_digit key) }
     ensures { result ≡ pushed_value value key }
 {
-    push_digit(value, key).unwrap_or(value)
+    with_digit(value, key).unwrap_or(value)
 }
 
 // The digit count after one digit more: it stays at seven.

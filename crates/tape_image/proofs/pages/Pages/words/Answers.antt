@@ -6,7 +6,7 @@ use Rattle.tape_image.specs.Plan.{words_below}
 use Rattle.tape_image.proofs.Plans.{words_below-none, words_below-same, words_below-all}
 use Rattle.tape_image.proofs.Tables.{get-offset}
 use Rattle.tape_image.proofs.pages.Pages.words.Goals as goal
-use Rattle.tape_image.proofs.pages.Pages.words.Goals.{in-Some+in_ok-push_words, in_default}
+use Rattle.tape_image.proofs.pages.Pages.words.Goals.{in-Some+in_ok-put_words, in_default}
 
 pub loop-number-init : goal.loop-number-init
 loop-number-init c = c.new-words.ensures.items ∙ sym (words_below-none c.args.self.now)
@@ -17,9 +17,9 @@ loop-number-preserved c =
     let bytes : ((o : ℕ) → o < 512 → get c.args.self.now (512 * n + o) ≡ byte_in_page (Some c.page-item.result) o) =
     λ o within. get-offset c.self.inside.table.items c.deref-page-items.result.now c.page-item.result c.args.self.now n o c.deref-page-items.ensures.value c.self.invariant c.self.view_is (omega arith) c.page-item.is within in
     elim c.match-page.branch [
-      | in-Some+in_ok-push_words w ↦
+      | in-Some+in_ok-put_words w ↦
           ap (λ v. v.items) w.words-is
-          ∙ w.in_ok-push_words.ensures c.args.self.now
+          ∙ w.in_ok-put_words.ensures c.args.self.now
           (λ o within. bytes o within ∙ ap (λ slot. byte_in_page (Some slot) o) w.in-Some.is ∙ ap (λ (page : Image). get page o) (sym w.deref.ensures))
           c.loop-number.invariant
       | in_default w ↦

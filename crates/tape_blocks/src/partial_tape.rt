@@ -5,7 +5,7 @@ ghost use Rattle.tape_values.specs.Tape.{IsTape, tape_limit};
 ghost use Rattle.tape_blocks.specs.Refusal.{count_of, missing_fault};
 ghost use Rattle.tape_blocks.specs.Head.{IsSplit};
 ghost use Rattle.tape_blocks.specs.Layout.{ArePlaced};
-ghost use Rattle.tape_blocks.specs.Progress.{IsPart, IsReadBy, IsStep, Advances, TakesAll, TakesNoMemory, PlacesOn, part_of};
+ghost use Rattle.tape_blocks.specs.PartialTape.{IsPart, IsReadBy, IsStep, Advances, TakesAll, TakesNoMemory, PlacesOn, part_of};
 
 use crate::fault::{Fault, ReadError, Why};
 use crate::head::{BLANK, HEADER, Head, head_of};
@@ -18,7 +18,7 @@ use tape_values::{Block, FRAME, TAPE_LIMIT};
 /// The blocks that were read, the place of each, the place behind them, and the bytes of the next block that
 /// are there: its header as far as it came, and then its data and checksum.
 #[derive(Drop)]
-pub(crate) struct Progress {
+pub(crate) struct PartialTape {
     alloc: Global,
     pub(crate) blocks: Vec<Block>,
     pub(crate) places: Vec<u32>,
@@ -36,14 +36,14 @@ pub(crate) enum Step {
     Ended(usize, u16),
 }
 
-impl Progress {
+impl PartialTape {
     /// Nothing is read. Takes no memory.
-    pub(crate) fn new(alloc: Global) -> Progress
+    pub(crate) fn new(alloc: Global) -> PartialTape
         ensures part { IsPart result }
         ensures nothing { IsReadBy result [] }
         ensures places { ArePlaced [] result.blocks.items result.places.items }
     {
-        Progress {
+        PartialTape {
             alloc,
             blocks: Vec::new(alloc),
             places: Vec::new(alloc),

@@ -2,7 +2,7 @@ use Rattle.std.proofs.Common.{◌≡◌, ℕ, ◌+◌, ◌*◌, ◌<◌}
 use Rattle.std.specs.FinMap.{get}
 use Rattle.tape_image.specs.Image.{Image}
 use Rattle.tape_image.specs.Plan.{words_below}
-use Rattle.tape_image.proofs.page.Page.push_words.Given as goal
+use Rattle.tape_image.proofs.page.Page.put_words.Given as goal
 
 -- the words so far are those below the place
 abbrev pub invariant-loop-place : goal.invariant-loop-place

@@ -4,8 +4,8 @@ use Rattle.std.specs.FinMap.{get}
 use Rattle.std.proofs.lemmas.List.{append-nil}
 use Rattle.tape_image.specs.Plan.{words_below}
 use Rattle.tape_image.proofs.Plans.{words_below-more}
-use Rattle.tape_image.proofs.page.Page.push_words.Goals as goal
-use Rattle.tape_image.proofs.page.Page.push_words.Goals.{in-Some+in_ok-push, in_default}
+use Rattle.tape_image.proofs.page.Page.put_words.Goals as goal
+use Rattle.tape_image.proofs.page.Page.put_words.Goals.{in-Some+in_ok-push, in_default}
 
 pub loop-place-preserved : goal.loop-place-preserved
 loop-place-preserved c image within start =

@@ -4,13 +4,13 @@ use Rattle.std.proofs.lemmas.Result.{err_from_is_err_and}
 use Rattle.tape_values.specs.Block.{BlockValue, block_at, data_block, transfer_block}
 use Rattle.tape_blocks.specs.Head.{IsHead, IsFaultyBlock, IsWanting}
 use Rattle.tape_blocks.specs.Standing.{IsReadTo}
-use Rattle.tape_blocks.specs.Progress.{part_of}
+use Rattle.tape_blocks.specs.PartialTape.{part_of}
 use Rattle.tape_values.proofs.Pieces.{length-framed}
 use Rattle.tape_blocks.proofs.Steps.{no_part, wants_nothing, step_blank, step_data, step_transfer, step_fault, front_is, front_fits, alone, first_byte, same_read}
 use Rattle.tape_blocks.proofs.Standings.{IsReadTo-grow}
 use Rattle.tape_blocks.proofs.Placings.{place_more, places_grow, same_placed}
-use Rattle.tape_blocks.proofs.progress.Progress.begin.Goals as goal
-use Rattle.tape_blocks.proofs.progress.Progress.begin.Goals.{After-head_of, In_ok-head_of, In_ok-add-in-Data}
+use Rattle.tape_blocks.proofs.partial_tape.PartialTape.begin.Goals as goal
+use Rattle.tape_blocks.proofs.partial_tape.PartialTape.begin.Goals.{After-head_of, In_ok-head_of, In_ok-add-in-Data}
 
 none : (c : After-head_of) → part_of c.args.self.now ≡ []
 none c = no_part c.args.self.now.header.items c.args.self.now.body.items c.requires.part.split c.requires.between

@@ -4,12 +4,12 @@ use Rattle.std.proofs.lemmas.List.{get_or-drop}
 use Rattle.std.proofs.lemmas.Result.{err_from_is_err_and}
 use Rattle.std.proofs.Math.Seq.{take-add}
 use Rattle.tape_blocks.specs.Standing.{EndsTape, IsRefusedForGood}
-use Rattle.tape_blocks.specs.Progress.{ArePlacedBy, IsStep, IsReadBy, PlacesOn}
+use Rattle.tape_blocks.specs.PartialTape.{ArePlacedBy, IsStep, IsReadBy, PlacesOn}
 use Rattle.tape_blocks.specs.declared.fault.ReadError.{ReadError}
 use Rattle.tape_blocks.specs.declared.fault.ReadError.TheVariants.{Tape, Memory}
-use Rattle.tape_blocks.specs.declared.progress.Progress.{Progress}
-use Rattle.tape_blocks.proofs.progress.Progress.read_on.Goals as goal
-use Rattle.tape_blocks.proofs.progress.Progress.read_on.Goals.{In_ok-count}
+use Rattle.tape_blocks.specs.declared.partial_tape.PartialTape.{PartialTape}
+use Rattle.tape_blocks.proofs.partial_tape.PartialTape.read_on.Goals as goal
+use Rattle.tape_blocks.proofs.partial_tape.PartialTape.read_on.Goals.{In_ok-count}
 
 -- the slice behind the bytes used
 rest_is : (piece : List ℕ) (used : ℕ) → take (length piece - used) (drop used piece) ≡ drop used piece
@@ -32,7 +32,7 @@ more_used fed piece used n h m =
           ∙ ap (λ t. fed ++ t) (ap (λ t. take used piece ++ take n t) (rest_is piece used) ∙ sym (take-add used n piece)),
     )
 
-step_err : (old mid new : Progress) (piece : List ℕ) (used : ℕ) (e : ReadError) → ((fed : List ℕ) → IsReadBy old fed → IsReadBy mid (fed ++ take used piece))
+step_err : (old mid new : PartialTape) (piece : List ℕ) (used : ℕ) (e : ReadError) → ((fed : List ℕ) → IsReadBy old fed → IsReadBy mid (fed ++ take used piece))
     → IsStep mid (take (length piece - used) (drop used piece)) new (Err e) → IsStep old piece new (Err e)
 step_err old mid new piece used (Tape fault) before s = λ fed read.
     subst (λ t. IsRefusedForGood t fault)

@@ -1,12 +1,12 @@
 use Rattle.std.proofs.Common.{◌+◌, ◌≡◌, length, arith, ◌∙◌}
 use Rattle.std.proofs.lemmas.List.{length-append}
 use Rattle.tape_blocks.specs.Refusal.{count_of}
-use Rattle.tape_blocks.specs.Progress.{part_of}
+use Rattle.tape_blocks.specs.PartialTape.{part_of}
 use Rattle.tape_blocks.specs.declared.fault.Why.TheVariants.{Cut}
 use Rattle.tape_blocks.proofs.Longer.{WantsBlock, wants_block}
 use Rattle.tape_blocks.proofs.Needs.{behind, seven, block_too}
-use Rattle.tape_blocks.proofs.progress.Progress.needs.Goals as goal
-use Rattle.tape_blocks.proofs.progress.Progress.needs.Goals.{After-len-2, After-count-count}
+use Rattle.tape_blocks.proofs.partial_tape.PartialTape.needs.Goals as goal
+use Rattle.tape_blocks.proofs.partial_tape.PartialTape.needs.Goals.{After-len-2, After-count-count}
 
 part : (c : After-len-2) → length (part_of c.args.self.now) ≡ c.len.result + c.len-2.result
 part c =

@@ -5,7 +5,7 @@ use Rattle.tape_values.specs.Block.{BlockValue, block_at, data_block, transfer_b
 use Rattle.tape_values.specs.Tape.{tape_limit}
 use Rattle.tape_blocks.specs.Head.{IsHead, IsFaultyBlock, IsWanting}
 use Rattle.tape_blocks.specs.Standing.{EndsTape, IsRefusedForGood}
-use Rattle.tape_blocks.specs.Progress.{part_of}
+use Rattle.tape_blocks.specs.PartialTape.{part_of}
 use Rattle.tape_blocks.specs.declared.fault.Fault.{Fault}
 use Rattle.tape_blocks.specs.declared.fault.Why.TheVariants.{Cut}
 use Rattle.tape_values.proofs.Pieces.{length-framed}
@@ -14,8 +14,8 @@ use Rattle.tape_blocks.proofs.Parts.{GrowsTo, just_block, whole_body}
 use Rattle.tape_blocks.proofs.Placings.{place_more, places_grow, same_placed}
 use Rattle.tape_blocks.proofs.Standings.{IsReadTo-grow}
 use Rattle.tape_blocks.proofs.Steps.{no_part, wants_nothing, step_data, step_transfer, step_fault, good_longer, same_read, split_nothing}
-use Rattle.tape_blocks.proofs.progress.Progress.go_on.Goals as goal
-use Rattle.tape_blocks.proofs.progress.Progress.go_on.Goals.{After-deref, In_ok-head_of, In_ok-end_block-in-Data}
+use Rattle.tape_blocks.proofs.partial_tape.PartialTape.go_on.Goals as goal
+use Rattle.tape_blocks.proofs.partial_tape.PartialTape.go_on.Goals.{After-deref, In_ok-head_of, In_ok-end_block-in-Data}
 
 -- the bytes that are taken
 abbrev taken : After-deref → List ℕ

@@ -1,8 +1,8 @@
 -- what was read is the piece as far as it was used
 use Rattle.std.proofs.Common.{◌≡◌, [], ◌≤◌, ◌-◌, ◌++◌, List, ℕ, length, take}
 use Rattle.std.specs.Prelude.{All}
-use Rattle.tape_blocks.specs.Progress.{ArePlacedBy, IsPart, IsReadBy}
-use Rattle.tape_blocks.proofs.progress.Progress.read_on.Given as goal
+use Rattle.tape_blocks.specs.PartialTape.{ArePlacedBy, IsPart, IsReadBy}
+use Rattle.tape_blocks.proofs.partial_tape.PartialTape.read_on.Given as goal
 
 abbrev pub invariant-loop-used : goal.invariant-loop-used
 invariant-loop-used l = record {

@@ -3,7 +3,7 @@ use Rattle.std.specs.Prelude.{All}
 use Rattle.std.proofs.lemmas.List.{take_all}
 use Rattle.std.proofs.lemmas.List.Elements.{All-push}
 use Rattle.tape_shelf.proofs.FoundBlocks.{one_more_word}
-use Rattle.tape_shelf.proofs.found_part.push_words.Goals as goal
+use Rattle.tape_shelf.proofs.found_part.put_words.Goals as goal
 
 pub loop-word-preserved : goal.loop-word-preserved
 loop-word-preserved c =

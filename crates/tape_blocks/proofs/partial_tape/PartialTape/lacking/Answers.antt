@@ -1,9 +1,9 @@
 use Rattle.std.proofs.Common.{◌+◌, ◌≡◌, length, arith}
 use Rattle.std.proofs.lemmas.List.{length-append}
-use Rattle.tape_blocks.specs.Progress.{part_of}
+use Rattle.tape_blocks.specs.PartialTape.{part_of}
 use Rattle.tape_blocks.proofs.Longer.{WantsBlock, wants_block}
-use Rattle.tape_blocks.proofs.progress.Progress.lacking.Goals as goal
-use Rattle.tape_blocks.proofs.progress.Progress.lacking.Goals.{After-count}
+use Rattle.tape_blocks.proofs.partial_tape.PartialTape.lacking.Goals as goal
+use Rattle.tape_blocks.proofs.partial_tape.PartialTape.lacking.Goals.{After-count}
 
 part : (c : After-count) → length (part_of c.args.self.now) ≡ length c.args.self.now.header.items + length c.args.self.now.body.items
 part c = length-append c.args.self.now.header.items c.args.self.now.body.items

@@ -3,7 +3,7 @@ use Rattle.std.proofs.Common.{◌≡◌, ◌<◌, ◌*◌, ◌++◌, ℕ, List, 
 use Rattle.std.specs.List.{flat_map}
 use Rattle.std.specs.Prelude.{All}
 use Rattle.tape_values.specs.Block.{low_first}
-use Rattle.tape_shelf.proofs.found_part.push_words.Given as goal
+use Rattle.tape_shelf.proofs.found_part.put_words.Given as goal
 
 abbrev pub invariant-loop-word : goal.invariant-loop-word
 invariant-loop-word l = record {

@@ -1,15 +1,15 @@
 use Rattle.std.proofs.Common.{◌≡◌, ℕ, ◌≤◌, List, ◌++◌, length, take, drop, arith, ap, ◌∙◌, sym, subst, take-append-drop, append_assoc, Result, Ok, Err}
 use Rattle.std.proofs.lemmas.List.{length-take, length-append}
 use Rattle.tape_blocks.specs.Standing.{EndsTape, IsRefusedForGood}
-use Rattle.tape_blocks.specs.Progress.{ArePlacedBy, IsStep, IsReadBy, PlacesOn, part_of}
+use Rattle.tape_blocks.specs.PartialTape.{ArePlacedBy, IsStep, IsReadBy, PlacesOn, part_of}
 use Rattle.tape_blocks.specs.declared.fault.ReadError.{ReadError}
 use Rattle.tape_blocks.specs.declared.fault.ReadError.TheVariants.{Tape, Memory}
-use Rattle.tape_blocks.specs.declared.progress.Progress.{Progress}
-use Rattle.tape_blocks.specs.declared.progress.Step.{Step}
-use Rattle.tape_blocks.specs.declared.progress.Step.TheVariants.{Took, Ended}
+use Rattle.tape_blocks.specs.declared.partial_tape.PartialTape.{PartialTape}
+use Rattle.tape_blocks.specs.declared.partial_tape.Step.{Step}
+use Rattle.tape_blocks.specs.declared.partial_tape.Step.TheVariants.{Took, Ended}
 use Rattle.tape_blocks.proofs.Readings.{take_within}
 use Rattle.tape_blocks.proofs.Steps.{step_too_long, good_longer}
-use Rattle.tape_blocks.proofs.progress.Progress.step.Goals as goal
+use Rattle.tape_blocks.proofs.partial_tape.PartialTape.step.Goals as goal
 
 -- a front of the bytes left, and a front of that
 front_of : (n k : ℕ) (left : List ℕ) → n ≤ length (take k left) → (n ≤ length left) × (take n (take k left) ≡ take n left)
@@ -19,7 +19,7 @@ front_of n k left h =
     (within, sym (take_within n k left (omega arith) within))
 
 -- a step over a front of the bytes left is one over all of them
-step_near : (old new : Progress) (k : ℕ) (left : List ℕ) (r : Result Step ReadError) → IsStep old (take k left) new r → IsStep old left new r
+step_near : (old new : PartialTape) (k : ℕ) (left : List ℕ) (r : Result Step ReadError) → IsStep old (take k left) new r → IsStep old left new r
 step_near old new k left (Ok (Took n)) s =
     let f = front_of n k left s.0 in
     (f.0, s.1, λ fed read. subst (λ t. IsReadBy new (fed ++ t)) f.1 (s.2 fed read))
@@ -49,7 +49,7 @@ pub returns-else-is_empty-clause-step : goal.returns-else-is_empty-clause-step
 returns-else-is_empty-clause-step c = step_near c.args.self.now c.go_on.new.self c.min.result c.args.left.now c.go_on.result c.go_on.ensures.step
 
 -- the places after a step over a front of the bytes left
-places_near : (old new : Progress) (k : ℕ) (left : List ℕ) (r : Result Step ReadError) → IsStep old (take k left) new r → PlacesOn old (take k left) new r
+places_near : (old new : PartialTape) (k : ℕ) (left : List ℕ) (r : Result Step ReadError) → IsStep old (take k left) new r → PlacesOn old (take k left) new r
     → PlacesOn old left new r
 places_near old new k left (Ok (Took n)) s p =
     λ fed read placed. subst (λ t. ArePlacedBy new (fed ++ t)) (front_of n k left s.0).1 (p fed read placed)

@@ -1,8 +1,8 @@
 use crate::fault::ReadError;
 
-/// How reading a tape ended, if it did.
+/// What a reader has come to.
 #[derive(Clone, Copy)]
-pub(crate) enum Outcome {
+pub(crate) enum ReaderState {
     /// The tape goes on.
     Open,
 

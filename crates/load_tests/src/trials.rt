@@ -8,7 +8,7 @@ use host_devices::{Item, Line, LineFault};
 use odt_machine::{Odt, Style};
 use std::alloc::Global;
 use std::process::Abort;
-use trial_core::{End, Seen, Sight, Trial};
+use trial_core::{End, Habit, Seen, Trial};
 use trial_engine::{Stop, conduct};
 
 // The word's address.
@@ -48,7 +48,7 @@ struct Course {
     keys: usize,
     heard: usize,
     spent: u32,
-    two_returns: Sight,
+    two_returns: Habit,
 }
 
 // The setting, what a trial in it comes to, and why the row is here.
@@ -60,7 +60,7 @@ const ROWS: [(Setting, Course, &str); 9] = [
             keys: 12,
             heard: 31,
             spent: 0,
-            two_returns: Sight::Yes,
+            two_returns: Habit::Yes,
         },
         "the whole trial",
     ),
@@ -71,7 +71,7 @@ const ROWS: [(Setting, Course, &str); 9] = [
             keys: 12,
             heard: 30,
             spent: 0,
-            two_returns: Sight::Yes,
+            two_returns: Habit::Yes,
         },
         "one turn short: the last prompt is not heard",
     ),
@@ -85,7 +85,7 @@ const ROWS: [(Setting, Course, &str); 9] = [
             keys: 22,
             heard: 54,
             spent: 1,
-            two_returns: Sight::Yes,
+            two_returns: Habit::Yes,
         },
         "the echo of the second digit is lost: Z leaves the word, which is opened once more",
     ),
@@ -100,7 +100,7 @@ const ROWS: [(Setting, Course, &str); 9] = [
             keys: 10,
             heard: 24,
             spent: 0,
-            two_returns: Sight::Yes,
+            two_returns: Habit::Yes,
         },
         "the same without patience: two digits stay typed into the open word",
     ),
@@ -114,7 +114,7 @@ const ROWS: [(Setting, Course, &str); 9] = [
             keys: 22,
             heard: 54,
             spent: 1,
-            two_returns: Sight::Yes,
+            two_returns: Habit::Yes,
         },
         "the second digit itself is lost",
     ),
@@ -128,7 +128,7 @@ const ROWS: [(Setting, Course, &str); 9] = [
             keys: 12,
             heard: 30,
             spent: 0,
-            two_returns: Sight::Mixed,
+            two_returns: Habit::Mixed,
         },
         "one CR of two is lost: it passes for the other style, and is seen both ways",
     ),
@@ -142,7 +142,7 @@ const ROWS: [(Setting, Course, &str); 9] = [
             keys: 8,
             heard: 15,
             spent: 0,
-            two_returns: Sight::Yes,
+            two_returns: Habit::Yes,
         },
         "memory ends right before the word",
     ),
@@ -156,7 +156,7 @@ const ROWS: [(Setting, Course, &str); 9] = [
             keys: 0,
             heard: 1,
             spent: 0,
-            two_returns: Sight::Unseen,
+            two_returns: Habit::Unseen,
         },
         "the first key is not sent",
     ),
@@ -167,7 +167,7 @@ const ROWS: [(Setting, Course, &str); 9] = [
             keys: 0,
             heard: 0,
             spent: 0,
-            two_returns: Sight::Unseen,
+            two_returns: Habit::Unseen,
         },
         "no turn, no key",
     ),
@@ -226,8 +226,8 @@ fn trials(rt: HostRuntime) {
 }
 
 // What is to be seen of a thing that the console does or not.
-fn sight_of(does: bool) -> Sight {
-    if does { Sight::Yes } else { Sight::No }
+fn sight_of(does: bool) -> Habit {
+    if does { Habit::Yes } else { Habit::No }
 }
 
 // What is to be seen of a style.

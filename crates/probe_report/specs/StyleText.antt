@@ -3,21 +3,21 @@ use Rattle.std.specs.Prelude.{ℕ, Bool, true, false, ◌&&◌, if◌then◌else
 use Rattle.odt_machine.specs.Style.{style_number}
 use Rattle.odt_machine.specs.declared.style.Style.{Style}
 use Rattle.byte_io.specs.Text.{line}
-use Rattle.trial_core.specs.declared.sight.Sight.{Sight}
-use Rattle.trial_core.specs.declared.sight.Sight.TheVariants.{Unseen, Yes, Mixed}
-use Rattle.trial_core.specs.declared.sight.Seen.{Seen}
+use Rattle.trial_core.specs.declared.habit.Habit.{Habit}
+use Rattle.trial_core.specs.declared.habit.Habit.TheVariants.{Unseen, Yes, Mixed}
+use Rattle.trial_core.specs.declared.habit.Seen.{Seen}
 use Rattle.probe_report.specs.declared.findings.Attempt.{Attempt}
 
 -- the thing was seen, or seen to be missing
-abbrev pub is_seen : Sight → Bool
+abbrev pub is_seen : Habit → Bool
 is_seen Unseen = false
-is_seen sight = true
+is_seen habit = true
 
 -- the console does it, at least from time to time
-abbrev pub is_done : Sight → Bool
+abbrev pub is_done : Habit → Bool
 is_done Yes = true
 is_done Mixed = true
-is_done sight = false
+is_done habit = false
 
 -- the style that was seen
 abbrev pub style_of : Seen → Style
@@ -39,9 +39,9 @@ abbrev pub mishap_text : Bool → List ℕ
 mishap_text had_mishap = if had_mishap then codes ", which says nothing of the console after a mishap" else []
 
 -- a thing that was seen both ways
-abbrev pub mixed_lines : List ℕ → Sight → Bool → List ℕ
+abbrev pub mixed_lines : List ℕ → Habit → Bool → List ℕ
 mixed_lines name Mixed had_mishap = line (name ++ codes " comes from time to time" ++ mishap_text had_mishap)
-mixed_lines name sight had_mishap = []
+mixed_lines name habit had_mishap = []
 
 -- the style's number, and what was seen both ways
 abbrev pub seen_lines : Seen → Bool → List ℕ

@@ -8,7 +8,7 @@ use crate::findings::Attempt;
 use crate::report::Report;
 use byte_io::{push_bytes, push_decimal};
 use odt_machine::Style;
-use trial_core::{Seen, Sight};
+use trial_core::{Habit, Seen};
 
 /// Puts the lines of the style that a trial saw, if there was one.
 pub(crate) fn push_style(text: &mut Report, trial: Option<Attempt>)
@@ -75,32 +75,32 @@ fn style_of(seen: Seen) -> Style
     }
 }
 
-fn is_seen(sight: Sight) -> bool
-    ensures { result ≡ is_seen sight }
+fn is_seen(habit: Habit) -> bool
+    ensures { result ≡ is_seen habit }
 {
-    match sight {
-        Sight::Unseen => false,
-        Sight::Yes | Sight::No | Sight::Mixed => true,
+    match habit {
+        Habit::Unseen => false,
+        Habit::Yes | Habit::No | Habit::Mixed => true,
     }
 }
 
-fn is_done(sight: Sight) -> bool
-    ensures { result ≡ is_done sight }
+fn is_done(habit: Habit) -> bool
+    ensures { result ≡ is_done habit }
 {
-    match sight {
-        Sight::Yes | Sight::Mixed => true,
-        Sight::Unseen | Sight::No => false,
+    match habit {
+        Habit::Yes | Habit::Mixed => true,
+        Habit::Unseen | Habit::No => false,
     }
 }
 
 // Puts the line of a thing that was seen both ways.
-fn push_mixed(text: &mut Report, name: &[u8], sight: Sight, had_mishap: bool)
+fn push_mixed(text: &mut Report, name: &[u8], habit: Habit, had_mishap: bool)
     requires room { array_vec_len text.old ≤ 600 }
     requires name { length name.now ≤ 26 }
-    ensures items { text.new.items ≡ text.old.items ++ mixed_lines name.now sight had_mishap }
+    ensures items { text.new.items ≡ text.old.items ++ mixed_lines name.now habit had_mishap }
     ensures length { array_vec_len text.new ≤ array_vec_len text.old + length name.now + 75 }
 {
-    let Sight::Mixed = sight else {
+    let Habit::Mixed = habit else {
         return;
     };
     push_bytes(text, name);

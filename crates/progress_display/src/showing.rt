@@ -33,13 +33,13 @@ impl fmt::Display for Showing {
 
     fn fmt<W: fmt::Write>(&self, f: &mut fmt::Formatter<W>) -> fmt::Result {
         let (done, words) = (self.done, self.words);
-        let part = Part { done, words };
+        let percent = Percent { done, words };
         let doing = Doing {
             is_listening: self.is_listening,
             is_stub: self.is_stub,
         };
         let (mishaps, left) = (Mishaps(self.mishaps), Left(self.seconds_left));
-        write!(f, "{done} of {words} words{part}{doing}{mishaps}{left}")
+        write!(f, "{done} of {words} words{percent}{doing}{mishaps}{left}")
     }
 }
 
@@ -136,12 +136,12 @@ impl fmt::Display for Forecast {
 
 // Which part of all words is done, where there are any.
 #[derive(Clone, Copy)]
-struct Part {
+struct Percent {
     done: u32,
     words: u32,
 }
 
-impl fmt::Display for Part {
+impl fmt::Display for Percent {
     ghost use Rattle.std.specs.Prelude.{Some};
     ghost use Rattle.progress_display.specs.ProgressText.{part_text};
 

@@ -11,7 +11,7 @@ use Rattle.exchange_core.specs.Stretch.{cut, piece_end, pieces, stretch_of}
 use Rattle.exchange_core.proofs.Chunks.{chunks_few}
 use Rattle.exchange_core.specs.Window.{IsWindow}
 use Rattle.stub.specs.Words.{code, stub_words, table}
-use Rattle.stub_engine.specs.declared.planning.Layout.{Layout}
+use Rattle.stub_engine.specs.declared.planning.StubLayout.{StubLayout}
 use Rattle.stub_engine.specs.Planning.{IsLayout}
 
 table_size : (stretches : List Stretch) → length (table stretches) ≡ 2 * length stretches + 1
@@ -53,7 +53,7 @@ stretches_few (s ∷ stretches) some =
     let one = some_cut s.from s.to (All-head (λ (t : Stretch). t.from < t.to) s stretches some) in
     omega (arith, rest, one, length-append (cut (s.to - s.from) s.from s.to) (pieces stretches))
 
-pub few_stretches : (tape : PlanValue) (from count : ℕ) (layout : Layout) → IsLayout tape from count layout → length layout.stretches.items ≤ 65536
+pub few_stretches : (tape : PlanValue) (from count : ℕ) (layout : StubLayout) → IsLayout tape from count layout → length layout.stretches.items ≤ 65536
 few_stretches tape from count layout is_one =
     let cuts = stretches_few layout.stretches.items is_one.stretches_are.some in
     let same : length (pieces layout.stretches.items) ≡ length layout.chunks.items =

@@ -6,7 +6,7 @@ use Rattle.exchange_core.specs.declared.stretch.Stretch.{Stretch}
 use Rattle.exchange_core.specs.Chunking.{AreChunksUpTo, AreStretches}
 use Rattle.exchange_core.specs.Window.{IsWindow}
 use Rattle.load_lives.specs.Planned.{IsPlanned}
-use Rattle.stub_engine.specs.declared.planning.Layout.{Layout}
+use Rattle.stub_engine.specs.declared.planning.StubLayout.{StubLayout}
 use Rattle.stub_engine.specs.declared.stop.Stop.{Stop}
 use Rattle.stub_engine.specs.declared.stop.Stop.TheVariants.{TooFewWords, NoRoom, Memory}
 
@@ -15,7 +15,7 @@ abbrev pub least_gain : ℕ
 least_gain = 256
 
 -- a window behind the first words with room for a stub of so many stretches, the chunks of the words between, and the stretches that make these
-pub record IsLayout (tape : PlanValue) (from count : ℕ) (layout : Layout) : Type 0 where
+pub record IsLayout (tape : PlanValue) (from count : ℕ) (layout : StubLayout) : Type 0 where
   pub window_is : IsWindow tape.words from (66 + 2 * count) layout.window
   pub worth : from + least_gain ≤ layout.window
   pub chunks_are : AreChunksUpTo tape from layout.window layout.chunks.items
@@ -31,7 +31,7 @@ pub record IsPlannedFor (tape : PlanValue) (from : ℕ) (stub : PlanValue) (chun
 -- with how many stretches room is looked for: with one, and then with as many as there were
 pub data IsTried (tape : PlanValue) (from : ℕ) : ℕ → Type 0 where
   One : IsTried tape from 1
-  More : (layout : Layout) → IsLayout tape from 1 layout → IsTried tape from (length layout.stretches.items)
+  More : (layout : StubLayout) → IsLayout tape from 1 layout → IsTried tape from (length layout.stretches.items)
 
 -- each window for a stub of so many stretches leaves too few words before it
 abbrev pub LeavesTooFew : PlanValue → ℕ → ℕ → Type 0
@@ -40,7 +40,7 @@ LeavesTooFew tape from count = (i : ℕ) → IsWindow tape.words from (66 + 2 * 
 -- there is no window for one, or the chunks before it make more stretches than it has room for
 pub data HasNoRoom (tape : PlanValue) (from count : ℕ) : Type 0 where
   NoWindow : ((i : ℕ) → IsWindow tape.words from (66 + 2 * count) i → ⊥) → HasNoRoom tape from count
-  MoreStretches : (layout : Layout) → IsLayout tape from count layout → count < length layout.stretches.items → HasNoRoom tape from count
+  MoreStretches : (layout : StubLayout) → IsLayout tape from count layout → count < length layout.stretches.items → HasNoRoom tape from count
 
 -- why none is laid out that has so many stretches
 abbrev pub IsNotLaidOut : PlanValue → ℕ → ℕ → Stop → Type 0

@@ -46,14 +46,14 @@ pub(crate) fn planned_stub(alloc: Global, plan: &Plan, from: u32) -> Result<Plan
 
 // Where a stub lies, the chunks that it takes, and the stretches of its table.
 #[derive(Drop)]
-struct Layout {
+struct StubLayout {
     window: u32,
     chunks: Vec<Chunk>,
     stretches: Vec<Stretch>,
 }
 
 // Where a stub lies that has room for so many stretches.
-fn laid_out(alloc: Global, plan: &Plan, from: u32, count: usize) -> Result<Layout, Stop>
+fn laid_out(alloc: Global, plan: &Plan, from: u32, count: usize) -> Result<StubLayout, Stop>
     requires few { count ≤ 2 ^ 16 }
     ensures layout { IfOk result (IsLayout plan.now from count) }
     ensures unplanned { IfErr result (IsNotLaidOut plan.now from count) }
@@ -66,7 +66,7 @@ fn laid_out(alloc: Global, plan: &Plan, from: u32, count: usize) -> Result<Layou
     }
     let chunks = chunks_of(alloc, plan, from, window)?;
     let stretches = stretches_of(alloc, &chunks)?;
-    Ok(Layout {
+    Ok(StubLayout {
         window,
         chunks,
         stretches,
@@ -74,12 +74,17 @@ fn laid_out(alloc: Global, plan: &Plan, from: u32, count: usize) -> Result<Layou
 }
 
 // The stub that lies there, and the plan that brings it in.
-fn brought_in_by(alloc: Global, plan: &Plan, from: u32, layout: Layout) -> Result<PlannedStub, Stop>
+fn brought_in_by(
+    alloc: Global,
+    plan: &Plan,
+    from: u32,
+    layout: StubLayout,
+) -> Result<PlannedStub, Stop>
     requires layout { IsLayout plan.now from (length layout.stretches.items) layout }
     ensures planned { IfOk result (λ stub. IsPlannedFor plan.now from stub.plan stub.chunks.items) }
     ensures memory { IfErr result (λ stop. stop ≡ Stop.Memory) }
 {
-    let Layout {
+    let StubLayout {
         window,
         chunks,
         stretches,

@@ -6,12 +6,12 @@ use Rattle.host_core.specs.declared.heard.Heard.TheVariants.{Got}
 use Rattle.host_core.specs.Console.{resynchronise, question_mark, carriage_return, line_feed, space}
 use Rattle.trial_core.specs.declared.phase.Phase.{Phase}
 use Rattle.trial_core.specs.declared.phase.Phase.TheVariants.{Sync, Before, Done}
-use Rattle.trial_core.specs.declared.sight.Sight.{Sight}
-use Rattle.trial_core.specs.declared.sight.Sight.TheVariants.{Unseen, Yes, No, Mixed}
-use Rattle.trial_core.specs.declared.sight.Seen.{Seen}
+use Rattle.trial_core.specs.declared.habit.Habit.{Habit}
+use Rattle.trial_core.specs.declared.habit.Habit.TheVariants.{Unseen, Yes, No, Mixed}
+use Rattle.trial_core.specs.declared.habit.Seen.{Seen}
 
 -- a thing that was seen once more: seen both ways it is mixed
-abbrev pub and_then : Sight → Sight → Sight
+abbrev pub and_then : Habit → Habit → Habit
 and_then Unseen now = now
 and_then before Unseen = before
 and_then Yes Yes = Yes
@@ -19,7 +19,7 @@ and_then No No = No
 and_then _ _ = Mixed
 
 -- of two characters that may come at a place, one shows that the console does a thing, and the other that it does not
-abbrev pub shown : ℕ → ℕ → ℕ → Sight
+abbrev pub shown : ℕ → ℕ → ℕ → Habit
 shown does does_not c = if c == does then Yes else if c == does_not then No else Unseen
 
 -- the first character of the answer to `Z`: its echo, or `?`

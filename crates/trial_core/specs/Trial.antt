@@ -5,8 +5,8 @@ use Rattle.reading_core.specs.Addresses.{IsAddress}
 use Rattle.trial_core.specs.declared.phase.Phase.{Phase}
 use Rattle.trial_core.specs.declared.phase.Phase.TheVariants.{Settle, Sync, Address, Value, Typed, Done, Ended}
 use Rattle.trial_core.specs.declared.phase.End.{End}
-use Rattle.trial_core.specs.declared.sight.Sight.TheVariants.{Unseen}
-use Rattle.trial_core.specs.declared.sight.Seen.{Seen}
+use Rattle.trial_core.specs.declared.habit.Habit.TheVariants.{Unseen}
+use Rattle.trial_core.specs.declared.habit.Seen.{Seen}
 use Rattle.trial_core.specs.declared.trial.Trial.{Trial}
 use Rattle.trial_core.specs.Digits.{digits_for}
 

@@ -11,13 +11,13 @@
 #![tactic(auto)]
 
 mod digits;
+mod habit;
 mod phase;
-mod sight;
 mod style;
 mod table;
 mod trial;
 mod turn;
 
+pub use habit::{Habit, Seen};
 pub use phase::{End, Phase};
-pub use sight::{Seen, Sight};
 pub use trial::{Asked, Trial};

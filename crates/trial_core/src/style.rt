@@ -2,21 +2,21 @@
 ghost use Rattle.std.specs.Prelude.{◌≡◌};
 ghost use Rattle.trial_core.specs.Style.{and_then, reply_seen, seen_after, shown, space_seen};
 
+use crate::habit::{Habit, Seen};
 use crate::phase::Phase;
-use crate::sight::{Seen, Sight};
 use host_core::Heard;
 use host_core::console::{CARRIAGE_RETURN, LINE_FEED, QUESTION_MARK, RESYNCHRONISE, SPACE};
 
-impl Sight {
+impl Habit {
     // What was seen, once it was seen again.
-    fn and_then(self, now: Sight) -> Sight
+    fn and_then(self, now: Habit) -> Habit
         ensures { result ≡ and_then self now }
     {
         match (self, now) {
-            (Sight::Unseen, seen) | (seen, Sight::Unseen) => seen,
-            (Sight::Yes, Sight::Yes) => Sight::Yes,
-            (Sight::No, Sight::No) => Sight::No,
-            _ => Sight::Mixed,
+            (Habit::Unseen, seen) | (seen, Habit::Unseen) => seen,
+            (Habit::Yes, Habit::Yes) => Habit::Yes,
+            (Habit::No, Habit::No) => Habit::No,
+            _ => Habit::Mixed,
         }
     }
 }
@@ -24,9 +24,9 @@ impl Sight {
 impl Seen {
     /// Nothing was seen.
     pub(crate) const NOTHING: Seen = Seen {
-        space_before: Sight::Unseen,
-        two_returns: Sight::Unseen,
-        echo_illegal: Sight::Unseen,
+        space_before: Habit::Unseen,
+        two_returns: Habit::Unseen,
+        echo_illegal: Habit::Unseen,
     };
 
     /// What was seen, once one thing more was heard in a phase.
@@ -69,9 +69,9 @@ impl Seen {
         ensures { result ≡ space_seen self c }
     {
         let now = match c {
-            SPACE => Sight::Yes,
-            b'0' | b'1' => Sight::No,
-            _ => Sight::Unseen,
+            SPACE => Habit::Yes,
+            b'0' | b'1' => Habit::No,
+            _ => Habit::Unseen,
         };
         Seen {
             space_before: self.space_before.and_then(now),
@@ -81,14 +81,14 @@ impl Seen {
 }
 
 // What a character shows that may be one of two.
-fn shown(does: u8, does_not: u8, c: u8) -> Sight
+fn shown(does: u8, does_not: u8, c: u8) -> Habit
     ensures { result ≡ shown does does_not c }
 {
     if c == does {
-        Sight::Yes
+        Habit::Yes
     } else if c == does_not {
-        Sight::No
+        Habit::No
     } else {
-        Sight::Unseen
+        Habit::Unseen
     }
 }

@@ -6,8 +6,8 @@ ghost use Rattle.trial_core.specs.Trial.{IsTrial, begun_trial, ended};
 ghost use Rattle.trial_core.specs.TrialTable.{KeyTries, ask, listens, sends, taken, turn_of};
 
 use crate::digits::digits_for;
+use crate::habit::Seen;
 use crate::phase::{End, Phase};
-use crate::sight::Seen;
 use crate::table;
 use crate::turn::Turn;
 use host_core::Heard;

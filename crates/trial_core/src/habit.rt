@@ -1,6 +1,6 @@
 /// What was seen of a thing that a console may do or not.
 #[derive(Clone, Copy, Debug, PartialEq, Eq)]
-pub enum Sight {
+pub enum Habit {
     /// It was not looked at.
     Unseen,
 
@@ -18,11 +18,11 @@ pub enum Sight {
 #[derive(Clone, Copy, Debug, PartialEq, Eq)]
 pub struct Seen {
     /// One space stands before the digits of an opened word.
-    pub space_before: Sight,
+    pub space_before: Habit,
 
     /// Two carriage returns, in place of one, stand before the line feed.
-    pub two_returns: Sight,
+    pub two_returns: Habit,
 
     /// An illegal key is echoed before the question mark.
-    pub echo_illegal: Sight,
+    pub echo_illegal: Habit,
 }

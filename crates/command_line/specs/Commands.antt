@@ -11,11 +11,13 @@ use Rattle.request_values.specs.declared.machine.Probe.{Probe}
 use Rattle.request_values.specs.declared.request.Make.{Make}
 use Rattle.request_values.specs.declared.request.Rehearsal.{Rehearsal}
 use Rattle.request_values.specs.declared.request.Request.{Request}
-use Rattle.request_values.specs.declared.request.Request.TheVariants.{Tape, Make as Makes, Machine}
+use Rattle.request_values.specs.declared.request.Request.TheVariants.{Tape, Machine}
 use Rattle.request_values.specs.declared.request.MachineRequest.{MachineRequest}
 use Rattle.request_values.specs.declared.request.MachineRequest.TheVariants.{Load as Loads, Verify, Save as Saves, Probe as Probes}
 use Rattle.request_values.specs.declared.request.TapeRequest.{TapeRequest}
-use Rattle.request_values.specs.declared.request.TapeRequest.TheVariants.{CheckInput, Check, Dialogue, Rehearse, «Type» as TypeKeys}
+use Rattle.request_values.specs.declared.request.TapeRequest.TheVariants.{Print, Make as Makes}
+use Rattle.request_values.specs.declared.request.PrintRequest.{PrintRequest}
+use Rattle.request_values.specs.declared.request.PrintRequest.TheVariants.{CheckInput, Check, Dialogue, Rehearse, «Type» as TypeKeys}
 use Rattle.request_values.specs.declared.machine.Save.{Save}
 use Rattle.command_line.specs.Arguments.{allowed, flag, needed, numeric, option, repeated, rule_told, tied_flag}
 use Rattle.command_line.specs.Options.{IsConsoleOf, IsFlag, IsNumberGiven, IsNumberOf, IsProbedWord, IsRangeOf, IsSavedStart, IsStartOf, IsWordsFile}
@@ -110,14 +112,19 @@ pub record IsProbeOf (found : Found) (probe : Probe) : Type 0 where
   pub address : IsProbedWord (first_value found (codes "address")) probe.address
   pub look : IsLookOf found probe.look
 
--- a request that is about no machine is what the arguments and options of this command say
-abbrev pub IsTapeRequestOf : Text → Found → TapeRequest → Type 0
-IsTapeRequestOf command found (Check names options) = (command ≡ codes "check") × NamesTapes found names.items × IsFlag found (codes "blocks") options.blocks
-IsTapeRequestOf command found (Dialogue names stage) =
+-- a request that does nothing but print is what the arguments and options of this command say
+abbrev pub IsPrintRequestOf : Text → Found → PrintRequest → Type 0
+IsPrintRequestOf command found (Check names options) = (command ≡ codes "check") × NamesTapes found names.items × IsFlag found (codes "blocks") options.blocks
+IsPrintRequestOf command found (Dialogue names stage) =
     (command ≡ codes "dialogue") × NamesTapes found names.items × IsConsoleOf found stage.console × IsStartOf found stage.start
-IsTapeRequestOf command found (Rehearse rehearsal) = (command ≡ codes "rehearse") × IsRehearsalOf found rehearsal
-IsTapeRequestOf command found (TypeKeys console) = (command ≡ codes "type") × IsConsoleOf found console
-IsTapeRequestOf command found CheckInput = ⊥
+IsPrintRequestOf command found (Rehearse rehearsal) = (command ≡ codes "rehearse") × IsRehearsalOf found rehearsal
+IsPrintRequestOf command found (TypeKeys console) = (command ≡ codes "type") × IsConsoleOf found console
+IsPrintRequestOf command found CheckInput = ⊥
+
+-- one about tapes is
+abbrev pub IsTapeRequestOf : Text → Found → TapeRequest → Type 0
+IsTapeRequestOf command found (Makes make) = (command ≡ codes "make") × IsMakeOf found make
+IsTapeRequestOf command found (Print request) = IsPrintRequestOf command found request
 
 -- one at a machine is
 abbrev pub IsMachineRequestOf : Text → Found → MachineRequest → Type 0
@@ -129,5 +136,4 @@ IsMachineRequestOf command found (Probes probe) = (command ≡ codes "probe") ×
 -- a request is
 abbrev pub IsRequestOf : Text → Found → Request → Type 0
 IsRequestOf command found (Machine request) = IsMachineRequestOf command found request
-IsRequestOf command found (Makes make) = (command ≡ codes "make") × IsMakeOf found make
 IsRequestOf command found (Tape request) = IsTapeRequestOf command found request

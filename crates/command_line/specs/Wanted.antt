@@ -4,8 +4,9 @@ use Rattle.clap.specs.Simple.{subcommand_of}
 use Rattle.clap.specs.Walk.{Row, Text, rows_of}
 use Rattle.clap.specs.declared.parser.matches.Found.{Found}
 use Rattle.request_values.specs.declared.request.Request.{Request}
-use Rattle.request_values.specs.declared.request.Request.TheVariants.{Tape, Make, Machine}
-use Rattle.request_values.specs.declared.request.TapeRequest.TheVariants.{CheckInput}
+use Rattle.request_values.specs.declared.request.Request.TheVariants.{Tape, Machine}
+use Rattle.request_values.specs.declared.request.PrintRequest.TheVariants.{CheckInput}
+use Rattle.request_values.specs.declared.request.TapeRequest.TheVariants.{Print}
 use Rattle.command_line.specs.Commands.{IsRequestOf, known_words}
 use Rattle.command_line.specs.declared.wanted.Wanted.{Wanted}
 use Rattle.command_line.specs.Options.{IsFlag}
@@ -17,7 +18,6 @@ unlogged request = record { request = request; log = false }
 -- whether the run has a line in a log, by the option of its command: only one at a machine may have it
 abbrev pub IsLogOf : Found → Request → Bool → Type 0
 IsLogOf found (Machine request) log = IsFlag found (codes "log") log
-IsLogOf found (Make make) log = log ≡ false
 IsLogOf found (Tape request) log = log ≡ false
 
 -- a command, with what was found for its arguments and options, says what is wanted
@@ -31,4 +31,4 @@ IsWantedBy met wanted = (command : Text) × (found : Found) × (met ≡ Some (co
 -- words ask for it: there are none, and the tape on standard input is to be checked; or the command that stands among them says it, with what the
 -- parser finds there for its arguments and options
 abbrev pub IsAskedBy : List Text → Wanted → Type 0
-IsAskedBy words wanted = ((words ≡ []) × (wanted ≡ unlogged (Tape CheckInput))) ⊎ IsWantedBy (subcommand_of known_words words) wanted
+IsAskedBy words wanted = ((words ≡ []) × (wanted ≡ unlogged (Tape (Print CheckInput)))) ⊎ IsWantedBy (subcommand_of known_words words) wanted

@@ -1,10 +1,10 @@
 //! Words become a request, as the plain values say where one is not given.
-ghost use Rattle.std.specs.Prelude.{◌≡◌, ℕ, List, [], IfOk, codes, false, map};
+ghost use Rattle.std.specs.Prelude.{◌≡◌, ℕ, List, [], IfOk, codes, map};
 ghost use Rattle.std.specs.String.{string_bytes};
 ghost use Rattle.clap.specs.Matches.{found_of};
 ghost use Rattle.clap.specs.Simple.{subcommand_of, subcommand_rows_of};
-ghost use Rattle.command_line.specs.Commands.{known_words, SaysLoad, IsLookOf, IsMachineRequestOf, IsMakeOf, IsRequestOf, IsTapeRequestOf};
-ghost use Rattle.command_line.specs.Wanted.{IsAskedBy, IsLogOf, IsWantedBy, IsWantedOf, unlogged};
+ghost use Rattle.command_line.specs.Commands.{known_words, SaysLoad, IsLookOf, IsMachineRequestOf, IsMakeOf, IsPrintRequestOf, IsTapeRequestOf};
+ghost use Rattle.command_line.specs.Wanted.{IsAskedBy, IsWantedBy, IsWantedOf, unlogged};
 
 use crate::addresses::{probed_of, range_of, saved_start_of, start_of};
 use crate::commands::known_words;
@@ -20,8 +20,8 @@ use crate::wanted::{Wanted, unlogged};
 use clap::ArgMatches;
 use host_core::PLAIN_PATIENCE;
 use request_values::{
-    CheckOptions, Load, LoadOptions, Look, MachineRequest, Make, Probe, Rehearsal, Request, Save,
-    Stage, TapeRequest,
+    CheckOptions, Load, LoadOptions, Look, MachineRequest, Make, PrintRequest, Probe, Rehearsal,
+    Request, Save, Stage, TapeRequest,
 };
 use std::alloc::Global;
 
@@ -33,11 +33,12 @@ const PLAIN_QUIET: u16 = 2000;
 
 /// Reads the words after the program's name. Without any the tape on standard input is to be checked.
 pub fn parse<'a>(alloc: Global, words: &'a [String]) -> Result<Wanted<'a>, NoRequest>
-    ensures none { words.now ≡ [] → result ≡ Ok (unlogged (Request.Tape TapeRequest.CheckInput)) }
+    ensures none { words.now ≡ [] → result ≡ Ok (unlogged (Request.Tape (TapeRequest.Print PrintRequest.CheckInput))) }
     ensures some { IfOk result (IsAskedBy (map string_bytes words.now)) }
 {
     let Some(first) = words.first() else {
-        return Ok(unlogged(Request::Tape(TapeRequest::CheckInput)));
+        let request = TapeRequest::Print(PrintRequest::CheckInput);
+        return Ok(unlogged(Request::Tape(request)));
     };
     match read(alloc, first, words) {
         Err(NoRequest::Refused(text)) => Err(shown_refusal(alloc, words, text)),
@@ -95,7 +96,7 @@ fn wanted_of<'a>(
         "verify" => Ok(at_machine(found, verifying_of(alloc, found)?)),
         "save" => Ok(at_machine(found, saving_of(alloc, found)?)),
         "probe" => Ok(at_machine(found, probing_of(alloc, found)?)),
-        _ => Ok(unlogged(apart_request_of(alloc, command, found)?)),
+        _ => Ok(unlogged(Request::Tape(tape_request_of(alloc, command, found)?))),
     }
 }
 
@@ -110,19 +111,19 @@ fn at_machine<'a>(found: &ArgMatches<'a>, request: MachineRequest<'a>) -> Wanted
 }
 
 // What a command that is about no machine asks for.
-fn apart_request_of<'a>(
+fn tape_request_of<'a>(
     alloc: Global,
     command: &str,
     found: &ArgMatches<'a>,
-) -> Result<Request<'a>, NoRequest>
-    ensures { IfOk result (λ request. IsRequestOf command.now (found_of found.now) request × IsLogOf (found_of found.now) request false) }
+) -> Result<TapeRequest<'a>, NoRequest>
+    ensures { IfOk result (IsTapeRequestOf command.now (found_of found.now)) }
 {
     match command {
-        "make" => Ok(Request::Make(making_of(alloc, found)?)),
-        "check" => Ok(Request::Tape(checking_of(alloc, found)?)),
-        "dialogue" => Ok(Request::Tape(dialogue_of(alloc, found)?)),
-        "rehearse" => Ok(Request::Tape(rehearsal_of(alloc, found)?)),
-        "type" => Ok(Request::Tape(TapeRequest::Type(console_of(found)?))),
+        "make" => Ok(TapeRequest::Make(making_of(alloc, found)?)),
+        "check" => Ok(TapeRequest::Print(checking_of(alloc, found)?)),
+        "dialogue" => Ok(TapeRequest::Print(dialogue_of(alloc, found)?)),
+        "rehearse" => Ok(TapeRequest::Print(rehearsal_of(alloc, found)?)),
+        "type" => Ok(TapeRequest::Print(PrintRequest::Type(console_of(found)?))),
         _ => Err(NoRequest::Meaningless),
     }
 }
@@ -209,29 +210,29 @@ fn making_of<'a>(alloc: Global, found: &ArgMatches<'a>) -> Result<Make<'a>, NoRe
 }
 
 // The check of tapes.
-fn checking_of<'a>(alloc: Global, found: &ArgMatches<'a>) -> Result<TapeRequest<'a>, NoRequest>
-    ensures { IfOk result (IsTapeRequestOf (codes "check") (found_of found.now)) }
+fn checking_of<'a>(alloc: Global, found: &ArgMatches<'a>) -> Result<PrintRequest<'a>, NoRequest>
+    ensures { IfOk result (IsPrintRequestOf (codes "check") (found_of found.now)) }
 {
     let blocks = found.get_flag(BLOCKS);
-    Ok(TapeRequest::Check(tapes_of(alloc, found)?, CheckOptions { blocks }))
+    Ok(PrintRequest::Check(tapes_of(alloc, found)?, CheckOptions { blocks }))
 }
 
 // The dialogue of tapes with a console.
-fn dialogue_of<'a>(alloc: Global, found: &ArgMatches<'a>) -> Result<TapeRequest<'a>, NoRequest>
-    ensures { IfOk result (IsTapeRequestOf (codes "dialogue") (found_of found.now)) }
+fn dialogue_of<'a>(alloc: Global, found: &ArgMatches<'a>) -> Result<PrintRequest<'a>, NoRequest>
+    ensures { IfOk result (IsPrintRequestOf (codes "dialogue") (found_of found.now)) }
 {
     let console = console_of(found)?;
     let start = start_of(alloc, found)?;
     let stage = Stage { console, start };
-    Ok(TapeRequest::Dialogue(tapes_of(alloc, found)?, stage))
+    Ok(PrintRequest::Dialogue(tapes_of(alloc, found)?, stage))
 }
 
 // The rehearsal of a tape, its script and further tapes.
-fn rehearsal_of<'a>(alloc: Global, found: &ArgMatches<'a>) -> Result<TapeRequest<'a>, NoRequest>
-    ensures { IfOk result (IsTapeRequestOf (codes "rehearse") (found_of found.now)) }
+fn rehearsal_of<'a>(alloc: Global, found: &ArgMatches<'a>) -> Result<PrintRequest<'a>, NoRequest>
+    ensures { IfOk result (IsPrintRequestOf (codes "rehearse") (found_of found.now)) }
 {
     let tape = text_of(found, TAPE)?;
     let script = text_of(found, SCRIPT)?;
     let more = further_tapes_of(alloc, found)?;
-    Ok(TapeRequest::Rehearse(Rehearsal { tape, script, more }))
+    Ok(PrintRequest::Rehearse(Rehearsal { tape, script, more }))
 }

@@ -2,7 +2,7 @@
 
 use command_io::CommandFault;
 use odt_machine::{LARGEST_WORDS, PLAIN_STYLE};
-use request_values::{CheckOptions, Console, Rehearsal, Request, Stage, TapeRequest};
+use request_values::{CheckOptions, Console, PrintRequest, Rehearsal, Request, Stage, TapeRequest};
 use simulated_system::{BrokenInput, BrokenOutput, ONE_WORD_DIALOGUE, ONE_WORD_TEXT};
 use std::alloc::{AllocError, Global};
 use std::slice;
@@ -61,15 +61,15 @@ impl Command {
         script: &'a str,
     ) -> Result<Request<'a>, AllocError> {
         let tapes = Vec::from_slice(alloc, &[tape])?;
-        Ok(Request::Tape(match self {
-            Command::Check => TapeRequest::Check(tapes, CheckOptions { blocks: false }),
-            Command::Rehearsal => TapeRequest::Rehearse(Rehearsal {
+        Ok(Request::Tape(TapeRequest::Print(match self {
+            Command::Check => PrintRequest::Check(tapes, CheckOptions { blocks: false }),
+            Command::Rehearsal => PrintRequest::Rehearse(Rehearsal {
                 tape,
                 script,
                 more: Vec::new(alloc),
             }),
-            Command::Dialogue => TapeRequest::Dialogue(tapes, STAGE),
-        }))
+            Command::Dialogue => PrintRequest::Dialogue(tapes, STAGE),
+        })))
     }
 
     /// The fault at which it stops over that tape and that script. A rehearsal alone reads the script.

@@ -4,7 +4,7 @@
 use crate::attempts::{Ended, NOBODY, load_of, run};
 use endings::{Output, Status, Streams};
 use odt_machine::{LARGEST_WORDS, PLAIN_STYLE};
-use request_values::{CheckOptions, Console, Request, TapeRequest};
+use request_values::{CheckOptions, Console, PrintRequest, Request, TapeRequest};
 use requests::{SharedSystem, attempt};
 use simulated_system::{
     AMPLE, BrokenInput, BrokenOutput, NOWHERE, ONE_WORD, SimulatedSystem, SystemSetting,
@@ -29,11 +29,11 @@ const TAPE: &str = "failing.lda";
 // The request.
 fn request_of(alloc: Global, asked: Asked) -> Result<Request<'static>, AllocError> {
     match asked {
-        Asked::CheckInput => Ok(Request::Tape(TapeRequest::CheckInput)),
-        Asked::Type => Ok(Request::Tape(TapeRequest::Type(Console {
+        Asked::CheckInput => Ok(Request::Tape(TapeRequest::Print(PrintRequest::CheckInput))),
+        Asked::Type => Ok(Request::Tape(TapeRequest::Print(PrintRequest::Type(Console {
             words: LARGEST_WORDS,
             style: PLAIN_STYLE,
-        }))),
+        })))),
         Asked::Load => load_of(alloc, TAPE, None),
     }
 }
@@ -168,7 +168,10 @@ fn is_said(rt: &HostRuntime, names: &[&str], line: &str) -> bool {
     run(
         &system,
         rt.alloc(),
-        Request::Tape(TapeRequest::Check(names, CheckOptions { blocks: false })),
+        Request::Tape(TapeRequest::Print(PrintRequest::Check(
+            names,
+            CheckOptions { blocks: false },
+        ))),
         &[],
         &mut ended,
     );

@@ -3,7 +3,7 @@
 use crate::attempts::{Ended, run};
 use endings::Status;
 use odt_machine::PLAIN_STYLE;
-use request_values::{Console, Request, Stage, TapeRequest};
+use request_values::{Console, PrintRequest, Request, Stage, TapeRequest};
 use simulated_system::{ONE_WORD, WRONG_SUM};
 use std::alloc::{AllocError, Global};
 use std::test::Fail;
@@ -37,7 +37,7 @@ fn dialogue(alloc: Global, tape: &str) -> Result<Request<'_>, AllocError> {
         console: TOO_LARGE,
         start: Start::OfTape,
     };
-    Ok(Request::Tape(TapeRequest::Dialogue(names, stage)))
+    Ok(Request::Tape(TapeRequest::Print(PrintRequest::Dialogue(names, stage))))
 }
 
 // The line that says that a machine is too large.
@@ -87,7 +87,7 @@ fn a_machine_that_is_too_large_is_refused(rt: HostRuntime) -> Result<(), Fail> {
     assert!(rt;
         is_refused(
             &rt,
-            Request::Tape(TapeRequest::Type(TOO_LARGE)),
+            Request::Tape(TapeRequest::Print(PrintRequest::Type(TOO_LARGE))),
             b"0/",
             status,
             REFUSED

@@ -4,7 +4,8 @@
 use crate::attempts::{Ended, run};
 use endings::Status;
 use request_values::{
-    AddressRange, Load, LoadOptions, Look, MachineRequest, Probe, Request, Save, TapeRequest,
+    AddressRange, Load, LoadOptions, Look, MachineRequest, PrintRequest, Probe, Request, Save,
+    TapeRequest,
 };
 use simulated_system::{AMPLE, DEVICE, ONE_WORD, QUIET_MS, SimulatedSystem, SystemSetting, remove};
 use std::alloc::{AllocError, Global};
@@ -63,7 +64,7 @@ fn request_of(alloc: Global, asked: Asked) -> Result<Request<'static>, AllocErro
                 start: 1,
                 look,
             })),
-            None => Request::Tape(TapeRequest::CheckInput),
+            None => Request::Tape(TapeRequest::Print(PrintRequest::CheckInput)),
         },
         Asked::Probe(look) => Request::Machine(MachineRequest::Probe(Probe {
             address: 0o001000,

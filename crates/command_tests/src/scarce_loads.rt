@@ -3,7 +3,9 @@
 
 use crate::attempts::{Ended, OUT_OF_MEMORY, load_of, run};
 use endings::Status;
-use request_values::{AddressRange, Look, MachineRequest, Request, Save, TapeRequest};
+use request_values::{
+    AddressRange, Look, MachineRequest, PrintRequest, Request, Save, TapeRequest,
+};
 use scarce_memory::{Famine, ROOMS};
 use simulated_system::{AMPLE, ONE_WORD, QUIET_MS, SimulatedSystem, SystemSetting};
 use std::alloc::{AllocError, Global};
@@ -86,7 +88,7 @@ fn save_of<'a>(name: &'a str, look: Look<'a>) -> Request<'a> {
             start: 1,
             look,
         })),
-        None => Request::Tape(TapeRequest::CheckInput),
+        None => Request::Tape(TapeRequest::Print(PrintRequest::CheckInput)),
     }
 }
 

@@ -6,8 +6,8 @@ use crate::commands::{COMMANDS, Command, STALE};
 use endings::Status;
 use odt_machine::{LARGEST_WORDS, PLAIN_STYLE};
 use request_values::{
-    CheckOptions, Console, Load, LoadOptions, Look, MachineRequest, Probe, Rehearsal, Request,
-    Stage, TapeRequest,
+    CheckOptions, Console, Load, LoadOptions, Look, MachineRequest, PrintRequest, Probe, Rehearsal,
+    Request, Stage, TapeRequest,
 };
 use scarce_memory::{Famine, ROOMS};
 use simulated_system::{NOTHING, ONE_WORD, ONE_WORD_TEXT, PADDED, WRONG_SUM};
@@ -104,24 +104,29 @@ fn request_of(alloc: Global, asked: Asked) -> Result<Request<'static>, AllocErro
         Asked::Plain(command) => {
             command.request(alloc, "scarce-one-word.lda", "scarce-stale.script")?
         }
-        Asked::CheckInput => Request::Tape(TapeRequest::CheckInput),
-        Asked::Check(tapes) => Request::Tape(TapeRequest::Check(
+        Asked::CheckInput => Request::Tape(TapeRequest::Print(PrintRequest::CheckInput)),
+        Asked::Check(tapes) => Request::Tape(TapeRequest::Print(PrintRequest::Check(
             Vec::from_slice(alloc, tapes)?,
             CheckOptions { blocks: false },
-        )),
+        ))),
         Asked::Dialogue(tapes, console) => {
             let stage = Stage {
                 console,
                 start: Start::OfTape,
             };
-            Request::Tape(TapeRequest::Dialogue(Vec::from_slice(alloc, tapes)?, stage))
+            Request::Tape(TapeRequest::Print(PrintRequest::Dialogue(
+                Vec::from_slice(alloc, tapes)?,
+                stage,
+            )))
         }
-        Asked::Rehearse(tape, script) => Request::Tape(TapeRequest::Rehearse(Rehearsal {
-            tape,
-            script,
-            more: Vec::new(alloc),
-        })),
-        Asked::Type(console) => Request::Tape(TapeRequest::Type(console)),
+        Asked::Rehearse(tape, script) => Request::Tape(TapeRequest::Print(PrintRequest::Rehearse(
+            Rehearsal {
+                tape,
+                script,
+                more: Vec::new(alloc),
+            },
+        ))),
+        Asked::Type(console) => Request::Tape(TapeRequest::Print(PrintRequest::Type(console))),
         Asked::Load(tapes, load) => Request::Machine(MachineRequest::Load(
             Vec::from_slice(alloc, tapes)?,
             load,
@@ -322,7 +327,7 @@ fn run_without_memory(rt: &HostRuntime, ended: &mut Ended) -> bool {
     run(
         rt,
         rt.alloc(),
-        Request::Tape(TapeRequest::CheckInput),
+        Request::Tape(TapeRequest::Print(PrintRequest::CheckInput)),
         &ONE_WORD,
         ended,
     );

@@ -9,7 +9,8 @@ use honest_line::MemoryLine;
 use host_devices::Item;
 use odt_machine::{LARGEST_WORDS, Odt, PLAIN_STYLE};
 use request_values::{
-    AddressRange, Load, LoadOptions, Look, MachineRequest, Probe, Request, Save, TapeRequest,
+    AddressRange, Load, LoadOptions, Look, MachineRequest, PrintRequest, Probe, Request, Save,
+    TapeRequest,
 };
 use simulated_system::{LineRequest, ONE_WORD, QUIET_MS, ToldDisk, ToldOpening, remove};
 use std::alloc::{AllocError, Global};
@@ -48,7 +49,7 @@ enum Asked {
 fn request_of(alloc: Global, asked: Asked) -> Result<Request<'static>, AllocError> {
     let names = Vec::from_slice(alloc, &[TAPE])?;
     Ok(match asked {
-        Asked::CheckInput => Request::Tape(TapeRequest::CheckInput),
+        Asked::CheckInput => Request::Tape(TapeRequest::Print(PrintRequest::CheckInput)),
         Asked::Load(record) => Request::Machine(MachineRequest::Load(
             names,
             Load {
@@ -72,7 +73,7 @@ fn request_of(alloc: Global, asked: Asked) -> Result<Request<'static>, AllocErro
                 start: 1,
                 look: LOOK,
             })),
-            None => Request::Tape(TapeRequest::CheckInput),
+            None => Request::Tape(TapeRequest::Print(PrintRequest::CheckInput)),
         },
         Asked::Probe => Request::Machine(MachineRequest::Probe(Probe {
             address: 0o001000,

@@ -5,7 +5,7 @@ use Rattle.requests.specs.Attempt.{IsAttempted}
 use Rattle.requests.specs.Moment.{Moment}
 use Rattle.request_values.specs.Change.{◌⇒◌}
 use Rattle.request_values.specs.declared.request.Request.{Request}
-use Rattle.request_values.specs.declared.request.Request.TheVariants.{Tape, Make, Machine}
+use Rattle.request_values.specs.declared.request.Request.TheVariants.{Tape, Machine}
 use Rattle.endings.specs.Failure.{IsTold}
 use Rattle.endings.specs.Held.{Held}
 use Rattle.endings.specs.declared.failure.Failure.TheVariants.{Misplaced}
@@ -36,7 +36,6 @@ abbrev pub IsRunLogged : Request → Status → Held → Held → Type 0
 IsRunLogged (Machine request) ended held held' =
     (held' ≡ record held { err = held'.err }) × ((report : Noted) × IsLogged (record { request = request; status = ended; report = report }) held.err held'.err)
 IsRunLogged (Tape request) ended held held' = held' ≡ held
-IsRunLogged (Make request) ended held held' = held' ≡ held
 
 -- the same, where it is wanted
 abbrev pub is_logged_if : Bool → Request → Status → Held → Held → Type 0

@@ -2,13 +2,14 @@
 //! sends would be waited for, and nobody told.
 ghost use Rattle.std.specs.Prelude.{◌≡◌, None, IfSome};
 ghost use Rattle.request_values.specs.declared.request.Request.{Request};
+ghost use Rattle.request_values.specs.declared.request.PrintRequest.{PrintRequest};
 ghost use Rattle.request_values.specs.declared.request.TapeRequest.{TapeRequest};
 ghost use Rattle.ldaodt.specs.Misplaced.{IsOfPlace};
 
 use console_lines::is_path;
 use endings::{Failure, Place};
 use input_files::is_input;
-use request_values::{MachineRequest, Request, TapeRequest};
+use request_values::{MachineRequest, PrintRequest, Request, TapeRequest};
 use std::fs;
 use std::fs::File;
 use std::io::IsTerminal;
@@ -20,7 +21,7 @@ use std::os::unix::fs::FileTypeExt;
 /// which to open twice may do something.
 pub(crate) fn misplaced<'a>(rt: &HostRuntime, request: &Request<'a>) -> Option<Failure<'a>>
     ensures misplaced { IfSome result IsOfPlace }
-    ensures checked { request.now ≡ Request.Tape TapeRequest.CheckInput → result ≡ None }
+    ensures checked { request.now ≡ Request.Tape (TapeRequest.Print PrintRequest.CheckInput) → result ≡ None }
 {
     if let Some((line, place)) = line_of(request)
         && is_no_device(rt, line)
@@ -32,19 +33,23 @@ pub(crate) fn misplaced<'a>(rt: &HostRuntime, request: &Request<'a>) -> Option<F
             terminal_among(rt, tapes).or(terminal_as_record(rt, load.record))
         }
         Request::Machine(MachineRequest::Verify(tapes, _))
-        | Request::Tape(TapeRequest::Check(tapes, _))
-        | Request::Tape(TapeRequest::Dialogue(tapes, _)) => terminal_among(rt, tapes),
-        Request::Tape(TapeRequest::Rehearse(rehearsal)) => terminal_among(rt, &[rehearsal.tape])
-            .or(terminal(rt, rehearsal.script, Place::Script))
-            .or(terminal_among(rt, &rehearsal.more)),
-        Request::Make(make) => terminal_as_words(rt, make.words),
+        | Request::Tape(TapeRequest::Print(PrintRequest::Check(tapes, _)))
+        | Request::Tape(TapeRequest::Print(PrintRequest::Dialogue(tapes, _))) => {
+            terminal_among(rt, tapes)
+        }
+        Request::Tape(TapeRequest::Print(PrintRequest::Rehearse(rehearsal))) => {
+            terminal_among(rt, &[rehearsal.tape])
+                .or(terminal(rt, rehearsal.script, Place::Script))
+                .or(terminal_among(rt, &rehearsal.more))
+        }
+        Request::Tape(TapeRequest::Make(make)) => terminal_as_words(rt, make.words),
         Request::Tape(_) | Request::Machine(_) => None,
     }
 }
 
 // The line of a request at a real machine, and whose it is.
 fn line_of<'a>(request: &Request<'a>) -> Option<(&'a str, Place)>
-    ensures { request.now ≡ Request.Tape TapeRequest.CheckInput → result ≡ None }
+    ensures { request.now ≡ Request.Tape (TapeRequest.Print PrintRequest.CheckInput) → result ≡ None }
 {
     match request {
         Request::Machine(MachineRequest::Load(_, load)) => Some((load.line, Place::LineOfLoad)),
@@ -54,7 +59,7 @@ fn line_of<'a>(request: &Request<'a>) -> Option<(&'a str, Place)>
             probe.look.line,
             Place::LineOfProbe,
         )),
-        Request::Tape(_) | Request::Make(_) => None,
+        Request::Tape(_) => None,
     }
 }
 

@@ -4,6 +4,7 @@ ghost use Rattle.std.specs.Mem.{FitsInMemory};
 ghost use Rattle.std.specs.String.{string_bytes};
 ghost use Rattle.request_values.specs.Change.{◌⇒◌};
 ghost use Rattle.request_values.specs.declared.request.Request.{Request};
+ghost use Rattle.request_values.specs.declared.request.PrintRequest.{PrintRequest};
 ghost use Rattle.request_values.specs.declared.request.TapeRequest.{TapeRequest};
 ghost use Rattle.endings.specs.declared.status.Status.{Status};
 ghost use Rattle.endings.specs.Status.{status_code};
@@ -40,7 +41,7 @@ pub(crate) fn program<K: Kinds, R: Read, W: Output, E: FaultOutput, T: Print>(
     requires { FitsInMemory R.row }
     // With no words, the tape on the input is checked.
     ensures checked { words.now ≡ [] → (status : Status)
-        × IsAttempted (Request.Tape TapeRequest.CheckInput) (moment system streams.old ⇒ moment result.0 streams.new) status
+        × IsAttempted (Request.Tape (TapeRequest.Print PrintRequest.CheckInput)) (moment system streams.old ⇒ moment result.0 streams.new) status
         × (result.1 ≡ status_code status) }
     // Whatever the words are, what they ask for is tried, and told to a log where that is wanted, or they are explained.
     ensures answered { (status : Status)

@@ -1,7 +1,8 @@
 //! What a person can ask of `ldaodt`, as values.
 //!
-//! A `Request` names a command, its files and its options: it is a `TapeRequest`, which does nothing but print, a
-//! `Make`, which makes a tape of words, or a `MachineRequest`, as a `Load`, a `Look`, a `Save` or a `Probe`. A `Console` is a simulated one. A value that can't
+//! A `Request` names a command, its files and its options. It is of one of two kinds: a `TapeRequest` is about no
+//! machine, and is a `PrintRequest`, which does nothing but print, or a `Make`, which makes a tape of words; a
+//! `MachineRequest` is a `Load`, a `Look`, a `Save` or a `Probe`. A `Console` is a simulated one. A value that can't
 //! be meant can't be had where a type can say so: an `AddressRange` is two addresses of words in their order, and a
 //! probe's address is one of memory.
 //!
@@ -17,4 +18,6 @@ mod request;
 pub use machine::{Load, Look, Probe, Save};
 pub use options::{CheckOptions, LoadOptions};
 pub use range::AddressRange;
-pub use request::{Console, MachineRequest, Make, Rehearsal, Request, Stage, TapeRequest};
+pub use request::{
+    Console, MachineRequest, Make, PrintRequest, Rehearsal, Request, Stage, TapeRequest,
+};

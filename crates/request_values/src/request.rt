@@ -9,11 +9,8 @@ use tape_image::Start;
 /// is standard input.
 #[derive(Drop)]
 pub enum Request<'a> {
-    /// What is about no machine: it does nothing but print.
+    /// What is about tapes, and no machine.
     Tape(TapeRequest<'a>),
-
-    /// A tape is made of octal words: it writes a new file, and is about no machine.
-    Make(Make<'a>),
 
     /// What is done at a real machine.
     Machine(MachineRequest<'a>),
@@ -28,15 +25,25 @@ impl Request<'_> {
         ensures { result ≡ only_prints self.now }
     {
         match self {
-            Request::Tape(_) => true,
-            Request::Make(_) | Request::Machine(_) => false,
+            Request::Tape(TapeRequest::Print(_)) => true,
+            Request::Tape(TapeRequest::Make(_)) | Request::Machine(_) => false,
         }
     }
 }
 
-/// What is asked that is about no machine, and answered by what is printed.
+/// What is asked of tapes alone.
 #[derive(Drop)]
 pub enum TapeRequest<'a> {
+    /// What does nothing but print.
+    Print(PrintRequest<'a>),
+
+    /// A tape is made of octal words: it writes a new file.
+    Make(Make<'a>),
+}
+
+/// What is asked of tapes, and answered by what is printed.
+#[derive(Drop)]
+pub enum PrintRequest<'a> {
     /// Check the tape on standard input: there were no words.
     CheckInput,
 

@@ -8,7 +8,8 @@ use Rattle.input_files.specs.Opening.{Name}
 use Rattle.input_files.proofs.Whatever.{tapes_whatever, unopened_whatever, with_error}
 use Rattle.request_values.specs.Change.{◌⇒◌}
 use Rattle.request_values.specs.declared.request.Request.{Request}
-use Rattle.request_values.specs.declared.request.Request.TheVariants.{Tape, Make, Machine}
+use Rattle.request_values.specs.declared.request.Request.TheVariants.{Tape, Machine}
+use Rattle.request_values.specs.declared.request.TapeRequest.TheVariants.{Print, Make}
 use Rattle.request_values.specs.declared.request.MachineRequest.TheVariants.{Load, Verify, Save, Probe}
 use Rattle.requests.specs.Attempt.{IsFailed}
 use Rattle.requests.specs.Asked.{SystemAsked}
@@ -39,7 +40,7 @@ module _ (before : Moment) (asked : SystemAsked) (held : Held) (err : StandardEr
       (λ b. inr (record { plan = b.plan; planned = tapes_whatever names.items (intake_at before) asked.inputs held err _ b.planned; failed = b.failed; no_disk = b.no_disk })) is
   failed_whatever (Machine (Save save)) is = record { failed = unsaved save is.failed; no_file = is.no_file; nothing_read = is.nothing_read }
   failed_whatever (Machine (Probe request)) is = record { failed = is.failed; no_disk = is.no_disk; no_file = is.no_file; nothing_read = is.nothing_read }
-  failed_whatever (Make make) is =
+  failed_whatever (Tape (Make make)) is =
       ⊎_elim (λ n. inl (record { unmade = unmade_whatever (intake_at before) asked.inputs held err failure make n.unmade; nobody = n.nobody; nothing_printed = n.nothing_printed }))
       (λ p. inr (record {
         text = p.text;
@@ -48,4 +49,4 @@ module _ (before : Moment) (asked : SystemAsked) (held : Held) (err : StandardEr
         no_console = record { for_lines = p.no_console.for_lines; lines = p.no_console.lines };
         nothing_printed = p.nothing_printed;
       })) is
-  failed_whatever (Tape request) is = (unprinted_whatever (intake_at before) asked.inputs held err failure request is.0, is.1)
+  failed_whatever (Tape (Print request)) is = (unprinted_whatever (intake_at before) asked.inputs held err failure request is.0, is.1)

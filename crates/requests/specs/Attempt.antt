@@ -15,7 +15,8 @@ use Rattle.requests.specs.Moment.{AsksNobody, Moment, intake_at}
 use Rattle.request_values.specs.Change.{Change}
 use Rattle.request_values.specs.declared.request.Request.{Request}
 use Rattle.request_values.specs.Request.{only_prints}
-use Rattle.request_values.specs.declared.request.Request.TheVariants.{Tape, Make, Machine}
+use Rattle.request_values.specs.declared.request.Request.TheVariants.{Tape, Machine}
+use Rattle.request_values.specs.declared.request.TapeRequest.TheVariants.{Print, Make}
 use Rattle.request_values.specs.declared.request.MachineRequest.TheVariants.{Load, Verify, Save, Probe}
 use Rattle.tape_commands.specs.Printing.{IsPrinted, IsUnprinted}
 
@@ -25,8 +26,8 @@ IsDone (Machine (Load names load)) moments status = AreLoaded names.items load m
 IsDone (Machine (Verify names look)) moments status = AreVerified names.items look moments status
 IsDone (Machine (Save save)) moments status = AreWordsSaved save moments status
 IsDone (Machine (Probe request)) moments status = IsConsoleProbed request moments status
-IsDone (Make make) moments status = AreWordsMade make moments status
-IsDone (Tape request) moments status = IsPrinted request (intake_at moments.before) (intake_at moments.after) status × AsksNobody moments
+IsDone (Tape (Make make)) moments status = AreWordsMade make moments status
+IsDone (Tape (Print request)) moments status = IsPrinted request (intake_at moments.before) (intake_at moments.after) status × AsksNobody moments
 
 -- a request failed
 abbrev pub IsFailed : Request → Change Moment → Failure → Type 0
@@ -34,8 +35,8 @@ IsFailed (Machine (Load names load)) moments failure = AreUnloaded names.items l
 IsFailed (Machine (Verify names look)) moments failure = AreUnverified names.items look moments failure
 IsFailed (Machine (Save save)) moments failure = AreWordsUnsaved save moments failure
 IsFailed (Machine (Probe request)) moments failure = IsConsoleUnprobed request moments failure
-IsFailed (Make make) moments failure = AreWordsUnmade make moments failure
-IsFailed (Tape request) moments failure = IsUnprinted request (intake_at moments.before) (intake_at moments.after) failure × AsksNobody moments
+IsFailed (Tape (Make make)) moments failure = AreWordsUnmade make moments failure
+IsFailed (Tape (Print request)) moments failure = IsUnprinted request (intake_at moments.before) (intake_at moments.after) failure × AsksNobody moments
 
 -- it was done, with this status, and standard error has nothing of it
 pub record IsDoneQuietly (request : Request) (moments : Change Moment) (status : Status) : Type 0 where

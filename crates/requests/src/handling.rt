@@ -13,7 +13,7 @@ use crate::saving::save_words;
 use crate::system::{Kinds, System};
 use crate::verifying::verify_tapes;
 use endings::{Failure, FaultOutput, Output, Status, Streams, tell_with_reason};
-use request_values::{MachineRequest, Request};
+use request_values::{MachineRequest, Request, TapeRequest};
 use std::alloc::Global;
 use std::io::{Print, Read};
 use tape_commands::print_answer;
@@ -48,11 +48,11 @@ pub fn attempt<K: Kinds, R: Read, W: Output, E: FaultOutput, T: Print>(
 {
     let only_prints = request.only_prints();
     let (system, outcome) = match request {
-        Request::Tape(request) => {
+        Request::Tape(TapeRequest::Print(request)) => {
             let outcome = print_answer(&mut system.inputs, alloc, request, streams);
             (system, outcome)
         }
-        Request::Make(make) => make_words(system, alloc, *make, streams),
+        Request::Tape(TapeRequest::Make(make)) => make_words(system, alloc, *make, streams),
         Request::Machine(MachineRequest::Load(names, load)) => {
             load_tapes(system, alloc, names, *load, streams, terminal)
         }

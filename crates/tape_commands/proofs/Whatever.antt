@@ -6,14 +6,14 @@ use Rattle.endings.specs.Held.{Held}
 use Rattle.input_files.specs.Intake.{Intake, intake}
 use Rattle.input_files.specs.Opening.{InputStep}
 use Rattle.input_files.proofs.Whatever.{tapes_whatever, unopened_whatever, with_error}
-use Rattle.request_values.specs.declared.request.TapeRequest.{TapeRequest}
-use Rattle.request_values.specs.declared.request.TapeRequest.TheVariants.{CheckInput, Check, Dialogue, Rehearse, «Type» as TypeKeys}
+use Rattle.request_values.specs.declared.request.PrintRequest.{PrintRequest}
+use Rattle.request_values.specs.declared.request.PrintRequest.TheVariants.{CheckInput, Check, Dialogue, Rehearse, «Type» as TypeKeys}
 use Rattle.request_values.specs.declared.request.Make.{Make}
 use Rattle.tape_commands.specs.Printing.{IsUnprinted}
 use Rattle.tape_commands.specs.TapeOfWords.{IsTapeMade, IsTapeUnmade}
 
 module _ (before : Intake) (opened : Option (List InputStep)) (held : Held) (err : StandardError) (failure : Failure) where
-  pub unprinted_whatever : (request : TapeRequest) → IsUnprinted request before (intake opened held) failure
+  pub unprinted_whatever : (request : PrintRequest) → IsUnprinted request before (intake opened held) failure
       → IsUnprinted request before (intake opened (with_error held err)) failure
   unprinted_whatever CheckInput is = is
   unprinted_whatever (Check names options) is =

@@ -1,4 +1,4 @@
--- What becomes of a request that is about no machine: what the files that it names and standard input held decides what is written, and the
+-- What becomes of a request that does nothing but print: what the files that it names and standard input held decides what is written, and the
 -- status or the failure.
 use Rattle.std.specs.Prelude.{◌≡◌}
 use Rattle.endings.specs.declared.failure.Failure.{Failure}
@@ -6,8 +6,8 @@ use Rattle.endings.specs.declared.status.Status.{Status}
 use Rattle.endings.specs.declared.status.Status.TheVariants.{Done}
 use Rattle.input_files.specs.Intake.{Intake}
 use Rattle.request_values.specs.Change.{◌⇒◌}
-use Rattle.request_values.specs.declared.request.TapeRequest.{TapeRequest}
-use Rattle.request_values.specs.declared.request.TapeRequest.TheVariants.{CheckInput, Check, Dialogue, Rehearse, «Type» as TypeKeys}
+use Rattle.request_values.specs.declared.request.PrintRequest.{PrintRequest}
+use Rattle.request_values.specs.declared.request.PrintRequest.TheVariants.{CheckInput, Check, Dialogue, Rehearse, «Type» as TypeKeys}
 use Rattle.tape_commands.specs.Checking.{AreChecked, AreUnchecked, IsInputChecked, IsInputUnchecked}
 use Rattle.tape_commands.specs.Rehearsing.{AreRehearsed, AreUnrehearsed}
 use Rattle.tape_commands.specs.Showing.{AreShown, AreUnshown}
@@ -18,7 +18,7 @@ abbrev pub OpensNothing : Intake → Intake → Type 0
 OpensNothing before after = after.opened ≡ before.opened
 
 -- the request was done, and the program ends so
-abbrev pub IsPrinted : TapeRequest → Intake → Intake → Status → Type 0
+abbrev pub IsPrinted : PrintRequest → Intake → Intake → Status → Type 0
 IsPrinted CheckInput before after status = IsInputChecked before.held after.held status × OpensNothing before after
 IsPrinted (Check names options) before after status = AreChecked names.items options (before ⇒ after) status
 IsPrinted (Dialogue names stage) before after status = AreShown names.items stage (before ⇒ after) status
@@ -26,7 +26,7 @@ IsPrinted (Rehearse rehearsal) before after status = AreRehearsed rehearsal befo
 IsPrinted (TypeKeys console) before after status = IsTypedThrough console before.held after.held × (status ≡ Done) × OpensNothing before after
 
 -- it failed
-abbrev pub IsUnprinted : TapeRequest → Intake → Intake → Failure → Type 0
+abbrev pub IsUnprinted : PrintRequest → Intake → Intake → Failure → Type 0
 IsUnprinted CheckInput before after failure = IsInputUnchecked before.held after.held failure × OpensNothing before after
 IsUnprinted (Check names options) before after failure = AreUnchecked names.items options (before ⇒ after) failure
 IsUnprinted (Dialogue names stage) before after failure = AreUnshown names.items stage (before ⇒ after) failure

@@ -1,4 +1,4 @@
-//! Doing a request that is about no machine.
+//! Doing a request that is about tapes, and does nothing but print.
 ghost use Rattle.std.specs.Prelude.{◌≡◌, IfOk, IfErr};
 ghost use Rattle.std.specs.Mem.{FitsInMemory};
 ghost use Rattle.input_files.specs.Intake.{intake};
@@ -10,11 +10,11 @@ use crate::rehearse::rehearse;
 use crate::type_keys::type_input;
 use endings::{Failure, FaultOutput, Output, Status, Streams};
 use input_files::InputFiles;
-use request_values::TapeRequest;
+use request_values::PrintRequest;
 use std::alloc::Global;
 use std::io::Read;
 
-/// Does a request that is about no machine, with these files, and answers the exit status.
+/// Does a request that does nothing but print, with these files, and answers the exit status.
 ///
 /// The answer goes to standard output, which is flushed. All files are opened before any is read.
 ///
@@ -27,7 +27,7 @@ use std::io::Read;
 pub fn print_answer<'a, F: InputFiles, R: Read, W: Output, E: FaultOutput>(
     inputs: &mut F,
     alloc: Global,
-    request: &TapeRequest<'a>,
+    request: &PrintRequest<'a>,
     streams: &mut Streams<R, W, E>,
 ) -> Result<Status, Failure<'a>>
     requires { FitsInMemory R.row }
@@ -36,10 +36,12 @@ pub fn print_answer<'a, F: InputFiles, R: Read, W: Output, E: FaultOutput>(
     ensures quiet { streams.new.err ≡ streams.old.err }
 {
     match request {
-        TapeRequest::CheckInput => check_input(alloc, streams),
-        TapeRequest::Check(names, options) => check_tapes(inputs, alloc, names, *options, streams),
-        TapeRequest::Dialogue(names, stage) => show_dialogue(inputs, alloc, names, *stage, streams),
-        TapeRequest::Rehearse(rehearsal) => rehearse(inputs, alloc, rehearsal, streams),
-        TapeRequest::Type(console) => type_input(alloc, *console, streams),
+        PrintRequest::CheckInput => check_input(alloc, streams),
+        PrintRequest::Check(names, options) => check_tapes(inputs, alloc, names, *options, streams),
+        PrintRequest::Dialogue(names, stage) => show_dialogue(
+            inputs, alloc, names, *stage, streams,
+        ),
+        PrintRequest::Rehearse(rehearsal) => rehearse(inputs, alloc, rehearsal, streams),
+        PrintRequest::Type(console) => type_input(alloc, *console, streams),
     }
 }

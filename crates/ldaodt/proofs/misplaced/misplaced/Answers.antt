@@ -12,8 +12,8 @@ either found None other is one two = subst (λ f. IfSome f IsOfPlace) (sym is) t
 pub returns-in-Machine-Load-clause-misplaced : goal.returns-in-Machine-Load-clause-misplaced
 returns-in-Machine-Load-clause-misplaced c = either _ _ _ c.or.ensures c.terminal_among.ensures c.terminal_as_record.ensures
 
-pub returns-in-Tape-Rehearse-clause-misplaced : goal.returns-in-Tape-Rehearse-clause-misplaced
-returns-in-Tape-Rehearse-clause-misplaced c =
-    either _ _ _ c.or-in-Tape-Rehearse-2.ensures
-    (either _ _ _ c.or-in-Tape-Rehearse.ensures c.terminal_among-in-Tape-Rehearse.ensures c.terminal.ensures)
-    c.terminal_among-in-Tape-Rehearse-2.ensures
+pub returns-in-Tape-Print-Rehearse-clause-misplaced : goal.returns-in-Tape-Print-Rehearse-clause-misplaced
+returns-in-Tape-Print-Rehearse-clause-misplaced c =
+    either _ _ _ c.or-in-Tape-Print-Rehearse-2.ensures
+    (either _ _ _ c.or-in-Tape-Print-Rehearse.ensures c.terminal_among-in-Tape-Print-Rehearse.ensures c.terminal.ensures)
+    c.terminal_among-in-Tape-Print-Rehearse-2.ensures

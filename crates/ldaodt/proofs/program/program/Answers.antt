@@ -9,7 +9,8 @@ use Rattle.command_line.specs.declared.wanted.Wanted.{Wanted}
 use Rattle.command_line.specs.Wanted.{unlogged}
 use Rattle.request_values.specs.Change.{◌⇒◌}
 use Rattle.request_values.specs.declared.request.Request.TheVariants.{Tape}
-use Rattle.request_values.specs.declared.request.TapeRequest.TheVariants.{CheckInput}
+use Rattle.request_values.specs.declared.request.PrintRequest.TheVariants.{CheckInput}
+use Rattle.request_values.specs.declared.request.TapeRequest.TheVariants.{Print}
 use Rattle.requests.specs.Asked.{SystemAsked}
 use Rattle.requests.specs.Attempt.{IsAttempted}
 use Rattle.requests.specs.Moment.{moment}
@@ -19,11 +20,11 @@ use Rattle.ldaodt.proofs.program.program.Goals as goal
 use Rattle.ldaodt.proofs.program.program.Goals.{in-Some, in-None}
 
 -- of the check of the input nothing is said in a log
-unlogged_check : (wanted : Wanted) (ended : Status) (held held' : Held) → wanted ≡ unlogged (Tape CheckInput) → IsLoggedIf wanted ended held held' → held' ≡ held
+unlogged_check : (wanted : Wanted) (ended : Status) (held held' : Held) → wanted ≡ unlogged (Tape (Print CheckInput)) → IsLoggedIf wanted ended held held' → held' ≡ held
 unlogged_check wanted ended held held' is logged = subst (λ w. IsLoggedIf w ended held held') is logged
 
 -- the request of no words
-checks_input : (wanted : Wanted) → wanted ≡ unlogged (Tape CheckInput) → wanted.request ≡ Tape CheckInput
+checks_input : (wanted : Wanted) → wanted ≡ unlogged (Tape (Print CheckInput)) → wanted.request ≡ Tape (Print CheckInput)
 checks_input wanted is = ap (λ w. w.request) is
 
 -- a name that is out of place was told of
@@ -37,7 +38,7 @@ pub returns-after-misplaced-clause-checked : goal.returns-after-misplaced-clause
 returns-after-misplaced-clause-checked g c no_words =
     let wanted = c.in-Ok.wanted in
     let status = c.match-misplaced.system.1 in
-    let is : wanted ≡ unlogged (Tape CheckInput) = cc (c.in-Ok.ensures.none no_words) in
+    let is : wanted ≡ unlogged (Tape (Print CheckInput)) = cc (c.in-Ok.ensures.none no_words) in
     let attempted : IsAttempted wanted.request (moment c.args.system c.args.streams.now ⇒ moment c.match-misplaced.system.0 c.match-misplaced.streams) status =
     elim c.match-misplaced.branch [
       | in-Some w ↦ absurd (cc (sym w.in-Some.is ∙ c.misplaced.ensures.checked (checks_input wanted is)))

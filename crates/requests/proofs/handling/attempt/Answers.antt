@@ -8,7 +8,7 @@ use Rattle.requests.specs.Looking.{AreUnverified}
 use Rattle.requests.specs.Moment.{moment}
 use Rattle.requests.proofs.Attempted.{came_to, told}
 use Rattle.requests.proofs.handling.attempt.Goals as goal
-use Rattle.requests.proofs.handling.attempt.Goals.{in-Tape, in-Make, in-Machine-Load, in-Machine-Verify, in-Machine-Save, in-Machine-Probe}
+use Rattle.requests.proofs.handling.attempt.Goals.{in-Tape-Print, in-Tape-Make, in-Machine-Load, in-Machine-Verify, in-Machine-Save, in-Machine-Probe}
 
 pub returns : goal.returns
 returns g c =
@@ -16,7 +16,7 @@ returns g c =
     told c.args.request.now before c.match-request.system c.match-request.streams c.end-status.new.streams c.end-status.result c.only_prints-only_prints.result
     c.only_prints-only_prints.ensures
     (elim c.match-request.branch [
-      | in-Tape w ↦
+      | in-Tape-Print w ↦
           let outcome = w.print_answer-outcome.result in
           let inside = w.system.inside in
           let disk = g.K.Disk.Disk.asked inside.disk in
@@ -27,11 +27,11 @@ returns g c =
           let after = moment asked w.print_answer-outcome.new.streams in
           rw (← w.system.view_is) (came_to c.args.request.now first c.match-request.system (asked, outcome) c.match-request.streams w.print_answer-outcome.new.streams
           w.system-is w.streams-is (record {
-            ok = subst (λ r. IfOk outcome (IsDone r (first ⇒ after))) (sym w.in-Tape.is) (IfOk-weaker outcome _ _ (λ status h. (h, refl)) w.print_answer-outcome.ensures.ok);
-            err = subst (λ r. IfErr outcome (IsFailed r (first ⇒ after))) (sym w.in-Tape.is) (IfErr-weaker outcome _ _ (λ failure h. (h, refl)) w.print_answer-outcome.ensures.err);
+            ok = subst (λ r. IfOk outcome (IsDone r (first ⇒ after))) (sym w.in-Tape-Print.is) (IfOk-weaker outcome _ _ (λ status h. (h, refl)) w.print_answer-outcome.ensures.ok);
+            err = subst (λ r. IfErr outcome (IsFailed r (first ⇒ after))) (sym w.in-Tape-Print.is) (IfErr-weaker outcome _ _ (λ failure h. (h, refl)) w.print_answer-outcome.ensures.err);
             quiet = w.print_answer-outcome.ensures.quiet;
           }))
-      | in-Make w ↦ came_to _ before _ w.make_words.result _ w.make_words.new.streams w.system-is w.streams-is (record {
+      | in-Tape-Make w ↦ came_to _ before _ w.make_words.result _ w.make_words.new.streams w.system-is w.streams-is (record {
         ok = search rules;
         err = search rules;
         quiet = w.make_words.ensures.quiet;

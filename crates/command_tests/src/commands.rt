@@ -1,6 +1,6 @@
 //! The commands over tapes, as the tests of all of them need them: who adds one adds it here.
 
-use command_io::CommandFault;
+use endings::CommandFault;
 use odt_machine::{LARGEST_WORDS, PLAIN_STYLE};
 use request_values::{CheckOptions, Console, PrintRequest, Rehearsal, Request, Stage, TapeRequest};
 use simulated_system::{BrokenInput, BrokenOutput, ONE_WORD_DIALOGUE, ONE_WORD_TEXT};

@@ -1,7 +1,7 @@
 //! Devices that fail once in the middle of a command, and would then go on.
 
 use crate::commands::{COMMANDS, Command, STALE};
-use command_io::CommandFault;
+use endings::CommandFault;
 use simulated_system::{BrokenInput, BrokenOutput, NOWHERE, ONE_WORD};
 use std::alloc::Global;
 

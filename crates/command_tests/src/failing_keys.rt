@@ -1,6 +1,6 @@
 //! How typing at a console ends where keys or answers fail once, and would then go on.
 
-use command_io::CommandFault;
+use endings::CommandFault;
 use odt_machine::{Mode, Odt, PLAIN_STYLE};
 use simulated_system::{BrokenInput, BrokenOutput};
 use std::alloc::Global;

@@ -1,3 +1,4 @@
+pub mod Faults
 mod Lines
 mod Names
 mod Reasons

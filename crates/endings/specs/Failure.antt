@@ -19,8 +19,8 @@ use Rattle.endings.specs.declared.failure.Failure.TheVariants.{RecordStale, TooL
 use Rattle.endings.specs.LineReason.{line_failed}
 use Rattle.endings.specs.declared.place.Place.{Place}
 use Rattle.endings.specs.declared.place.Place.TheVariants.{LineOfLoad, LineOfVerify, LineOfSave, LineOfProbe, Tape, Script, Words, Record}
-use Rattle.command_io.specs.declared.fault.CommandFault.{CommandFault}
-use Rattle.command_io.specs.declared.fault.CommandFault.TheVariants as fault
+use Rattle.endings.specs.declared.command_fault.CommandFault.{CommandFault}
+use Rattle.endings.specs.declared.command_fault.CommandFault.TheVariants as fault
 use Rattle.load_record.specs.declared.reader.RecordError.TheVariants as why
 use Rattle.tape_making.specs.Refusal.{refusal_text}
 use Rattle.endings.specs.declared.status.Status.{Status}

@@ -1,6 +1,6 @@
+use crate::command_fault::CommandFault;
 use crate::place::Place;
 use crate::status::Status;
-use command_io::CommandFault;
 use host_devices::LineFault;
 use load_record::RecordError;
 use tape_blocks::Fault;

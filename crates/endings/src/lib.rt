@@ -1,6 +1,7 @@
 //! How the program ends: its exit status, and what it says where it did not do what it was asked.
 //!
-//! A `Failure` has one line on standard error and one status. `tell` prints the line, in one write, and
+//! A `CommandFault` says why a command about tapes did not do what it was asked; by the names of its inputs it is a
+//! `Failure`. A `Failure` has one line on standard error and one status. `tell` prints the line, in one write, and
 //! answers the status; a file's name in it can't break the line. Words of the command line that ask for
 //! nothing to be done are explained: `show` prints help to standard output, `refuse` says on standard
 //! error what is wrong with them. `Streams` are the three standard streams, as one value; an `Output` knows
@@ -8,6 +9,7 @@
 //! a `FaultOutput` is said whole, unless that fails. Used by the crates of requests, by `run_log` and by `ldaodt`.
 #![tactic(auto)]
 
+mod command_fault;
 mod explaining;
 mod failure;
 mod fault_output;
@@ -19,6 +21,7 @@ mod streams;
 mod system_reason;
 mod telling;
 
+pub use command_fault::CommandFault;
 pub use explaining::{refuse, show};
 pub use failure::{Failure, STANDARD_INPUT};
 pub use fault_output::{FaultOutput, say};

@@ -1,5 +1,7 @@
 pub mod Errors
+pub mod OpenedTapes
 pub mod Taken
-pub mod Tapes
+pub mod TapeInput
+mod TapesInput
 pub mod Tried
 pub mod Whatever

@@ -1,9 +1,9 @@
 -- What is so of taken tapes is so of the inputs that they were taken of.
 use Rattle.std.proofs.Common.{◌≡◌, ◌⊎◌, ℕ, List, [], inl, inr, refl, sym, subst}
-use Rattle.command_io.specs.Tapes.{BlamesNoTape}
-use Rattle.command_io.specs.declared.tapes.Tapes.{Tapes}
-use Rattle.command_io.specs.declared.fault.CommandFault.{CommandFault}
-use Rattle.command_io.specs.declared.fault.CommandFault.TheVariants as fault
+use Rattle.input_files.specs.Tapes.{BlamesNoTape}
+use Rattle.input_files.specs.declared.tapes.Tapes.{Tapes}
+use Rattle.endings.specs.declared.command_fault.CommandFault.{CommandFault}
+use Rattle.endings.specs.declared.command_fault.CommandFault.TheVariants as fault
 use Rattle.endings.specs.declared.failure.Failure.{Failure}
 use Rattle.endings.specs.Failure.{IsFailureOf}
 use Rattle.endings.specs.Held.{Held}

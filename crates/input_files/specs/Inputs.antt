@@ -3,7 +3,7 @@
 use Rattle.std.specs.Prelude.{◌≡◌, ◌⊎◌, ℕ, Bool, true, false, nat_eq, if◌then◌else◌, List, [], ◌∷◌, length, map}
 use Rattle.std.specs.Prelude.{Option, Some, None, codes}
 use Rattle.std.specs.Cmp.Lexicographic.{pointwise}
-use Rattle.command_io.specs.declared.fault.CommandFault.{CommandFault}
+use Rattle.endings.specs.declared.command_fault.CommandFault.{CommandFault}
 use Rattle.endings.specs.declared.failure.Failure.{Failure}
 use Rattle.endings.specs.Failure.{IsFailureOf}
 use Rattle.endings.specs.Held.{Held}

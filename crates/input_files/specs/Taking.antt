@@ -1,7 +1,7 @@
 -- The tapes that are taken of standard input or of files, by their names.
 use Rattle.std.specs.Prelude.{◌⊎◌, if◌then◌else◌, List, [], ◌∷◌, Option, codes}
-use Rattle.command_io.specs.Tapes.{AreTapes, AreTapesFault}
-use Rattle.command_io.specs.declared.tapes.Tapes.{Tapes}
+use Rattle.input_files.specs.Tapes.{AreTapes, AreTapesFault}
+use Rattle.input_files.specs.declared.tapes.Tapes.{Tapes}
 use Rattle.endings.specs.declared.failure.Failure.{Failure}
 use Rattle.input_files.specs.Inputs.{Inputs, AreOpened, IsUnopened, OfFiles, OfInputs, OfTapes, FailsUnopened, HasFault, files_of, means_input, only_input}
 use Rattle.input_files.specs.Intake.{Intake}

@@ -10,7 +10,7 @@ use crate::names::{is_input, is_lone_input, joined};
 use crate::opening::{open, open_all, open_with_script};
 use crate::source::{Role, Source};
 use crate::system::InputFiles;
-use command_io::{Tapes, take_tapes};
+use crate::tapes::{Tapes, take_tapes};
 use endings::{Failure, FaultOutput, Output, STANDARD_INPUT, Streams};
 use request_values::Rehearsal;
 use std::alloc::Global;

@@ -1,7 +1,7 @@
 -- The plan of the tapes that a request names.
 use Rattle.std.specs.Prelude.{◌≡◌, ◌⊎◌, List}
 use Rattle.tape_image.specs.Plan.{PlanValue, plan_of_all}
-use Rattle.command_io.specs.Tapes.{TapeText, AreTaken, tapes_of}
+use Rattle.input_files.specs.Tapes.{TapeText, AreTaken, tapes_of}
 use Rattle.endings.specs.declared.failure.Failure.{Failure}
 use Rattle.input_files.specs.Inputs.{Inputs, OfTapes, FailsUnopened, files_of}
 use Rattle.input_files.specs.Intake.{Intake}

@@ -23,11 +23,11 @@ use Rattle.line_world.specs.Opening.{opened}
 use Rattle.line_world.specs.Runs.{RunsTo}
 use Rattle.line_world.specs.World.{happens, after, first_event, first_of, IsCleanRun}
 use Rattle.line_world.proofs.Opening.{opening_kept}
-use Rattle.command_io.specs.declared.fault.CommandFault.{CommandFault}
-use Rattle.command_io.specs.declared.fault.CommandFault.TheVariants as fault
+use Rattle.endings.specs.declared.command_fault.CommandFault.{CommandFault}
+use Rattle.endings.specs.declared.command_fault.CommandFault.TheVariants as fault
 use Rattle.byte_io.specs.Output.{WritesPrefix, WritesProperPrefix}
 use Rattle.tape_blocks.specs.declared.layout.Layout.{Layout}
-use Rattle.command_io.specs.Tapes.{AreTapes, AreAllTaken, AreTapesFault, tapes_of}
+use Rattle.input_files.specs.Tapes.{AreTapes, AreAllTaken, AreTapesFault, tapes_of}
 use Rattle.byte_io.specs.Text.{line}
 use Rattle.tape_commands.specs.Report.{life_text, end_text, mode_name, held_word_text, report}
 use Rattle.tape_commands.specs.Dialogue.{Talks, IsDialogueText, IsDialogue, IsDialogueInPart, IsDialogueFault, IsReportFault, IsTalkFault, dialogue_opening, dialogue_patience}

@@ -17,13 +17,13 @@ use Rattle.tape_commands.specs.Report.{report}
 use Rattle.byte_io.specs.Input.{IsTaken}
 use Rattle.tape_values.specs.Told.{IsAsTold}
 use Rattle.tape_blocks.specs.declared.layout.Layout.{Layout}
-use Rattle.command_io.specs.Tapes.{AreTapes, AreAllTaken}
+use Rattle.input_files.specs.Tapes.{AreTapes, AreAllTaken}
 use Rattle.loss_scripts.specs.Script.{IsRefusedScript, IsRefusedLine, script_limit}
 use Rattle.tape_commands.specs.Rehearsal.{IsScriptInput, IsScriptInputFault, IsPlayFault, IsRehearseFault, IsRehearsal, IsRehearsed, AllLie, after_puts, machine_of, rehearsal_opening}
-use Rattle.command_io.specs.declared.fault.CommandFault.{CommandFault}
-use Rattle.command_io.specs.declared.fault.CommandFault.TheVariants as fault
+use Rattle.endings.specs.declared.command_fault.CommandFault.{CommandFault}
+use Rattle.endings.specs.declared.command_fault.CommandFault.TheVariants as fault
 use Rattle.loss_scripts.specs.declared.script.Script.{Script}
-use Rattle.command_io.proofs.TapeInput.{left_of, whole, ends}
+use Rattle.input_files.proofs.TapeInput.{left_of, whole, ends}
 
 -- an input of which fewer bytes were taken than the limit is just these
 all_taken : (before after : Option (List ℕ)) (bytes : List ℕ) → IsTaken before after (script_limit + 1) bytes → length bytes ≤ script_limit → IsAsTold before bytes

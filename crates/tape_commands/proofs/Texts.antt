@@ -7,7 +7,7 @@ use Rattle.std.proofs.lemmas.List.Concat.{flat_map-cons}
 use Rattle.std.proofs.lemmas.Grind.{flat_map-append}
 use Rattle.tape_values.specs.Tape.{TapeValue, IsTape, plain_text}
 use Rattle.tape_blocks.specs.declared.layout.Layout.{Layout}
-use Rattle.command_io.specs.Tapes.{TapeText, AreTaken, AreTapes, AreLaidOut}
+use Rattle.input_files.specs.Tapes.{TapeText, AreTaken, AreTapes, AreLaidOut}
 use Rattle.tape_commands.specs.CheckText.{AreTexts, tape_text, blocks_text, start_text, canonical_text, is_same}
 use Rattle.byte_io.specs.Text.{line}
 

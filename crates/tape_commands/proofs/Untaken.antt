@@ -3,9 +3,9 @@ use Rattle.request_values.specs.Change.{◌⇒◌}
 use Rattle.std.proofs.Common.{◌≡◌, ℕ, Bool, List, inl, sym, subst}
 use Rattle.std.proofs.KnownBytes.{Appends-kept, Keeps-refl}
 use Rattle.std.specs.Io.KnownBytes.{Keeps}
-use Rattle.command_io.specs.Tapes.{AreTapesFault}
-use Rattle.command_io.specs.declared.fault.CommandFault.{CommandFault}
-use Rattle.command_io.specs.declared.fault.CommandFault.TheVariants as fault
+use Rattle.input_files.specs.Tapes.{AreTapesFault}
+use Rattle.endings.specs.declared.command_fault.CommandFault.{CommandFault}
+use Rattle.endings.specs.declared.command_fault.CommandFault.TheVariants as fault
 use Rattle.endings.specs.Failure.{IsFailureOf}
 use Rattle.endings.specs.declared.failure.Failure.{Failure}
 use Rattle.host_core.specs.declared.phase.End.{End}

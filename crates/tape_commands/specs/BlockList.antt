@@ -9,7 +9,7 @@ use Rattle.tape_blocks.specs.declared.layout.Layout.{Layout}
 use Rattle.tape_image.specs.Image.{Image}
 use Rattle.tape_image.specs.Plan.{plan_of_all}
 use Rattle.byte_io.specs.Text.{line}
-use Rattle.command_io.specs.Tapes.{TapeText, AreLaidOut, tapes_of}
+use Rattle.input_files.specs.Tapes.{TapeText, AreLaidOut, tapes_of}
 
 -- which block of its tape it is, and at which byte of the tape's file it begins
 abbrev pub place_text : ℕ → ℕ → List ℕ

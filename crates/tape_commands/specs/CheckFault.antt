@@ -1,11 +1,11 @@
 -- How `check` fails, and what it has written by then.
 use Rattle.std.specs.Prelude.{ℕ, Bool, List, Option}
 use Rattle.std.specs.Io.KnownBytes.{Keeps}
-use Rattle.command_io.specs.Tapes.{AreTapesFault}
+use Rattle.input_files.specs.Tapes.{AreTapesFault}
 use Rattle.tape_commands.specs.CheckText.{IsCheckedInPart}
 use Rattle.request_values.specs.Change.{Change}
-use Rattle.command_io.specs.declared.fault.CommandFault.{CommandFault}
-use Rattle.command_io.specs.declared.fault.CommandFault.TheVariants.{Tape, ReadTape, Write, Memory}
+use Rattle.endings.specs.declared.command_fault.CommandFault.{CommandFault}
+use Rattle.endings.specs.declared.command_fault.CommandFault.TheVariants.{Tape, ReadTape, Write, Memory}
 
 -- a tape is refused only where its input is, by its number, or can't be read, or want of memory, before anything is written;
 -- or a failed write, with a proper prefix of the text written

@@ -11,7 +11,7 @@ use Rattle.tape_image.specs.Plan.{plan_of_all}
 use Rattle.byte_io.specs.Text.{line}
 use Rattle.byte_io.specs.Output.{WritesProperPrefix}
 use Rattle.request_values.specs.Change.{Change}
-use Rattle.command_io.specs.Tapes.{TapeText, AreTaken, AreLaidOut, tapes_of}
+use Rattle.input_files.specs.Tapes.{TapeText, AreTaken, AreLaidOut, tapes_of}
 use Rattle.tape_blocks.specs.declared.layout.Layout.{Layout}
 use Rattle.tape_commands.specs.BlockList.{IsBlockList}
 

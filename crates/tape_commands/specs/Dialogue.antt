@@ -13,13 +13,13 @@ use Rattle.line_world.specs.Scene.{Scene}
 use Rattle.line_world.specs.Opening.{opened}
 use Rattle.line_world.specs.Runs.{RunsTo}
 use Rattle.request_values.specs.Change.{Change, ◌⇒◌}
-use Rattle.command_io.specs.declared.fault.CommandFault.{CommandFault}
-use Rattle.command_io.specs.declared.fault.CommandFault.TheVariants as fault
+use Rattle.endings.specs.declared.command_fault.CommandFault.{CommandFault}
+use Rattle.endings.specs.declared.command_fault.CommandFault.TheVariants as fault
 use Rattle.tape_commands.specs.KeyLines.{answered_keys, key_text}
 use Rattle.tape_commands.specs.Rehearsal.{machine_of}
 use Rattle.tape_commands.specs.Report.{report}
 use Rattle.byte_io.specs.Output.{WritesProperPrefix}
-use Rattle.command_io.specs.Tapes.{TapeText, AreTaken, AreAllTaken, AreTapesFault, tapes_of}
+use Rattle.input_files.specs.Tapes.{TapeText, AreTaken, AreAllTaken, AreTapesFault, tapes_of}
 
 -- how many mishaps the host survives in a dialogue: as many as in a rehearsal whose script names no patience
 abbrev pub dialogue_patience : ℕ

@@ -1,6 +1,6 @@
 -- How a command fails whose output has to be passed on.
 use Rattle.std.specs.Prelude.{◌≡◌, ◌⊎◌, codes}
-use Rattle.command_io.specs.declared.fault.CommandFault.{CommandFault}
+use Rattle.endings.specs.declared.command_fault.CommandFault.{CommandFault}
 use Rattle.endings.specs.declared.failure.Failure.{Failure}
 use Rattle.endings.specs.declared.failure.Failure.TheVariants.{CannotWrite}
 use Rattle.input_files.specs.Inputs.{Inputs, HasFault}

@@ -13,14 +13,14 @@ use Rattle.line_world.specs.Opening.{opened}
 use Rattle.loss_scripts.specs.declared.script.PutLine.{PutLine}
 use Rattle.loss_scripts.specs.declared.script.Script.{Script}
 use Rattle.request_values.specs.Change.{Change}
-use Rattle.command_io.specs.declared.fault.CommandFault.{CommandFault}
-use Rattle.command_io.specs.declared.fault.CommandFault.TheVariants as fault
+use Rattle.endings.specs.declared.command_fault.CommandFault.{CommandFault}
+use Rattle.endings.specs.declared.command_fault.CommandFault.TheVariants as fault
 use Rattle.byte_io.specs.Output.{WritesProperPrefix}
 use Rattle.tape_commands.specs.Played.{Played, not_possible_lines}
 use Rattle.tape_commands.specs.Report.{report}
 use Rattle.loss_scripts.specs.Script.{IsScript, IsRefusedScript}
 use Rattle.tape_values.specs.Told.{IsAsTold}
-use Rattle.command_io.specs.Tapes.{TapeText, AreTaken, AreAllTaken, AreTapesFault, tapes_of}
+use Rattle.input_files.specs.Tapes.{TapeText, AreTaken, AreAllTaken, AreTapesFault, tapes_of}
 
 -- the memory after these words are put into it, in order
 abbrev pub after_puts : List ℕ → List PutLine → List ℕ

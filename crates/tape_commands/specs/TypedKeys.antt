@@ -6,8 +6,8 @@ use Rattle.odt_machine.specs.KeyTable.{take_of, after_key}
 use Rattle.odt_machine.specs.Character.{carriage_return, line_feed}
 use Rattle.byte_io.specs.Output.{WritesProperPrefix}
 use Rattle.request_values.specs.Change.{Change}
-use Rattle.command_io.specs.declared.fault.CommandFault.{CommandFault}
-use Rattle.command_io.specs.declared.fault.CommandFault.TheVariants.{ReadKeys, Write}
+use Rattle.endings.specs.declared.command_fault.CommandFault.{CommandFault}
+use Rattle.endings.specs.declared.command_fault.CommandFault.TheVariants.{ReadKeys, Write}
 
 -- the most keys that are typed: 2 to the 20th, which is more than twice what each word of the largest memory takes, with its address; so
 -- typing ends also where the input does not (this project's choice)

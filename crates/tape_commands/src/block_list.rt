@@ -8,7 +8,7 @@ ghost use Rattle.tape_commands.specs.BlockList.{addresses_text, block_lines, cou
 ghost use Rattle.tape_commands.specs.BlockList.{IsSpan, block_list as text_of_list};
 
 use byte_io::{put_decimal, put_octal};
-use command_io::Tapes;
+use input_files::Tapes;
 use std::alloc::{AllocError, Global};
 use tape_image::Plan;
 use tape_values::{Block, TOP, Tape};

@@ -1,7 +1,7 @@
 //! The command `check`: what tapes hold.
 ghost use Rattle.std.specs.Prelude.{◌≡◌, List, false, length, map, OnOk, IfOk, IfErr};
 ghost use Rattle.request_values.specs.Change.{◌⇒◌};
-ghost use Rattle.command_io.specs.Tapes.{BlamesNoTape, OfTaken, TakeAtMost, TapeText};
+ghost use Rattle.input_files.specs.Tapes.{BlamesNoTape, OfTaken, TakeAtMost, TapeText};
 ghost use Rattle.tape_image.specs.Plan.{IsPlan, plan_of_all};
 ghost use Rattle.tape_commands.specs.CheckText.{AreTexts, IsChecked, IsCheckText};
 ghost use Rattle.tape_commands.specs.CheckFault.{IsCheckFault};
@@ -14,9 +14,8 @@ use crate::block_list::block_list;
 use crate::check_text::check_text;
 use crate::output::flushed;
 use byte_io::write_whole;
-use command_io::{CommandFault, Tapes, take_tapes};
-use endings::{Failure, FaultOutput, Output, STANDARD_INPUT, Status, Streams};
-use input_files::{InputFiles, take, take_input};
+use endings::{CommandFault, Failure, FaultOutput, Output, STANDARD_INPUT, Status, Streams};
+use input_files::{InputFiles, Tapes, take, take_input, take_tapes};
 use request_values::CheckOptions;
 use std::alloc::{AllocError, Global};
 use std::io::{Read, Write};

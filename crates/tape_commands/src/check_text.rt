@@ -5,13 +5,13 @@ ghost use Rattle.octal.specs.Octal.{octal_text};
 ghost use Rattle.tape_values.specs.Tape.{IsTape, tape_limit};
 ghost use Rattle.tape_image.specs.Plan.{plan_of_all};
 ghost use Rattle.tape_image.specs.Word.{word_fields};
-ghost use Rattle.command_io.specs.Tapes.{TapeText};
+ghost use Rattle.input_files.specs.Tapes.{TapeText};
 ghost use Rattle.byte_io.specs.Text.{line};
 ghost use Rattle.tape_commands.specs.CheckText.{data_count, blocks_text, start_text, canonical_text};
 ghost use Rattle.tape_commands.specs.CheckText.{tape_text, words_text, check_text as text_of_check, AreTexts};
 
 use byte_io::{put_decimal, put_octal};
-use command_io::Tapes;
+use input_files::Tapes;
 use std::alloc::{AllocError, Global};
 use tape_image::{Plan, Word};
 use tape_values::{Block, Tape};

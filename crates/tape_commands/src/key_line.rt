@@ -8,7 +8,7 @@ ghost use Rattle.tape_commands.specs.Dialogue.{IsTalkFault};
 ghost use Rattle.tape_commands.specs.KeyLines.{Answered, Gathers, Holds, Notes, key_text, last_line, shown};
 
 use byte_io::write_whole;
-use command_io::CommandFault;
+use endings::CommandFault;
 use odt_machine::{CARRIAGE_RETURN, LINE_FEED, SPACE};
 use std::alloc::{AllocError, Global};
 use std::io::Write;

@@ -8,7 +8,7 @@ ghost use Rattle.line_world.specs.Opening.{opened};
 ghost use Rattle.line_world.specs.Wire.{most_waiting};
 ghost use Rattle.tape_commands.specs.Rehearsal.{after_puts, AllLie, IsRefusedPut, IsMachineFault, machine_of};
 
-use command_io::CommandFault;
+use endings::CommandFault;
 use host_core::{HostCore, Progress};
 use line_world::World;
 use loss_scripts::PutLine;

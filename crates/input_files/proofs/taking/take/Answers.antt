@@ -1,7 +1,7 @@
 use Rattle.std.proofs.Common.{◌∙◌, length, inl, inr, ap, refl, sym}
 use Rattle.std.proofs.lemmas.Result.{IfErr-weaker, IfOk-weaker}
 use Rattle.input_files.proofs.Errors.{error_is}
-use Rattle.input_files.proofs.Tapes.{of_files, of_input, of_named, unopened_named}
+use Rattle.input_files.proofs.OpenedTapes.{of_files, of_input, of_named, unopened_named}
 use Rattle.input_files.proofs.taking.take.Goals as goal
 
 pub returns-then-is_input-clause-ok : goal.returns-then-is_input-clause-ok

@@ -6,7 +6,7 @@ use Rattle.input_files.specs.Inputs.{Known, AreOpened, IsUnopened, OfFiles, inpu
 use Rattle.input_files.specs.Opening.{Name}
 use Rattle.input_files.specs.Taking.{FailsToTake, rehearsed_names, rehearsed_tapes}
 use Rattle.input_files.proofs.Errors.{error_is}
-use Rattle.input_files.proofs.Tapes.{of_files, opened_in_vain}
+use Rattle.input_files.proofs.OpenedTapes.{of_files, opened_in_vain}
 use Rattle.input_files.proofs.taking.take_files_with_script.Goals as goal
 
 of_names : (rehearsal : Rehearsal) (more : List Name) (P : List Name → Type 0) → more ≡ rehearsal.more.items → P (rehearsal.tape ∷ rehearsal.script ∷ more) → P (rehearsed_names rehearsal)

@@ -1,7 +1,7 @@
 use Rattle.std.proofs.Common.{◌≡◌, List, [], ◌∷◌, length, suc, refl, ap, sym, ◌∙◌}
 use Rattle.std.proofs.lemmas.List.{length-map}
 use Rattle.tape_blocks.specs.declared.layout.Layout.{Layout}
-use Rattle.command_io.specs.Tapes.{AreLaidOut, TapeText}
+use Rattle.input_files.specs.Tapes.{AreLaidOut, TapeText}
 use Rattle.input_files.proofs.taking.take_named.Goals as goal
 
 one_each : (texts : List TapeText) (layouts : List Layout) → AreLaidOut texts layouts → length layouts ≡ length texts

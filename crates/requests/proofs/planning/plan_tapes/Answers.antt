@@ -1,5 +1,5 @@
 use Rattle.std.proofs.Common.{◌∙◌, inl, inr, ap, refl, ⊎_elim}
-use Rattle.command_io.specs.declared.fault.CommandFault.TheVariants.{Memory}
+use Rattle.endings.specs.declared.command_fault.CommandFault.TheVariants.{Memory}
 use Rattle.tape_image.specs.Plan.{plan_of_all}
 use Rattle.input_files.specs.Taking.{AreTakenOf, FailsToTake}
 use Rattle.input_files.proofs.Errors.{error_is}

@@ -2,9 +2,9 @@ use Rattle.request_values.specs.Change.{◌⇒◌}
 use Rattle.std.proofs.Common.{subst}
 use Rattle.std.specs.Io.KnownBytes.{Appends}
 use Rattle.byte_io.specs.Output.{WritesProperPrefix}
-use Rattle.command_io.specs.Tapes.{OfTaken}
-use Rattle.command_io.specs.declared.fault.CommandFault.TheVariants.{Write}
-use Rattle.command_io.proofs.Faults.{fault_is}
+use Rattle.input_files.specs.Tapes.{OfTaken}
+use Rattle.endings.specs.declared.command_fault.CommandFault.TheVariants.{Write}
+use Rattle.endings.proofs.Faults.{fault_is}
 use Rattle.tape_commands.specs.CheckFault.{IsCheckFault}
 use Rattle.tape_commands.proofs.Texts.{are_texts}
 use Rattle.tape_commands.proofs.check.write_check.Goals as goal

@@ -1,7 +1,7 @@
 -- The lines so far are those of the tapes so far.
 use Rattle.std.proofs.Common.{◌≡◌, List, take}
 use Rattle.std.specs.List.{flat_map}
-use Rattle.command_io.specs.Tapes.{TapeText}
+use Rattle.input_files.specs.Tapes.{TapeText}
 use Rattle.tape_commands.specs.CheckText.{AreTexts, tape_text}
 use Rattle.tape_commands.proofs.check_text.check_text.Given as goal
 

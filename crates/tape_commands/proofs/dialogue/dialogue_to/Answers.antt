@@ -2,7 +2,7 @@ use Rattle.request_values.specs.Change.{◌⇒◌}
 use Rattle.std.proofs.Common.{map}
 use Rattle.std.proofs.KnownBytes.{Keeps-refl}
 use Rattle.std.proofs.lemmas.Result.{IfErr-weaker, IfOk-weaker}
-use Rattle.command_io.proofs.Faults.{fault_is}
+use Rattle.endings.proofs.Faults.{fault_is}
 use Rattle.tape_commands.specs.Dialogue.{IsDialogueFault, staged}
 use Rattle.tape_commands.proofs.Dialogues.{tapes_fault}
 use Rattle.tape_commands.proofs.dialogue.dialogue_to.Goals as goal

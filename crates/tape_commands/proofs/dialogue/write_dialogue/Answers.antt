@@ -1,11 +1,11 @@
 use Rattle.request_values.specs.Change.{◌⇒◌}
 use Rattle.std.proofs.Common.{refl, inl, ap, ◌∙◌}
 use Rattle.tape_image.specs.Plan.{starting}
-use Rattle.command_io.specs.Tapes.{OfTaken}
-use Rattle.command_io.specs.declared.fault.CommandFault.TheVariants.{Memory}
+use Rattle.input_files.specs.Tapes.{OfTaken}
+use Rattle.endings.specs.declared.command_fault.CommandFault.TheVariants.{Memory}
 use Rattle.std.proofs.KnownBytes.{Keeps-refl}
 use Rattle.tape_commands.specs.Dialogue.{IsDialogueFault}
-use Rattle.command_io.proofs.Faults.{fault_is}
+use Rattle.endings.proofs.Faults.{fault_is}
 use Rattle.tape_commands.proofs.Dialogues.{opens_dialogue, machine_fault, stopped_in_talk, report_failed, dialogue_made}
 use Rattle.tape_commands.proofs.dialogue.write_dialogue.Goals as goal
 

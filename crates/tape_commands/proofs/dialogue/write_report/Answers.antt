@@ -1,8 +1,8 @@
 use Rattle.std.proofs.Common.{◌++◌, List, ℕ, refl, subst, ap, ◌∙◌}
 use Rattle.std.specs.Io.KnownBytes.{Appends}
 use Rattle.byte_io.specs.Output.{WritesProperPrefix}
-use Rattle.command_io.specs.declared.fault.CommandFault.TheVariants.{Write, Memory}
-use Rattle.command_io.proofs.Faults.{fault_is}
+use Rattle.endings.specs.declared.command_fault.CommandFault.TheVariants.{Write, Memory}
+use Rattle.endings.proofs.Faults.{fault_is}
 use Rattle.tape_commands.specs.Report.{report}
 use Rattle.tape_commands.specs.Dialogue.{IsReportFault}
 use Rattle.tape_commands.proofs.dialogue.write_report.Goals as goal

@@ -4,9 +4,9 @@ use Rattle.std.proofs.KnownBytes.{Keeps-refl}
 use Rattle.std.specs.Io.KnownBytes.{Appends}
 use Rattle.byte_io.specs.Output.{WritesProperPrefix}
 use Rattle.tape_commands.specs.Rehearsal.{IsRehearseFault}
-use Rattle.command_io.specs.Tapes.{OfTaken}
-use Rattle.command_io.specs.declared.fault.CommandFault.TheVariants.{Write}
-use Rattle.command_io.proofs.Faults.{fault_is}
+use Rattle.input_files.specs.Tapes.{OfTaken}
+use Rattle.endings.specs.declared.command_fault.CommandFault.TheVariants.{Write}
+use Rattle.endings.proofs.Faults.{fault_is}
 use Rattle.tape_commands.proofs.Rehearsals.{play_fault, script_fault, rehearsed}
 use Rattle.tape_commands.proofs.rehearse.write_rehearsal.Goals as goal
 

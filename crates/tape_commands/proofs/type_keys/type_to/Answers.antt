@@ -1,8 +1,8 @@
 use Rattle.request_values.specs.Change.{◌⇒◌}
 use Rattle.std.proofs.Common.{rules}
 use Rattle.tape_commands.specs.TypedKeys.{IsTypeFault}
-use Rattle.command_io.specs.declared.fault.CommandFault.TheVariants.{Write}
-use Rattle.command_io.proofs.Faults.{fault_is}
+use Rattle.endings.specs.declared.command_fault.CommandFault.TheVariants.{Write}
+use Rattle.endings.proofs.Faults.{fault_is}
 use Rattle.tape_commands.proofs.TypedKeys.{so_far_kept, so_far_more, in_part}
 use Rattle.tape_commands.proofs.type_keys.type_to.Goals as goal
 

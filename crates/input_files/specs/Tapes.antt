@@ -7,10 +7,10 @@ use Rattle.tape_blocks.specs.Input.{input_limit}
 use Rattle.tape_blocks.specs.Layout.{IsLaidOut}
 use Rattle.tape_blocks.specs.declared.layout.Layout.{Layout}
 use Rattle.byte_io.specs.Input.{TakesAtMost}
-use Rattle.command_io.specs.TapeFile.{IsRefusedInput}
-use Rattle.command_io.specs.declared.fault.CommandFault.{CommandFault}
-use Rattle.command_io.specs.declared.fault.CommandFault.TheVariants.{Tape, ReadTape, Memory}
-use Rattle.command_io.specs.declared.tapes.Tapes.{Tapes}
+use Rattle.input_files.specs.TapeFile.{IsRefusedInput}
+use Rattle.endings.specs.declared.command_fault.CommandFault.{CommandFault}
+use Rattle.endings.specs.declared.command_fault.CommandFault.TheVariants.{Tape, ReadTape, Memory}
+use Rattle.input_files.specs.declared.tapes.Tapes.{Tapes}
 
 -- a tape, and the bytes that it was read from
 pub record TapeText : Type 0 where

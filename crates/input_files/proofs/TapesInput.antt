@@ -9,7 +9,7 @@ use Rattle.byte_io.specs.Input.{TakesAtMost}
 use Rattle.tape_blocks.specs.Input.{input_limit}
 use Rattle.tape_blocks.specs.Layout.{IsLaidOut}
 use Rattle.tape_blocks.specs.declared.layout.Layout.{Layout}
-use Rattle.command_io.specs.Tapes.{TapeText, IsTapeTaken, AreTaken, AreTapes, StopsAt, TakeAtMost, AreLaidOut, tapes_of}
+use Rattle.input_files.specs.Tapes.{TapeText, IsTapeTaken, AreTaken, AreTapes, StopsAt, TakeAtMost, AreLaidOut, tapes_of}
 
 -- of the first inputs tapes were taken, and the others are as they were
 pub record IsTaking {X : Type 0} (known : X → Option (List ℕ)) (start now : List X) (done : ℕ) (tapes : List TapeValue) (layouts : List Layout) : Type 0 where

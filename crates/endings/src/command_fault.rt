@@ -32,7 +32,7 @@ pub enum CommandFault {
 
 impl From<AllocError> for CommandFault {
     ghost use Rattle.std.specs.Prelude.{◌≡◌};
-    ghost use Rattle.command_io.specs.declared.fault.CommandFault.TheVariants.{Memory};
+    ghost use Rattle.endings.specs.declared.command_fault.CommandFault.TheVariants.{Memory};
 
     ghost from_gives = { λ _ fault. fault ≡ Memory };
 
@@ -43,7 +43,7 @@ impl From<AllocError> for CommandFault {
 
 impl From<WriteFault> for CommandFault {
     ghost use Rattle.std.specs.Prelude.{◌≡◌};
-    ghost use Rattle.command_io.specs.declared.fault.CommandFault.TheVariants.{Write};
+    ghost use Rattle.endings.specs.declared.command_fault.CommandFault.TheVariants.{Write};
 
     ghost from_gives = { λ _ fault. fault ≡ Write };
 
@@ -54,7 +54,7 @@ impl From<WriteFault> for CommandFault {
 
 impl From<Memory> for CommandFault {
     ghost use Rattle.std.specs.Prelude.{◌≡◌};
-    ghost use Rattle.command_io.specs.declared.fault.CommandFault.TheVariants.{Memory};
+    ghost use Rattle.endings.specs.declared.command_fault.CommandFault.TheVariants.{Memory};
 
     ghost from_gives = { λ _ fault. fault ≡ Memory };
 

@@ -1,8 +1,8 @@
 use Rattle.std.proofs.Common.{get_or, rules, sym, subst}
-use Rattle.command_io.specs.TapeFile.{IsRefusedInput}
-use Rattle.command_io.proofs.TapeInput.{takes_at_most, refused_reading, tape_taken}
-use Rattle.command_io.proofs.TapesInput.{are_tapes, at_most_all, stops, taken_at_most, taking_more}
-use Rattle.command_io.proofs.tapes.take_tapes.Goals as goal
+use Rattle.input_files.specs.TapeFile.{IsRefusedInput}
+use Rattle.input_files.proofs.TapeInput.{takes_at_most, refused_reading, tape_taken}
+use Rattle.input_files.proofs.TapesInput.{are_tapes, at_most_all, stops, taken_at_most, taking_more}
+use Rattle.input_files.proofs.tapes.take_tapes.Goals as goal
 
 pub returns-in-Err-Tape-clause-err : goal.returns-in-Err-Tape-clause-err
 returns-in-Err-Tape-clause-err g c =

@@ -1,8 +1,8 @@
 //! Tapes taken of inputs, one of each.
 ghost use Rattle.std.specs.Prelude.{◌≡◌, ◌++◌, ◌∷◌, [], map, OnOk, IfOk, IfErr};
-ghost use Rattle.command_io.specs.Tapes.{AreTapes, AreTapesFault, TakeAtMost};
+ghost use Rattle.input_files.specs.Tapes.{AreTapes, AreTapesFault, TakeAtMost};
 
-use crate::fault::CommandFault;
+use endings::CommandFault;
 use std::alloc::{AllocError, Global};
 use std::io::Read;
 use tape_blocks::{FromError, Layout, Tape, read_with_layout};

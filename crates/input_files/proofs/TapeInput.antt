@@ -12,8 +12,8 @@ use Rattle.tape_blocks.specs.Input.{IsReadFrom, input_limit}
 use Rattle.std.proofs.Common.{Result, Ok, Err}
 use Rattle.byte_io.specs.Input.{TakesAtMost}
 use Rattle.tape_blocks.specs.Told.{IsAsTold}
-use Rattle.command_io.specs.TapeFile.{IsRefusedInput}
-use Rattle.command_io.specs.Tapes.{IsTapeTaken}
+use Rattle.input_files.specs.TapeFile.{IsRefusedInput}
+use Rattle.input_files.specs.Tapes.{IsTapeTaken}
 
 -- what a reader has left, where it tells
 abbrev pub left_of : Option (List ℕ) → List ℕ

@@ -1,7 +1,7 @@
 -- What a `?` on a failed write answers.
 use Rattle.std.proofs.Common.{◌≡◌, Result, Ok, Err, IfErr, sym, subst}
 use Rattle.std.specs.Result.{IsErrAnd}
-use Rattle.command_io.specs.declared.fault.CommandFault.{CommandFault}
+use Rattle.endings.specs.declared.command_fault.CommandFault.{CommandFault}
 
 -- a fault that is known has what holds of it
 pub fault_is : {T : Type 0} (r : Result T CommandFault) (fault : CommandFault) (P : CommandFault → Type 0) → IsErrAnd r (λ e. e ≡ fault) → P fault → IfErr r P

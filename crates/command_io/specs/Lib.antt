@@ -1,2 +1,0 @@
-pub mod TapeFile
-pub mod Tapes

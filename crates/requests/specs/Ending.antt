@@ -20,8 +20,9 @@ use Rattle.endings.specs.declared.failure.Failure.TheVariants.{FileIsThere, Part
 use Rattle.endings.specs.declared.failure.Failure.TheVariants.{CannotConnect, LineFailed, StartInDoubt, NoMemory}
 use Rattle.endings.specs.declared.status.Status.{Status}
 use Rattle.endings.specs.declared.status.Status.TheVariants.{Done, Differs, NotLoaded}
-use Rattle.requests.specs.declared.machine_fault.MachineFault.{MachineFault}
-use Rattle.requests.specs.declared.machine_fault.MachineFault.TheVariants.{Load, Look, Probe}
+use Rattle.requests.specs.declared.request_fault.RequestFault.{RequestFault}
+use Rattle.requests.specs.declared.request_fault.RequestFault.TheVariants.{Load, Look, Probe, Shelf}
+use Rattle.tape_shelf.specs.declared.shelf.ShelfFault.TheVariants as shelf
 use Rattle.input_files.specs.Opening.{Name}
 use Rattle.endings.specs.Failure.{NamesFile}
 use Rattle.endings.specs.Status.{end_status}
@@ -30,16 +31,20 @@ use Rattle.endings.specs.Status.{end_status}
 abbrev pub Names : (Name → Failure) → List ℕ → Failure → Type 0
 Names kind text failure = (name : Name) × (failure ≡ kind name) × (name.now ≡ text)
 
--- the failure that a fault at a machine is, where its console has this name, and its record or its new file that one
-abbrev pub IsFailureOf : MachineFault → List ℕ → List ℕ → Failure → Type 0
+-- the failure that a fault is, where the console has this name, and the record or the new file that one
+abbrev pub IsFailureOf : RequestFault → List ℕ → List ℕ → Failure → Type 0
 IsFailureOf (Load load.ReadRecord) console file failure = NamesFile file failure
 IsFailureOf (Load load.RecordInUse) console file failure = Names RecordInUse file failure
 IsFailureOf (Load (load.Record reason)) console file failure = failure ≡ RecordRefused reason
 IsFailureOf (Load load.WriteRecord) console file failure = Names CannotWriteFile file failure
 IsFailureOf (Look look.IsThere) console file failure = Names FileIsThere file failure
+IsFailureOf (Shelf shelf.IsThere) console file failure = Names FileIsThere file failure
 IsFailureOf (Look look.PartIsThere) console file failure = Names PartIsThere file failure
+IsFailureOf (Shelf shelf.PartIsThere) console file failure = Names PartIsThere file failure
 IsFailureOf (Look look.NotOfSave) console file failure = Names PartNotOfSave file failure
+IsFailureOf (Shelf shelf.NotOfSave) console file failure = Names PartNotOfSave file failure
 IsFailureOf (Look look.WriteTape) console file failure = Names CannotWriteFile file failure
+IsFailureOf (Shelf shelf.Write) console file failure = Names CannotWriteFile file failure
 IsFailureOf (Load load.Connect) console file failure = Names CannotConnect console failure
 IsFailureOf (Look look.Connect) console file failure = Names CannotConnect console failure
 IsFailureOf (Probe probe_fault.Connect) console file failure = Names CannotConnect console failure
@@ -49,6 +54,7 @@ IsFailureOf (Probe probe_fault.WriteOutput) console file failure = failure ≡ C
 IsFailureOf (Load load.Memory) console file failure = failure ≡ NoMemory
 IsFailureOf (Look look.Memory) console file failure = failure ≡ NoMemory
 IsFailureOf (Probe probe_fault.Memory) console file failure = failure ≡ NoMemory
+IsFailureOf (Shelf shelf.Memory) console file failure = failure ≡ NoMemory
 
 -- how a load fails whose line did: once the start was typed, or may have been, it says so
 abbrev pub line_failure : Bool → LineFault → Failure

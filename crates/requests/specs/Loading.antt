@@ -20,7 +20,7 @@ use Rattle.endings.specs.declared.status.Status.{Status}
 use Rattle.request_values.specs.declared.machine.Load.{Load as LoadRequest}
 use Rattle.input_files.specs.Opening.{Name}
 use Rattle.requests.specs.Ending.{IsEndedFailure, IsEndedStatus, IsFailureOf}
-use Rattle.requests.specs.declared.machine_fault.MachineFault.TheVariants as machine
+use Rattle.requests.specs.declared.request_fault.RequestFault.TheVariants as request_fault
 use Rattle.requests.specs.Planning.{HaveNoPlan, IsPlanned}
 use Rattle.requests.specs.Asked.{console_of}
 use Rattle.requests.specs.Moment.{Moment, intake_at}
@@ -126,7 +126,7 @@ pub record IsLoadCutShort (load : PlannedLoad) (on_disk : SaidOfDisk) (console :
   pub around' : SurroundingsTold
   pub is_so : IsLoadFault GoesOn (task load.plan load.request.options)
       (setting_of around (lines_and_out console.before) ⇒ setting_of around' (lines_and_out console.after)) fault
-  pub is_called : IsFailureOf (machine.Load fault) load.request.line.now (record_name load.request.record) failure
+  pub is_called : IsFailureOf (request_fault.Load fault) load.request.line.now (record_name load.request.record) failure
   pub asked : IsAskedBefore console.before.call console.before.asked console.after.asked fault
   pub disk : on_disk (disk_asked_before fault)
 

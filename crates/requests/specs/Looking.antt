@@ -9,7 +9,7 @@ use Rattle.machine_look.specs.declared.verify_end.VerifyEnd.{VerifyEnd}
 use Rattle.endings.specs.declared.failure.Failure.{Failure}
 use Rattle.endings.specs.declared.status.Status.{Status}
 use Rattle.requests.specs.Ending.{IsFailureOf, after_verify}
-use Rattle.requests.specs.declared.machine_fault.MachineFault.TheVariants as machine
+use Rattle.requests.specs.declared.request_fault.RequestFault.TheVariants as request_fault
 use Rattle.request_values.specs.Change.{Change, ◌⇒◌}
 use Rattle.request_values.specs.declared.machine.Look.{Look}
 use Rattle.input_files.specs.Opening.{Name}
@@ -34,7 +34,7 @@ IsPlanVerified plan look console status =
 pub record IsVerifyCutShort (plan : PlanValue) (look : Look) (console : Change ConsoleTold) (failure : Failure) : Type 0 where
   pub fault : LookFault
   pub is_so : IsVerifyFault plan look.patience console fault
-  pub is_called : IsFailureOf (machine.Look fault) look.line.now look.line.now failure
+  pub is_called : IsFailureOf (request_fault.Look fault) look.line.now look.line.now failure
 
 -- a look for a plan failed: it came to nothing, or it was reported and its line had failed
 abbrev pub IsVerifyFailure : PlanValue → Look → Change ConsoleTold → Failure → Type 0

@@ -4,16 +4,15 @@ use Rattle.record_file.specs.DiskStep.{DiskStep}
 use Rattle.tape_shelf.specs.Shelf.{NotPut, NotReserved, Put, Reserve}
 use Rattle.tape_shelf.specs.ShelfTold.{HasDone, IsDone, ShelfTold}
 use Rattle.tape_shelf.specs.declared.shelf.ShelfFault.{ShelfFault}
-use Rattle.tape_shelf.specs.declared.shelf.ShelfFault.TheVariants as shelf
 use Rattle.endings.specs.declared.failure.Failure.{Failure}
-use Rattle.endings.specs.declared.failure.Failure.TheVariants.{CannotWriteFile, FileIsThere, NoMemory, PartIsThere, PartNotOfSave}
 use Rattle.endings.specs.declared.status.Status.{Status}
 use Rattle.endings.specs.declared.status.Status.TheVariants.{Done}
 use Rattle.request_values.specs.Change.{Change, ◌⇒◌}
 use Rattle.request_values.specs.declared.request.Make.{Make}
 use Rattle.tape_commands.specs.TapeOfWords.{IsTapeMade, IsTapeUnmade}
 use Rattle.input_files.specs.Opening.{Name}
-use Rattle.requests.specs.Ending.{Names}
+use Rattle.requests.specs.Ending.{IsFailureOf}
+use Rattle.requests.specs.declared.request_fault.RequestFault.TheVariants as request_fault
 use Rattle.requests.specs.Moment.{AsksNobody, Moment, intake_at}
 use Rattle.requests.specs.Saving.{IsLetGo, new_shelf}
 
@@ -21,14 +20,6 @@ use Rattle.requests.specs.Saving.{IsLetGo, new_shelf}
 abbrev pub IsNotPutWhole : List ℕ → ShelfFault → ShelfTold → ShelfTold → Type 0
 IsNotPutWhole text fault before after =
     ((folder : List ℕ) → IsDone folder (NotReserved (length text) fault) before after) ⊎ HasDone (Reserve (length text) ∷ NotPut text fault ∷ []) before after
-
--- the failure that the fault of a new file of this name is
-abbrev pub IsShelfFailure : ShelfFault → List ℕ → Failure → Type 0
-IsShelfFailure shelf.IsThere file failure = Names FileIsThere file failure
-IsShelfFailure shelf.PartIsThere file failure = Names PartIsThere file failure
-IsShelfFailure shelf.NotOfSave file failure = Names PartNotOfSave file failure
-IsShelfFailure shelf.Write file failure = Names CannotWriteFile file failure
-IsShelfFailure shelf.Memory file failure = failure ≡ NoMemory
 
 -- a whole tape was put into a new file of this name, on a disk that told the one before and tells the other now
 pub record IsPutOn (file : Name) (text : List ℕ) (asked : Change (Option (List DiskStep))) (status : Status) : Type 0 where
@@ -43,7 +34,7 @@ pub record IsNotPutOn (file : Name) (text : List ℕ) (asked : Change (Option (L
   pub fault : ShelfFault
   pub not_put : IsNotPutWhole text fault (new_shelf file asked.before) shelf
   pub let_go : IsLetGo shelf.disk asked.after
-  pub is_called : IsShelfFailure fault file.now failure
+  pub is_called : IsFailureOf (request_fault.Shelf fault) file.now file.now failure
 
 -- no console was asked for
 pub record AsksNoConsole (moments : Change Moment) : Type 0 where

@@ -9,7 +9,7 @@ use Rattle.machine_probe.specs.declared.probe_options.ProbeOptions.{ProbeOptions
 use Rattle.endings.specs.declared.failure.Failure.{Failure}
 use Rattle.endings.specs.declared.status.Status.{Status}
 use Rattle.requests.specs.Ending.{IsFailureOf, after_probe}
-use Rattle.requests.specs.declared.machine_fault.MachineFault.TheVariants as machine
+use Rattle.requests.specs.declared.request_fault.RequestFault.TheVariants as request_fault
 use Rattle.request_values.specs.declared.machine.Probe.{Probe}
 use Rattle.request_values.specs.Change.{Change}
 use Rattle.requests.specs.Looking.{consoles_at}
@@ -28,7 +28,7 @@ IsProbeOver request console status =
 pub record IsProbeCutShort (request : Probe) (console : Change ConsoleTold) (failure : Failure) : Type 0 where
   pub fault : ProbeFault
   pub is_so : IsProbeFault (probe_options request) console.before console.after fault
-  pub is_called : IsFailureOf (machine.Probe fault) request.look.line.now request.look.line.now failure
+  pub is_called : IsFailureOf (request_fault.Probe fault) request.look.line.now request.look.line.now failure
 
 -- a probe failed: it came to nothing, or it was reported and its line had failed
 abbrev pub IsProbeFailure : Probe → Change ConsoleTold → Failure → Type 0

@@ -12,7 +12,7 @@ use Rattle.machine_look.specs.declared.saving.SaveOptions.{SaveOptions}
 use Rattle.endings.specs.declared.failure.Failure.{Failure}
 use Rattle.endings.specs.declared.status.Status.{Status}
 use Rattle.requests.specs.Ending.{IsFailureOf, IsSaveEndFailure, IsSaveEndStatus}
-use Rattle.requests.specs.declared.machine_fault.MachineFault.TheVariants as machine
+use Rattle.requests.specs.declared.request_fault.RequestFault.TheVariants as request_fault
 use Rattle.input_files.specs.Opening.{Name}
 use Rattle.request_values.specs.Change.{Change}
 use Rattle.request_values.specs.declared.machine.Save.{Save}
@@ -57,7 +57,7 @@ pub record IsSaveCutShort (save : Save) (moments : Change Moment) (failure : Fai
   pub fault : LookFault
   pub shelf : ShelfTold
   pub is_so : IsSaveFault (options_of save) (save_told_first save moments.before) (save_told shelf (console_at save.look moments.after)) fault
-  pub is_called : IsFailureOf (machine.Look fault) save.look.line.now save.file.now failure
+  pub is_called : IsFailureOf (request_fault.Look fault) save.look.line.now save.file.now failure
   pub let_go : IsLetGo shelf.disk moments.after.asked.outside.disk
 
 -- a save failed: it came to nothing, or it was reported and its line had failed

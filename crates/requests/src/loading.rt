@@ -11,8 +11,8 @@ ghost use Rattle.requests.specs.Moment.{moment};
 use crate::advice::{advise, onlooker};
 use crate::ending::after_load;
 use crate::listening::listen_behind;
-use crate::machine_fault::MachineFault;
 use crate::planning::plan_tapes;
+use crate::request_fault::RequestFault;
 use crate::system::{Kinds, System};
 use console_lines::Way;
 use endings::{Failure, FaultOutput, Output, Status, Streams};
@@ -109,7 +109,7 @@ fn load_plan<'a, S: Surroundings, W: Write, C: Clock, T: Print>(
         }
         Err(fault) => {
             let file = record_name(request.record);
-            Err(MachineFault::Load(fault).failure(request.line, file))
+            Err(RequestFault::Load(fault).failure(request.line, file))
         }
     }
 }

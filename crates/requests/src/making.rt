@@ -3,10 +3,11 @@ ghost use Rattle.std.specs.Prelude.{◌≡◌, ◌∷◌, [], length, OnOk, IfOk
 ghost use Rattle.tape_shelf.specs.Shelf.{Put, Reserve};
 ghost use Rattle.tape_shelf.specs.ShelfTold.{HasDone};
 ghost use Rattle.request_values.specs.Change.{◌⇒◌};
-ghost use Rattle.requests.specs.Making.{AreWordsMade, AreWordsUnmade, IsShelfFailure};
+ghost use Rattle.requests.specs.Making.{AreWordsMade, AreWordsUnmade};
 ghost use Rattle.requests.specs.Making.{IsNotPutOn, IsNotPutWhole, IsPutOn};
 ghost use Rattle.requests.specs.Moment.{moment};
 
+use crate::request_fault::RequestFault;
 use crate::system::{Kinds, System};
 use endings::{Failure, FaultOutput, Output, Status, Streams};
 use record_file::Disk;
@@ -68,7 +69,11 @@ fn put_on<'a, D: Disk + Drop>(
     let disk = shelf.close();
     match put {
         Ok(()) => (disk, Ok(Status::Done)),
-        Err(fault) => (disk, Err(shelf_failure(fault, file))),
+        Err(fault) => {
+            // There is no console, so that no fault names one.
+            let failure = RequestFault::Shelf(fault).failure(file, file);
+            (disk, Err(failure))
+        }
     }
 }
 
@@ -80,18 +85,5 @@ fn put_whole<S: Shelf>(alloc: Global, text: &[u8], shelf: &mut S) -> Result<(), 
     match shelf.reserve(alloc, text.len()) {
         Ok(()) => shelf.put(text),
         Err(fault) => Err(fault),
-    }
-}
-
-// The failure that the fault of a new file of this name is.
-fn shelf_failure(fault: ShelfFault, file: &str) -> Failure<'_>
-    ensures { IsShelfFailure fault file.entry.now result }
-{
-    match fault {
-        ShelfFault::IsThere => Failure::FileIsThere(file),
-        ShelfFault::PartIsThere => Failure::PartIsThere(file),
-        ShelfFault::NotOfSave => Failure::PartNotOfSave(file),
-        ShelfFault::Write => Failure::CannotWriteFile(file),
-        ShelfFault::Memory => Failure::NoMemory,
     }
 }

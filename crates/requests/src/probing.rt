@@ -5,7 +5,7 @@ ghost use Rattle.requests.specs.Moment.{moment};
 ghost use Rattle.requests.specs.Probing.{IsConsoleProbed, IsConsoleUnprobed};
 
 use crate::ending::after_probe;
-use crate::machine_fault::MachineFault;
+use crate::request_fault::RequestFault;
 use crate::system::{Kinds, System};
 use console_lines::Way;
 use endings::{Failure, FaultOutput, Output, Status, Streams};
@@ -48,7 +48,7 @@ pub(crate) fn probe_console<'a, K: Kinds, R: Read, W: Output, E: FaultOutput>(
         Ok(end) => (system, after_probe(end)),
         Err(fault) => {
             // There is no file, so that no fault names one.
-            let failure = MachineFault::Probe(fault).failure(look.line, look.line);
+            let failure = RequestFault::Probe(fault).failure(look.line, look.line);
             (system, Err(failure))
         }
     }

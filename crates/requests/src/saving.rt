@@ -6,7 +6,7 @@ ghost use Rattle.requests.specs.Saving.{AreWordsSaved, AreWordsUnsaved};
 
 use crate::advice::onlooker;
 use crate::ending::after_save;
-use crate::machine_fault::MachineFault;
+use crate::request_fault::RequestFault;
 use crate::system::{Kinds, System};
 use console_lines::Way;
 use endings::{Failure, FaultOutput, Output, Status, Streams};
@@ -61,7 +61,7 @@ pub(crate) fn save_words<'a, K: Kinds, R: Read, W: Output, E: FaultOutput, T: Pr
     match saved {
         Ok(end) => (system, after_save(end, request.file)),
         Err(fault) => {
-            let failure = MachineFault::Look(fault).failure(look.line, request.file);
+            let failure = RequestFault::Look(fault).failure(look.line, request.file);
             (system, Err(failure))
         }
     }

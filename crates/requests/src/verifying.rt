@@ -7,8 +7,8 @@ ghost use Rattle.requests.specs.Moment.{moment};
 
 use crate::advice::onlooker;
 use crate::ending::after_verify;
-use crate::machine_fault::MachineFault;
 use crate::planning::plan_tapes;
+use crate::request_fault::RequestFault;
 use crate::system::{Kinds, System};
 use console_lines::Way;
 use endings::{Failure, FaultOutput, Output, Status, Streams};
@@ -63,7 +63,7 @@ pub(crate) fn verify_tapes<'a, K: Kinds, R: Read, W: Output, E: FaultOutput, T: 
         Ok(end) => after_verify(end),
         Err(fault) => {
             // Nothing is saved, so that no fault names a file.
-            let failure = MachineFault::Look(fault).failure(look.line, look.line);
+            let failure = RequestFault::Look(fault).failure(look.line, look.line);
             Err(failure)
         }
     };

@@ -1,6 +1,8 @@
-use Rattle.std.proofs.Common.{rules, refl, sym, subst, IfOk, IfErr}
+use Rattle.std.proofs.Common.{rules, refl, subst, IfOk, IfErr}
 use Rattle.std.proofs.lemmas.Result.{IfOk-weaker, IfErr-weaker}
 use Rattle.request_values.specs.Change.{◌⇒◌}
+use Rattle.request_values.specs.declared.request.Request.TheVariants.{Tape}
+use Rattle.request_values.specs.declared.request.TapeRequest.TheVariants.{Print}
 use Rattle.requests.specs.Asked.{asked_of}
 use Rattle.requests.specs.Attempt.{IsDone, IsFailed}
 use Rattle.requests.specs.Loading.{AreUnloaded}
@@ -25,10 +27,14 @@ returns g c =
           let first = moment (asked_of (g.K.Inputs.InputFiles.opened inside.inputs) disk for_lines lines) c.args.streams.now in
           let asked = asked_of (g.K.Inputs.InputFiles.opened w.print_answer-outcome.new.inputs) disk for_lines lines in
           let after = moment asked w.print_answer-outcome.new.streams in
+          let done : IfOk outcome (IsDone (Tape (Print w.in-Tape-Print.request)) (first ⇒ after)) =
+          IfOk-weaker outcome _ _ (λ status h. (h, refl)) w.print_answer-outcome.ensures.ok in
+          let failed : IfErr outcome (IsFailed (Tape (Print w.in-Tape-Print.request)) (first ⇒ after)) =
+          IfErr-weaker outcome _ _ (λ failure h. (h, refl)) w.print_answer-outcome.ensures.err in
           rw (← w.system.view_is) (came_to c.args.request.now first c.match-request.system (asked, outcome) c.match-request.streams w.print_answer-outcome.new.streams
           w.system-is w.streams-is (record {
-            ok = subst (λ r. IfOk outcome (IsDone r (first ⇒ after))) (sym w.in-Tape-Print.is) (IfOk-weaker outcome _ _ (λ status h. (h, refl)) w.print_answer-outcome.ensures.ok);
-            err = subst (λ r. IfErr outcome (IsFailed r (first ⇒ after))) (sym w.in-Tape-Print.is) (IfErr-weaker outcome _ _ (λ failure h. (h, refl)) w.print_answer-outcome.ensures.err);
+            ok = search rules;
+            err = search rules;
             quiet = w.print_answer-outcome.ensures.quiet;
           }))
       | in-Tape-Make w ↦ came_to _ before _ w.make_words.result _ w.make_words.new.streams w.system-is w.streams-is (record {

@@ -8,7 +8,7 @@ use Rattle.machine_load.specs.Called.{asked_by}
 use Rattle.machine_load.specs.Scene.{around_of, ending, keeper_of}
 use Rattle.machine_load.specs.RecordDisk.{DiskAsked, disk_asked_by}
 use Rattle.requests.specs.Ending.{IsFailureOf}
-use Rattle.requests.specs.declared.machine_fault.MachineFault.TheVariants as machine
+use Rattle.requests.specs.declared.request_fault.RequestFault.TheVariants as request_fault
 use Rattle.requests.specs.Loading.{IsPlanReported, console_around, lines_and_out, planned_load, setting_of}
 use Rattle.requests.proofs.Loaded.{asked_by_told, disk_by_told}
 use Rattle.requests.proofs.loading.load_plan.Goals as goal
@@ -56,7 +56,7 @@ returns-in-Err-clause-err g c =
           (setting_of (around_of g.S.Surroundings c.args.around.now) (lines_and_out (console_around g.S.Surroundings g.W.Write c.args.around.now c.args.out.now))
           ⇒ setting_of (around_of g.S.Surroundings c.load.new.around) (lines_and_out (console_around g.S.Surroundings g.W.Write c.load.new.around c.load.new.out)))
           c.in-Err.fault why.fault;
-      is_called = subst (λ file. IsFailureOf (machine.Load c.in-Err.fault) c.args.request.line.now file c.failure.result) c.record_name-file.ensures c.failure.ensures;
+      is_called = subst (λ file. IsFailureOf (request_fault.Load c.in-Err.fault) c.args.request.line.now file c.failure.result) c.record_name-file.ensures c.failure.ensures;
       asked = why.asked;
       disk = why.disk;
     })

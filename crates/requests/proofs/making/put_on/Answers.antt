@@ -29,5 +29,5 @@ returns-in-Err-clause-err g c =
       fault = c.in-Err.fault;
       not_put = subst (λ shelf. IsNotPutWhole c.args.text.now c.in-Err.fault shelf last) is_new c.in-Err.ensures.err;
       let_go = c.close-disk.ensures.asked;
-      is_called = c.shelf_failure.ensures;
+      is_called = c.failure-failure.ensures;
     }

@@ -31,12 +31,9 @@ pub(crate) fn word_fields(word: Word) -> [u8; 20]
 pub(crate) fn half_line(word: Word) -> [u8; 22]
     ensures { result ≡ half_line word }
 {
-    let [a, b, c, d, e, f] = oct6(word.address());
-    let [g, h, i, j, k, l] = oct6(word.mask());
-    let [m, n, o, p, q, r] = oct6(word.value());
-    [
-        b'H', b' ', a, b, c, d, e, f, b' ', g, h, i, j, k, l, b' ', m, n, o, p, q, r,
-    ]
+    let mut text = *b"H                     ";
+    text[2..].copy_from_slice(&word_fields(word));
+    text
 }
 
 /// LF, and then a run line that begins: the word's address, a space and its value.
@@ -52,10 +49,7 @@ pub(crate) fn ended_run_text(word: Word) -> [u8; 14]
 pub(crate) fn ended_half_line(word: Word) -> [u8; 24]
     ensures { result ≡ line_end ∷ line (half_line word) }
 {
-    let [a, b, c, d, e, f] = oct6(word.address());
-    let [g, h, i, j, k, l] = oct6(word.mask());
-    let [m, n, o, p, q, r] = oct6(word.value());
-    [
-        b'\n', b'H', b' ', a, b, c, d, e, f, b' ', g, h, i, j, k, l, b' ', m, n, o, p, q, r, b'\n',
-    ]
+    let mut text = [b'\n'; 24];
+    text[1..23].copy_from_slice(&half_line(word));
+    text
 }

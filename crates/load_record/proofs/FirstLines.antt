@@ -7,7 +7,7 @@ use Rattle.host_core.specs.declared.progress.Progress.{Progress}
 use Rattle.host_core.specs.Opening.{refusal_of}
 use Rattle.load_record.specs.declared.version.Version.TheVariants.{First}
 use Rattle.load_record.specs.Lines.{mark_line}
-use Rattle.load_record.specs.Reading.{Adds, AddsWords, AddsMark, Lead, nothing}
+use Rattle.load_record.specs.Reading.{Adds, against, AddsWords, AddsMark, Lead, nothing}
 use Rattle.load_record.specs.Law.{first_lines}
 use Rattle.load_record.proofs.Sound.{IsSound, nothing-sound, adds_sound, sound-accepted, accepted-sound}
 use Rattle.load_record.proofs.SoFar.{lead-append}
@@ -73,7 +73,7 @@ mark_first plan line lines before next after m more =
     }
 
 line_between : (plan : PlanValue) (line : List ℕ) (lines : List (List ℕ)) (before next after : Progress)
-    → Adds First plan line before next → AreBetween plan lines next after → AreBetween plan (line ∷ lines) before after
+    → Adds (against First plan) line before next → AreBetween plan lines next after → AreBetween plan (line ∷ lines) before after
 line_between plan line lines before next after (inl w) more = word_between plan line lines before next after w more
 line_between plan line lines before next after (inr m) more = mark_first plan line lines before next after m more
 

@@ -7,12 +7,12 @@ use Rattle.host_core.specs.declared.progress.Progress.{Progress}
 use Rattle.load_record.specs.declared.version.Version.{Version}
 use Rattle.load_record.specs.declared.version.Version.TheVariants.{First, Second}
 use Rattle.load_record.specs.Lines.{HoldsWords}
-use Rattle.load_record.specs.Reading.{Adds, Lead, is_line_end}
+use Rattle.load_record.specs.Reading.{Adds, against, Lead, is_line_end}
 use Rattle.load_record.proofs.Runs.{torn_words, torn_short, torn_half, length-run_text}
 use Rattle.load_record.proofs.Joined.{HasNoEnd, HaveNoEnd, no_end-split, ended-split, front_of, joined, front-no_end, holds-no_end}
 use Rattle.load_record.proofs.Joined.Front.{inside, past}
 
-adds-no_end : (version : Version) (plan : PlanValue) (line : List ℕ) (before after : Progress) → Adds version plan line before after → HasNoEnd line
+adds-no_end : (version : Version) (plan : PlanValue) (line : List ℕ) (before after : Progress) → Adds (against version plan) line before after → HasNoEnd line
 adds-no_end version plan line before after (inl w) = holds-no_end version line w.words w.holds
 adds-no_end version plan line before after (inr m) = subst HasNoEnd (sym m.spelled) (refl, tt)
 
@@ -43,7 +43,7 @@ short_front Second next front short = torn_short next front 0 (omega arith)
 pub nothing_torn : (version : Version) (next : List WordValue) → torn_words version next [] ≡ 0
 nothing_torn version next = let none = short_front version next [] (omega arith) in omega arith
 
-adds_front : (version : Version) (plan : PlanValue) (line front left : List ℕ) (before after : Progress) → Adds version plan line before after → front ++ left ≡ line
+adds_front : (version : Version) (plan : PlanValue) (line front left : List ℕ) (before after : Progress) → Adds (against version plan) line before after → front ++ left ≡ line
     → before.verified + torn_words version (drop before.verified plan.words) front ≤ after.verified
 adds_front version plan line front left before after (inl w) e =
     let few = holds_front version line front left w.words w.later w.holds e in
@@ -62,7 +62,7 @@ record Grows (before after : Progress) : Type 0 where
   pub verified : before.verified ≤ after.verified
   pub going : before.going ≡ true → after.going ≡ true
 
-adds_grow : (version : Version) (plan : PlanValue) (line : List ℕ) (before after : Progress) → Adds version plan line before after → Grows before after
+adds_grow : (version : Version) (plan : PlanValue) (line : List ℕ) (before after : Progress) → Adds (against version plan) line before after → Grows before after
 adds_grow version plan line before after (inl w) =
     let n = ap (λ (p : Progress). p.verified) w.after_is in
     record { verified = omega arith; going = λ h. ap (λ (p : Progress). p.going) w.after_is ∙ h }
@@ -93,7 +93,7 @@ pub record IsCutRead (version : Version) (plan : PlanValue) (text : List ℕ) (b
 
 -- a front within one line
 within_line : (version : Version) (plan : PlanValue) (line front left : List ℕ) (before next after : Progress) (k : ℕ)
-    → Adds version plan line before next → Grows next after → after.verified ≤ k → front ++ left ≡ line → IsCutRead version plan front before k after.going
+    → Adds (against version plan) line before next → Grows next after → after.verified ≤ k → front ++ left ≡ line → IsCutRead version plan front before k after.going
 within_line version plan line front left before next after k adds grows few e = record {
   lines = [];
   torn = front;
@@ -106,7 +106,7 @@ within_line version plan line front left before next after k adds grows few e = 
 
 -- a front past one line
 past_line : (version : Version) (plan : PlanValue) (line front behind : List ℕ) (before next : Progress) (k : ℕ) (mark : Bool)
-    → Adds version plan line before next → front ≡ line ++ 10 ∷ behind → IsCutRead version plan behind next k mark → IsCutRead version plan front before k mark
+    → Adds (against version plan) line before next → front ≡ line ++ 10 ∷ behind → IsCutRead version plan behind next k mark → IsCutRead version plan front before k mark
 past_line version plan line front behind before next k mark adds e more = record {
   lines = line ∷ more.lines;
   torn = more.torn;

@@ -9,7 +9,7 @@ use Rattle.load_record.specs.declared.version.Version.TheVariants.{First, Second
 use Rattle.load_record.specs.declared.reader.RecordError.{RecordError}
 use Rattle.load_record.specs.declared.reader.RecordError.TheVariants.{NotARecord, Foreign}
 use Rattle.load_record.specs.Lines.{header, HoldsWords}
-use Rattle.load_record.specs.Reading.{IsCut, Adds, AddsWords, AddsMark, Lead, nothing, IsEmptyRecord, BeginsWithRun, IsRecord, HasNoHeader, IsForeign, Says}
+use Rattle.load_record.specs.Reading.{IsCut, Adds, against, AddsWords, AddsMark, Lead, nothing, IsEmptyRecord, BeginsWithRun, IsRecord, HasNoHeader, IsForeign, Says}
 use Rattle.load_record.proofs.Holdings.{holds_some}
 use Rattle.load_record.proofs.Runs.{torn_words, one_longest, torn_longest, no_half_run, length-run_text}
 
@@ -43,7 +43,7 @@ words_or_mark version plan line before after other w m =
     let a = m.due.all in omega arith
 
 adds_once : (version : Version) (plan : PlanValue) (line : List ℕ) (before after other : Progress)
-    → Adds version plan line before after → Adds version plan line before other → after ≡ other
+    → Adds (against version plan) line before after → Adds (against version plan) line before other → after ≡ other
 adds_once version plan line before after other (inl w) (inl u) =
     w.after_is ∙ ap (λ (n : ℕ). record { verified = before.verified + n; going = before.going }) (holds_once version line w.words u.words w.later u.later (sym w.next ∙ u.next) w.holds u.holds) ∙ sym u.after_is
 adds_once version plan line before after other (inl w) (inr m) = absurd (words_or_mark version plan line before after other w m)
@@ -59,8 +59,8 @@ lead_once version plan (line ∷ lines) before after other a b =
 
 -- where lines lead on, each of them adds something to what those before it lead to
 lead_on : (version : Version) (plan : PlanValue) (lines : List (List ℕ)) (line : List ℕ) (later : List (List ℕ)) (before reached after : Progress)
-    → Lead version plan lines before reached → Lead version plan (lines ++ line ∷ later) before after → (next : Progress) × Adds version plan line reached next
-lead_on version plan [] line later before reached after a b = (b.0, subst (λ p. Adds version plan line p b.0) (sym a) b.1)
+    → Lead version plan lines before reached → Lead version plan (lines ++ line ∷ later) before after → (next : Progress) × Adds (against version plan) line reached next
+lead_on version plan [] line later before reached after a b = (b.0, subst (λ p. Adds (against version plan) line p b.0) (sym a) b.1)
 lead_on version plan (first ∷ lines) line later before reached after a b =
     let same = adds_once version plan first before a.0 b.0 a.1 b.1 in
     lead_on version plan lines line later a.0 reached after a.2 (subst (λ p. Lead version plan (lines ++ line ∷ later) p after) (sym same) b.2)
@@ -131,8 +131,8 @@ record_or_foreign plan text p n a b =
 
 -- the first wrong line of a list is one
 one_wrong : (version : Version) (plan : PlanValue) (xs ys : List (List ℕ)) (x y : List ℕ) (p q : Progress)
-    → Lead version plan xs nothing p → ((after : Progress) → Adds version plan x p after → ⊥)
-    → Lead version plan ys nothing q → ((after : Progress) → Adds version plan y q after → ⊥)
+    → Lead version plan xs nothing p → ((after : Progress) → Adds (against version plan) x p after → ⊥)
+    → Lead version plan ys nothing q → ((after : Progress) → Adds (against version plan) y q after → ⊥)
     → Meet xs ys x y → length xs ≡ length ys
 one_wrong version plan xs ys x y p q a wrong b bad (same e) = ap length e
 one_wrong version plan xs ys x y p q a wrong b bad (past_first more e) =
@@ -144,8 +144,8 @@ one_foreign : (plan : PlanValue) (text : List ℕ) (m n : ℕ) → IsForeign pla
 one_foreign plan text m n a b =
     let s = same_lines_of text a.version b.version (a.lines ++ a.line ∷ a.later) (b.lines ++ b.line ∷ b.later) a.torn b.torn a.cut b.cut in
     let led : Lead b.version plan a.lines nothing a.reached = subst (λ v. Lead v plan a.lines nothing a.reached) s.versions a.leads in
-    let wrong : (after : Progress) → Adds b.version plan a.line a.reached after → ⊥ =
-    subst (λ v. (after : Progress) → Adds v plan a.line a.reached after → ⊥) s.versions a.wrong in
+    let wrong : (after : Progress) → Adds (against b.version plan) a.line a.reached after → ⊥ =
+    subst (λ v. (after : Progress) → Adds (against v plan) a.line a.reached after → ⊥) s.versions a.wrong in
     let l = one_wrong b.version plan a.lines b.lines a.line b.line a.reached b.reached led wrong b.leads b.wrong (meet a.lines b.lines a.later b.later a.line b.line s.same_lines) in
     let i = a.number_is in let j = b.number_is in omega arith
 

@@ -8,7 +8,7 @@ use Rattle.host_core.specs.declared.progress.Progress.{Progress}
 use Rattle.load_record.specs.declared.version.Version.{Version}
 use Rattle.load_record.specs.declared.reader.RecordError.TheVariants.{NotARecord, Foreign}
 use Rattle.load_record.specs.Lines.{header}
-use Rattle.load_record.specs.Reading.{Adds, Lead, nothing, is_line_end, HoldsTorn, Says}
+use Rattle.load_record.specs.Reading.{Adds, against, Lead, nothing, is_line_end, HoldsTorn, Says}
 use Rattle.load_record.proofs.Sound.{IsSound, nothing-sound, adds_sound, sound-accepted, torn_sound}
 
 -- the lines before what is left lead from nothing to the progress, and the last of them has this number
@@ -39,7 +39,7 @@ begun_so_far plan input first rest version cut named shorter = record {
 
 pub line_more : (plan : PlanValue) (input line rest after : List ℕ) (version : Version) (progress next : Progress) (number : ℕ)
     → IsReadSoFar plan input version progress number rest → slice_split is_line_end rest ≡ line ∷ slice_split is_line_end after
-    → length after < length rest → Adds version plan line progress next → IsReadSoFar plan input version next (number + 1) after
+    → length after < length rest → Adds (against version plan) line progress next → IsReadSoFar plan input version next (number + 1) after
 line_more plan input line rest after version progress next number so_far split shorter adds = record {
   before = so_far.before ++ line ∷ [];
   cut = so_far.cut ∙ ap (λ l. header version ∷ (so_far.before ++ l)) split ∙ ap (λ l. header version ∷ l) (sym (append_assoc so_far.before (line ∷ []) (slice_split is_line_end after)));
@@ -83,7 +83,7 @@ no_header_said plan input first rest named within cut names none =
 
 pub foreign_said : (plan : PlanValue) (input line rest after : List ℕ) (version : Version) (progress : Progress) (number : ℕ) (next : Option Progress)
     → length input ≤ 1048576 → IsReadSoFar plan input version progress number rest → slice_split is_line_end rest ≡ line ∷ slice_split is_line_end after
-    → ((p : Progress) → (next ≡ Some p) ↔ Adds version plan line progress p) → next ≡ None → Says plan input (Err (Foreign (number + 1)))
+    → ((p : Progress) → (next ≡ Some p) ↔ Adds (against version plan) line progress p) → next ≡ None → Says plan input (Err (Foreign (number + 1)))
 foreign_said plan input line rest after version progress number next within so_far split exact none =
     let e = ended after in (
       within,

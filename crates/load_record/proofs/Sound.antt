@@ -9,7 +9,7 @@ use Rattle.host_core.specs.declared.progress.BadProgress.{BadProgress}
 use Rattle.host_core.specs.declared.progress.BadProgress.TheVariants.{TooMany, EarlyMark}
 use Rattle.host_core.specs.Opening.{refusal_of}
 use Rattle.load_record.specs.declared.version.Version.{Version}
-use Rattle.load_record.specs.Reading.{Adds, nothing, HoldsTorn}
+use Rattle.load_record.specs.Reading.{Adds, against, nothing, HoldsTorn}
 
 -- no more words than the plan has, and the mark only with all of them and a start
 pub record IsSound (plan : PlanValue) (progress : Progress) : Type 0 where
@@ -77,7 +77,7 @@ further_sound plan before count s few =
     }
 
 -- a line leads to a sound progress
-pub adds_sound : (version : Version) (plan : PlanValue) (line : List ℕ) (before after : Progress) → Adds version plan line before after → IsSound plan before → IsSound plan after
+pub adds_sound : (version : Version) (plan : PlanValue) (line : List ℕ) (before after : Progress) → Adds (against version plan) line before after → IsSound plan before → IsSound plan after
 adds_sound version plan line before after (inl w) s =
     let l = ap length w.next ∙ length-append w.words w.later in
     subst (IsSound plan) (sym w.after_is) (further_sound plan before (length w.words) s (omega arith))

@@ -3,7 +3,7 @@ use Rattle.std.proofs.Common.{◌≡◌, ◌↔◌, ℕ, ◌+◌, ◌<◌, List,
 use Rattle.tape_image.specs.Plan.{PlanValue}
 use Rattle.host_core.specs.declared.progress.Progress.{Progress}
 use Rattle.load_record.specs.declared.version.Version.{Version}
-use Rattle.load_record.specs.Reading.{HoldsCount, Adds}
+use Rattle.load_record.specs.Reading.{HoldsCount, Adds, against}
 
 -- a progress with so many words more
 abbrev further : Progress → ℕ → Progress
@@ -12,7 +12,7 @@ further before count = record { verified = before.verified + count; going = befo
 -- a line that holds some words adds them, and nothing else
 pub adds_words : (version : Version) (plan : PlanValue) (line : List ℕ) (before : Progress) (count : ℕ)
     → HoldsCount version line (drop before.verified plan.words) count → 0 < count
-    → (after : Progress) → (Some (further before count) ≡ Some after) ↔ Adds version plan line before after
+    → (after : Progress) → (Some (further before count) ≡ Some after) ↔ Adds (against version plan) line before after
 adds_words version plan line before count h some after =
     let next = drop before.verified plan.words in (
       λ e. inl record {

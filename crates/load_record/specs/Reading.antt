@@ -69,15 +69,23 @@ pub record AddsMark (plan : PlanValue) (line : List ℕ) (before after : Progres
   pub due : IsMarkDue plan before
   pub after_is : after ≡ record { verified = before.verified; going = true }
 
+-- how a record is read: as one of this version, against this plan
+pub record Reading : Type 0 where
+  pub version : Version
+  pub plan : PlanValue
+
+abbrev pub against : Version → PlanValue → Reading
+against version plan = record { version = version; plan = plan }
+
 -- a line adds something to a progress
-abbrev pub Adds : Version → PlanValue → List ℕ → Progress → Progress → Type 0
-Adds version plan line before after = AddsWords version plan line before after ⊎ AddsMark plan line before after
+abbrev pub Adds : Reading → List ℕ → Progress → Progress → Type 0
+Adds reading line before after = AddsWords reading.version reading.plan line before after ⊎ AddsMark reading.plan line before after
 
 -- lines lead from one progress to another, one after the other
 abbrev pub Lead : Version → PlanValue → List (List ℕ) → Progress → Progress → Type 0
 Lead version plan [] before after = after ≡ before
 Lead version plan (line ∷ lines) before after =
-    (next : Progress) × Adds version plan line before next × Lead version plan lines next after
+    (next : Progress) × Adds (against version plan) line before next × Lead version plan lines next after
 
 -- no word and no mark
 abbrev pub nothing : Progress
@@ -118,7 +126,7 @@ pub record IsForeign (plan : PlanValue) (text : List ℕ) (number : ℕ) : Type 
   pub reached : Progress
   pub cut : IsCut text (header version ∷ (lines ++ line ∷ later)) torn
   pub leads : Lead version plan lines nothing reached
-  pub wrong : (after : Progress) → Adds version plan line reached after → ⊥
+  pub wrong : (after : Progress) → Adds (against version plan) line reached after → ⊥
   pub number_is : number ≡ length lines + 2
 
 -- the most bytes that a record may have: more than that of 28,672 words in either version (this project's choice)

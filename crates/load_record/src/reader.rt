@@ -6,7 +6,7 @@ ghost use Rattle.host_core.specs.declared.progress.Progress.{Progress};
 ghost use Rattle.host_core.specs.Opening.{refusal_of};
 ghost use Rattle.load_record.specs.declared.version.Version.TheVariants.{Second};
 ghost use Rattle.load_record.specs.Lines.{IsRunLine};
-ghost use Rattle.load_record.specs.Reading.{Adds, BeginsWithValues, HoldsCount, HoldsTorn, IsHeldFront, IsLongestHeldFront, IsMarkDue, Says, is_line_end};
+ghost use Rattle.load_record.specs.Reading.{Adds, against, BeginsWithValues, HoldsCount, HoldsTorn, IsHeldFront, IsLongestHeldFront, IsMarkDue, Says, is_line_end};
 
 use crate::line::{half_line, value_text, word_fields};
 use crate::run::{OpenRun, is_full};
@@ -106,7 +106,7 @@ fn words_after(plan: &Plan, progress: Progress) -> &[Word]
 // The progress after one more line. None where the line is neither the next words nor a due mark.
 fn read_line(version: Version, plan: &Plan, before: Progress, line: &[u8]) -> Option<Progress>
     requires { before.verified ≤ length plan.now.words }
-    ensures exact { (after : Progress) → (result ≡ Some after) ↔ Adds version plan.now line.now before after }
+    ensures exact { (after : Progress) → (result ≡ Some after) ↔ Adds (against version plan.now) line.now before after }
 {
     let count = words_held(version, words_after(plan, before), line);
     if count > 0 {

@@ -6,20 +6,20 @@ use Rattle.std.proofs.lemmas.Bool.{false≢true}
 use Rattle.std.proofs.lemmas.Bool.Decides.{Decides-eqb}
 use Rattle.std.specs.Cmp.Lexicographic.{pointwise}
 use Rattle.octal.specs.Octal.{IsOct6}
-use Rattle.loss_scripts.specs.Line.{IsNumber, HasNumber, IsPut, IsCounted}
+use Rattle.loss_scripts.specs.Line.{IsNumber, HasNumber, field, IsPut, IsCounted}
 
 -- a text has one number
 one_number : (text : List ℕ) (m n : ℕ) → IsNumber text m → IsNumber text n → m ≡ n
 one_number text m n a b = sym a.value ∙ b.value
 
 -- behind a keyword stands no number, so the line has none
-pub without_number : (text keyword rest : List ℕ) (low high : ℕ) → text ≡ keyword ++ rest → ((n : ℕ) → IsNumber rest n → ⊥) → (n : ℕ) → HasNumber text keyword low high n → ⊥
+pub without_number : (text keyword rest : List ℕ) (low high : ℕ) → text ≡ keyword ++ rest → ((n : ℕ) → IsNumber rest n → ⊥) → (n : ℕ) → HasNumber text (field keyword low high) n → ⊥
 without_number text keyword rest low high here none n has =
     let same = append_cancel_left keyword has.rest rest (sym has.spelled ∙ here) in
     none n (subst (λ r. IsNumber r n) same has.number)
 
 -- the number behind the keyword is the one that is there
-pub that_number : (text keyword rest : List ℕ) (low high m n : ℕ) → text ≡ keyword ++ rest → IsNumber rest m → HasNumber text keyword low high n → n ≡ m
+pub that_number : (text keyword rest : List ℕ) (low high m n : ℕ) → text ≡ keyword ++ rest → IsNumber rest m → HasNumber text (field keyword low high) n → n ≡ m
 that_number text keyword rest low high m n here is has =
     let same = append_cancel_left keyword has.rest rest (sym has.spelled ∙ here) in
     one_number rest n m (subst (λ r. IsNumber r n) same has.number) is
@@ -28,7 +28,7 @@ that_number text keyword rest low high m n here is has =
 pub other : {P : Type 0} (test : Bool) → (IsTrue test ↔ P) → test ≡ false → P → ⊥
 other test is off p = false≢true (sym off ∙ is.1 p)
 
-pub not_counted : (o : Option ℕ) (text alone counted : List ℕ) → (text ≡ alone → ⊥) → IfNone o ((n : ℕ) → HasNumber text counted 1 1000000 n → ⊥) → IfNone o ((n : ℕ) → IsCounted text alone counted n → ⊥)
+pub not_counted : (o : Option ℕ) (text alone counted : List ℕ) → (text ≡ alone → ⊥) → IfNone o ((n : ℕ) → HasNumber text (field counted 1 1000000) n → ⊥) → IfNone o ((n : ℕ) → IsCounted text alone counted n → ⊥)
 not_counted (Some x) text alone counted not_alone none = none
 not_counted None text alone counted not_alone none = λ n h. ⊎_elim (λ once. not_alone once.0) (none n) h
 

@@ -13,7 +13,7 @@ use Rattle.loss_scripts.specs.declared.line.Setting.{Setting}
 use Rattle.loss_scripts.specs.declared.line.Setting.TheVariants.{Words, OfStyle, Patience, Wait, Put}
 use Rattle.loss_scripts.specs.declared.line.ScriptLine.{ScriptLine}
 use Rattle.loss_scripts.specs.declared.line.ScriptLine.TheVariants as line
-use Rattle.loss_scripts.specs.Line.{HasNumber, AreCodes, IsSetting, IsStep, IsLine}
+use Rattle.loss_scripts.specs.Line.{HasNumber, field, AreCodes, IsSetting, IsStep, IsLine}
 use Rattle.loss_scripts.proofs.Forms.{put_parts}
 
 -- the characters of codes
@@ -64,10 +64,10 @@ by_letter first second text =
 abbrev meaning : List ℕ → ScriptLine
 meaning text = by_letter (get_or text 0 35) (get_or text 1 0) text
 
-numbered : (text keyword : List ℕ) (low high n : ℕ) (said : ℕ → ScriptLine) → ((rest : List ℕ) → meaning (keyword ++ rest) ≡ said (digits_value 10 rest)) → HasNumber text keyword low high n → meaning text ≡ said n
+numbered : (text keyword : List ℕ) (low high n : ℕ) (said : ℕ → ScriptLine) → ((rest : List ℕ) → meaning (keyword ++ rest) ≡ said (digits_value 10 rest)) → HasNumber text (field keyword low high) n → meaning text ≡ said n
 numbered text keyword low high n said computes has = ap meaning has.spelled ∙ computes has.rest ∙ ap said has.number.value
 
-counted : (text keyword : List ℕ) (n : ℕ) (said : ℕ → ScriptLine) → ((rest : List ℕ) → 0 < length rest → meaning (keyword ++ rest) ≡ said (digits_value 10 rest)) → HasNumber text keyword 1 1000000 n → meaning text ≡ said n
+counted : (text keyword : List ℕ) (n : ℕ) (said : ℕ → ScriptLine) → ((rest : List ℕ) → 0 < length rest → meaning (keyword ++ rest) ≡ said (digits_value 10 rest)) → HasNumber text (field keyword 1 1000000) n → meaning text ≡ said n
 counted text keyword n said computes has = ap meaning has.spelled ∙ computes has.rest has.number.some ∙ ap said has.number.value
 
 take_times : (rest : List ℕ) → 0 < length rest → meaning (codes "take " ++ rest) ≡ line.Step (Times Take (digits_value 10 rest))

@@ -33,13 +33,22 @@ last_place = 255
 abbrev pub most_times : ℕ
 most_times = 1000000
 
+-- a form of line that has one number: its keyword, the least number that it may have and the largest
+pub record Field : Type 0 where
+  pub keyword : List ℕ
+  pub low : ℕ
+  pub high : ℕ
+
+abbrev pub field : List ℕ → ℕ → ℕ → Field
+field keyword low high = record { keyword = keyword; low = low; high = high }
+
 -- a keyword with its space, and then a number from low to high
-pub record HasNumber (text keyword : List ℕ) (low high n : ℕ) : Type 0 where
+pub record HasNumber (text : List ℕ) (field : Field) (n : ℕ) : Type 0 where
   pub rest : List ℕ
-  pub spelled : text ≡ keyword ++ rest
+  pub spelled : text ≡ field.keyword ++ rest
   pub number : IsNumber rest n
-  pub above : low ≤ n
-  pub below : n ≤ high
+  pub above : field.low ≤ n
+  pub below : n ≤ field.high
 
 -- the text begins with the code of a character: a space and two hexadecimal digits, letters in either case
 pub record BeginsWithCode (text : List ℕ) (c : ℕ) (rest : List ℕ) : Type 0 where
@@ -73,25 +82,25 @@ pub record IsPut (text : List ℕ) (address value : ℕ) : Type 0 where
 
 -- what a setup line says, one row for each form
 abbrev pub IsSetting : List ℕ → Setting → Type 0
-IsSetting text (Words n) = HasNumber text (codes "words ") 0 largest_words n
-IsSetting text (OfStyle style) = HasNumber text (codes "style ") 0 largest_style (style_number style)
-IsSetting text (Patience n) = HasNumber text (codes "patience ") 0 largest_number n
+IsSetting text (Words n) = HasNumber text (field (codes "words ") 0 largest_words) n
+IsSetting text (OfStyle style) = HasNumber text (field (codes "style ") 0 largest_style) (style_number style)
+IsSetting text (Patience n) = HasNumber text (field (codes "patience ") 0 largest_number) n
 IsSetting text (Wait waiting) = IsWait text waiting.items
 IsSetting text (Put address value) = IsPut text address value
 
 -- an event so many times: the keyword alone for once, or with a count
 abbrev pub IsCounted : List ℕ → List ℕ → List ℕ → ℕ → Type 0
-IsCounted text alone counted n = ((text ≡ alone) × (n ≡ 1)) ⊎ HasNumber text counted 1 most_times n
+IsCounted text alone counted n = ((text ≡ alone) × (n ≡ 1)) ⊎ HasNumber text (field counted 1 most_times) n
 
 -- what an event line says, one row for each form
 abbrev pub IsStep : List ℕ → ScriptStep → Type 0
 IsStep text (Times Take n) = IsCounted text (codes "take") (codes "take ") n
 IsStep text (Times Hear n) = IsCounted text (codes "hear") (codes "hear ") n
-IsStep text (Times (LoseDown k) n) = HasNumber text (codes "down ") 0 last_place k × (n ≡ 1)
-IsStep text (Times (LoseUp k) n) = HasNumber text (codes "up ") 0 last_place k × (n ≡ 1)
+IsStep text (Times (LoseDown k) n) = HasNumber text (field (codes "down ") 0 last_place) k × (n ≡ 1)
+IsStep text (Times (LoseUp k) n) = HasNumber text (field (codes "up ") 0 last_place) k × (n ≡ 1)
 IsStep text (Times Quiet n) = (text ≡ codes "quiet") × (n ≡ 1)
-IsStep text (Times (Restart k) n) = HasNumber text (codes "restart ") 0 largest_number k × (n ≡ 1)
-IsStep text (Until n) = HasNumber text (codes "to ") 1 largest_number n
+IsStep text (Times (Restart k) n) = HasNumber text (field (codes "restart ") 0 largest_number) k × (n ≡ 1)
+IsStep text (Until n) = HasNumber text (field (codes "to ") 1 largest_number) n
 IsStep text Clean = text ≡ codes "clean"
 
 -- an empty line, or a comment, which begins with a number sign

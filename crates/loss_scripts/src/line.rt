@@ -1,6 +1,6 @@
 //! The lines of a script: what each says, by its form.
 ghost use Rattle.std.specs.Prelude.{◌≡◌, ℕ, ◌+◌, ◌-◌, ◌*◌, ◌<◌, ◌≤◌, ◌++◌, List, IfSome, IfNone, IsTrue, ◌↔◌, codes};
-ghost use Rattle.loss_scripts.specs.Line.{IsNumber, HasNumber, IsWait, IsPut, IsSetting, IsCounted, BeginsWithCode, IsStep, IsLine};
+ghost use Rattle.loss_scripts.specs.Line.{IsNumber, HasNumber, field, IsWait, IsPut, IsSetting, IsCounted, BeginsWithCode, IsStep, IsLine};
 ghost use Rattle.octal.specs.Octal.{IsOct6};
 ghost use Rattle.odt_machine.specs.Style.{largest_style, style_number};
 
@@ -104,8 +104,8 @@ fn rest_after<'a>(text: &'a [u8], keyword: &[u8]) -> Option<&'a [u8]>
 
 // The number behind a keyword, where it lies from `low` to `high`.
 fn number_after(text: &[u8], keyword: &[u8], low: u32, high: u32) -> Option<u32>
-    ensures found { IfSome result (HasNumber text.now keyword.now low high) }
-    ensures none { IfNone result ((n : ℕ) → HasNumber text.now keyword.now low high n → ⊥) }
+    ensures found { IfSome result (HasNumber text.now (field keyword.now low high)) }
+    ensures none { IfNone result ((n : ℕ) → HasNumber text.now (field keyword.now low high) n → ⊥) }
     ensures below { IfSome result (λ n. n ≤ high) }
 {
     let rest = rest_after(text, keyword)?;
@@ -190,8 +190,8 @@ fn put(text: &[u8]) -> Option<(u16, u16)>
 
 // The style of a line that names it.
 fn style(text: &[u8]) -> Option<Style>
-    ensures found { IfSome result (λ style. HasNumber text.now (codes "style ") 0 largest_style (style_number style)) }
-    ensures none { IfNone result ((n : ℕ) → HasNumber text.now (codes "style ") 0 largest_style n → ⊥) }
+    ensures found { IfSome result (λ style. HasNumber text.now (field (codes "style ") 0 largest_style) (style_number style)) }
+    ensures none { IfNone result ((n : ℕ) → HasNumber text.now (field (codes "style ") 0 largest_style) n → ⊥) }
 {
     let number = number_after(text, b"style ", 0, LAST_STYLE)?;
     Style::from_number(number as u8)

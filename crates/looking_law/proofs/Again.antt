@@ -9,7 +9,7 @@ use Rattle.reading_core.specs.Laws.{led}
 use Rattle.reading_core.specs.Reader.{Reader}
 use Rattle.reading_core.proofs.Lives.{led_addresses}
 use Rattle.looking_law.specs.Harmless.{HoldsRead}
-use Rattle.looking_law.specs.Again.{IsSame, OneLineFindsTheWordAgain, ProbesFindTheWordAgain, looker}
+use Rattle.looking_law.specs.Again.{FindsTheWordAgain, OneLineFindsTheWordAgain, Probing, ProbesFindTheWordAgain, looker_of}
 use Rattle.looking_law.specs.Runs.{AreHarmless, IsBorneOut, MayBeSuchAHost, Look, Run, Try}
 use Rattle.looking_law.proofs.Runs.{IsHarmless, no_harm, run_harmless}
 
@@ -40,33 +40,52 @@ same_read memory r s same first second one once =
 looks : (address patience : ℕ) (heard : List Heard) → IsAddress address → patience < 2 ^ 32 → MayBeSuchAHost (Look (address ∷ []) patience heard)
 looks address patience heard is long = (one_address address is, long)
 
-same_learned : (memory now : List ℕ) (address patience lost more : ℕ) (first second : List Heard) → now ≡ memory →
-    IsBorneOut memory lost (Look (address ∷ []) patience first) → IsBorneOut memory more (Look (address ∷ []) patience second) →
-    IsSame memory now (led (looker address patience) first).values (led (looker address patience) second).values
-same_learned memory now address patience lost more first second same one other =
-    let r : Reader = looker address patience in
-    record { memory = same; again = same_read memory (led r first) (led r second) (led_addresses r second ∙ sym (led_addresses r first)) one.read other.read }
+same_learned : (probing : Probing) (lost more : ℕ) → probing.behind.memory ≡ probing.before.memory → IsBorneOut probing.before.memory lost (Look (probing.address ∷ []) probing.patience probing.first) →
+    IsBorneOut probing.before.memory more (Look (probing.address ∷ []) probing.patience probing.second) → FindsTheWordAgain probing
+same_learned probing lost more same one other =
+    let r : Reader = looker_of probing in
+    record {
+      memory = same;
+      again = same_read probing.before.memory (led r probing.first) (led r probing.second) (led_addresses r probing.second ∙ sym (led_addresses r probing.first)) one.read other.read;
+    }
 
 pub find_again : ProbesFindTheWordAgain
-find_again a b c d address old patience first trying second lost_first lost_trying lost_second ready is long looked tried again =
-    let one : IsHarmless a (Look (address ∷ []) patience first) lost_first b = run_harmless (Look (address ∷ []) patience first) a b lost_first ready (looks address patience first is long) looked in
-    let two : IsHarmless b (Try address old patience trying) lost_trying c = run_harmless (Try address old patience trying) b c lost_trying one.ready (is, long) tried in
-    let three : IsHarmless c (Look (address ∷ []) patience second) lost_second d =
-    run_harmless (Look (address ∷ []) patience second) c d lost_second two.ready (looks address patience second is long) again in
-    let between : c.memory ≡ a.memory = two.memory ∙ one.memory in
-    same_learned a.memory d.memory address patience lost_first lost_second first second (three.memory ∙ between) one.learned
-    (subst (λ memory. IsBorneOut memory lost_second (Look (address ∷ []) patience second)) between three.learned)
+find_again probing may over =
+    same_learned probing over.lost_first over.lost_second (three.memory ∙ between) one.learned
+    (subst (λ memory. IsBorneOut memory over.lost_second look_again) between three.learned)
+  where
+    look : Run
+    look = Look (probing.address ∷ []) probing.patience probing.first
+
+    trial : Run
+    trial = Try probing.address probing.old probing.patience probing.trying
+
+    look_again : Run
+    look_again = Look (probing.address ∷ []) probing.patience probing.second
+
+    one : IsHarmless probing.before look over.lost_first over.tried_at
+    one = run_harmless look probing.before over.tried_at over.lost_first may.ready (looks probing.address probing.patience probing.first may.address may.patient) over.looks
+
+    two : IsHarmless over.tried_at trial over.lost_trying over.looked_again_at
+    two = run_harmless trial over.tried_at over.looked_again_at over.lost_trying one.ready (may.address, may.patient) over.tries
+
+    three : IsHarmless over.looked_again_at look_again over.lost_second probing.behind
+    three = run_harmless look_again over.looked_again_at probing.behind over.lost_second two.ready (looks probing.address probing.patience probing.second may.address may.patient) over.looks_again
+
+    between : over.looked_again_at.memory ≡ probing.before.memory
+    between = two.memory ∙ one.memory
 
 pub one_line : OneLineFindsTheWordAgain
-one_line machine now address old patience lost first trying second told ready is long are honest =
-    let one : Run = Look (address ∷ []) patience first in
-    let two : Run = Try address old patience trying in
-    let three : Run = Look (address ∷ []) patience second in
+one_line probing may over =
+    let one : Run = Look (probing.address ∷ []) probing.patience probing.first in
+    let two : Run = Try probing.address probing.old probing.patience probing.trying in
+    let three : Run = Look (probing.address ∷ []) probing.patience probing.second in
     let runs : All MayBeSuchAHost (one ∷ two ∷ three ∷ []) =
-    All-cons MayBeSuchAHost one (two ∷ three ∷ []) (looks address patience first is long)
-    (All-cons MayBeSuchAHost two (three ∷ []) (is, long) (All-cons MayBeSuchAHost three [] (looks address patience second is long) (All-nil MayBeSuchAHost))) in
-    let all : AreHarmless machine (one ∷ two ∷ three ∷ []) lost now = no_harm machine now (one ∷ two ∷ three ∷ []) told lost ready runs are honest in
-    let P : Run → Type 0 = IsBorneOut machine.memory lost in
-    same_learned machine.memory now.memory address patience lost lost first second all.memory
+    All-cons MayBeSuchAHost one (two ∷ three ∷ []) (looks probing.address probing.patience probing.first may.address may.patient)
+    (All-cons MayBeSuchAHost two (three ∷ []) (may.address, may.patient)
+    (All-cons MayBeSuchAHost three [] (looks probing.address probing.patience probing.second may.address may.patient) (All-nil MayBeSuchAHost))) in
+    let all : AreHarmless probing.before (one ∷ two ∷ three ∷ []) over.lost probing.behind = no_harm probing.before probing.behind (one ∷ two ∷ three ∷ []) over.told over.lost may.ready runs over.are_told over.honest in
+    let P : Run → Type 0 = IsBorneOut probing.before.memory over.lost in
+    same_learned probing over.lost over.lost all.memory
     (All-head P one (two ∷ three ∷ []) all.learned)
     (All-head P three [] (All-tail P two (three ∷ []) (All-tail P one (two ∷ three ∷ []) all.learned)))

@@ -162,10 +162,16 @@ module _ (program : Program) (m : Machine) (farewell : List ℕ) (good : IsHaltT
       empty up left chunk later none under = ap (λ l. l ++ goodbye left farewell) none ∙ ap (λ l. goodbye l farewell) under
 
 pub are_stations : StubsAreStations
-are_stations program place stretches m farewell x y what is good seven sends ran =
-    let seen = are_seen_so place stretches x y what is ran in
+are_stations program place stretches m run is may =
+    let x = run.before in
+    let seen = are_seen_so place stretches x run.behind run.what is may.ran in
     let rising = rises place (stub_end place stretches) (top_of x.machine.memory) (pieces stretches) (chunks_fit place (stub_end place stretches) (top_of x.machine.memory) stretches is.stands.fit) in
-    (seen.0, passes program m farewell good (opened stretches x) seen.0 what record { fine = record { wide = is.wide; rising = rising; under = first_under (pieces stretches) rising; high = tt }; seven = seven } sends seen.1, seen.2)
+    record {
+      link = seen.0;
+      passes = passes program m run.farewell may.farewell (opened stretches x) seen.0 run.what
+          (record { fine = record { wide = is.wide; rising = rising; under = first_under (pieces stretches) rising; high = tt }; seven = may.under_way }) may.sends seen.1;
+      shows = seen.2;
+    }
 
 pub begin_fresh : StubsBeginFresh
 begin_fresh m memory chunk stretches = ap (running m memory ((chunk ∷ stretches))) (none chunk.from)

@@ -48,7 +48,7 @@ use Rattle.exchange_law.specs.Unsettled.{IsForStub, IsUnsettled, MayFill, Untouc
 use Rattle.exchange_law.proofs.Texts.{each_removed}
 use Rattle.exchange_law.proofs.Words.{lies_same, still_stands}
 use Rattle.exchange_law.specs.Mirror.{IsJustAMachine, wire_at}
-use Rattle.exchange_law.specs.Recovery.{HasStarted, HostsRecover, IsInOrder, IsLater}
+use Rattle.exchange_law.specs.Recovery.{HasStarted, HostsRecover, IsInOrder, IsLaterAt}
 use Rattle.exchange_law.proofs.Mirrors.{IsMirrored, mirrored, no_first, none_begun, none_removed, passes_said}
 use Rattle.exchange_law.proofs.Starting.{AtRest, RunsAtStart, StartedRests, going_at, rests_events, runs_events, unmarked_still}
 use Rattle.exchange_law.proofs.Resettling.{IsOver, Settling, lost_grows, over_move, settling_move, untouched_same}
@@ -677,11 +677,12 @@ waiting_at_first program R plan k patience x host region line = record {
 }
 
 pub hosts_recover : HostsRecover
-hosts_recover program tape verified core things x y may passes =
-    let waits : Waiting program (IsLater tape verified) x.station.machine.memory x.lost core x =
-    subst (λ c. Waiting program (IsLater tape verified) x.station.machine.memory x.lost c x) (sym may.at_first)
-    (waiting_at_first program (IsLater tape verified) core.plan core.verified core.patience x (subst IsHost may.at_first may.host) (record { others = may.beside; first = may.stand }) may.line) in
-    let c = came program (IsLater tape verified) x.station.machine.memory x.lost things core x y waits passes in record {
+hosts_recover at core things y may passes =
+    let x = at.found in
+    let waits : Waiting at.program (IsLaterAt at) x.station.machine.memory x.lost core x =
+    subst (λ c. Waiting at.program (IsLaterAt at) x.station.machine.memory x.lost c x) (sym may.at_first)
+    (waiting_at_first at.program (IsLaterAt at) core.plan core.verified core.patience x (subst IsHost may.at_first may.host) (record { others = may.beside; first = may.stand }) may.line) in
+    let c = came at.program (IsLaterAt at) x.station.machine.memory x.lost things core x y waits passes in record {
       safe = record { verified = c.safe.verified; size = c.safe.size; outside = c.safe.outside; going = c.safe.going };
       last = subst EndsAtGo (sym (keys_of-dialogue things core)) c.last;
       marked = λ h. c.marked (subst (λ keys. Contains keys 71) (keys_of-dialogue things core) h);

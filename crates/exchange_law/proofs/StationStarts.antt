@@ -1,7 +1,6 @@
 -- From ODT's `G` on.
 use Rattle.std.proofs.Common.{◌≡◌, ℕ, ◌+◌, ◌-◌, ◌<◌, ◌≤◌, false, List, ◌∷◌, ◌++◌, length, Option, Some, arith, ap, sym, subst, ◌∙◌, append-nil}
 use Rattle.odt_machine.specs.Machine.{Machine as OdtMachine, IsWide, largest_words}
-use Rattle.odt_machine.specs.KeyTable.{after_key}
 use Rattle.processor.specs.Machine.{Machine}
 use Rattle.exchange_core.specs.declared.stretch.Stretch.{Stretch}
 use Rattle.exchange_core.specs.Stretch.{cut, pieces, piece_end}
@@ -14,15 +13,15 @@ use Rattle.stub.specs.Seen.{opened, held}
 use Rattle.stub.proofs.Cuts.{Cut, cut_some}
 use Rattle.stub.proofs.Decoding.{are_found}
 use Rattle.exchange_law.specs.StubStation.{station, goodbye, as_line, items_of}
-use Rattle.exchange_law.specs.Start.{program, chunks_of, StartsStub, IsStartedBy, line_of, StartedStubsAreStations}
+use Rattle.exchange_law.specs.Start.{program, chunks_of, Start, StartsStub, IsStartedBy, left_by, line_of, StartedStubsAreStations}
 use Rattle.exchange_law.proofs.Lines.{are_stations, begin_fresh}
 
 -- it is where the stub's law begins
-pub started : (odt : OdtMachine) (key place : ℕ) (stretch : Stretch) (stretches : List Stretch) (m : Machine) → StartsStub odt key place stretch stretches → IsStartedBy (after_key odt key) place m → IsStarted place (stretch ∷ stretches) m
-started odt key place stretch stretches m starts by = record {
+pub started : (start : Start) (m : Machine) → StartsStub start → IsStartedBy (left_by start) start.place m → IsStarted start.place (start.stretch ∷ start.stretches) m
+started start m starts by = record {
   size = subst (λ memory. length memory ≤ largest_words) (sym by.memory) starts.console.size;
   wide = subst IsWide (sym by.memory) starts.console.wide;
-  stands = subst (λ memory. StubStands memory place (stretch ∷ stretches)) (sym by.memory) ((are_found (after_key odt key).memory place (stretch ∷ stretches)).0 starts.found);
+  stands = subst (λ memory. StubStands memory start.place (start.stretch ∷ start.stretches)) (sym by.memory) ((are_found (left_by start).memory start.place (start.stretch ∷ start.stretches)).0 starts.found);
   pc = by.pc;
   running = by.running;
   fetched = by.fetched;
@@ -48,11 +47,11 @@ some_pieces stretch stretches rising =
     all from to rising = omega arith
 
 -- the station that ODT leaves is that of a stub that has just begun
-pub left_so : (odt : OdtMachine) (key place : ℕ) (stretch : Stretch) (stretches : List Stretch) → StartsStub odt key place stretch stretches → stretch.from < stretch.to →
-    after_odt program odt key ≡ station (after_key odt key) (begun (after_key odt key).memory (pieces (stretch ∷ stretches)))
-left_so odt key place stretch stretches starts rising =
-    let some = some_pieces stretch stretches rising in
-    let now : OdtMachine = after_key odt key in
+pub left_so : (start : Start) → StartsStub start → start.stretch.from < start.stretch.to →
+    after_odt program start.odt start.key ≡ station (left_by start) (begun (left_by start).memory (pieces (start.stretch ∷ start.stretches)))
+left_so start starts rising =
+    let some = some_pieces start.stretch start.stretches rising in
+    let now : OdtMachine = left_by start in
     ap (λ b. record { machine = now; stub = begins program b now.memory now.mode }) starts.still
     ∙ (ap (λ mode. record { machine = now; stub = begins program false now.memory mode }) starts.goes
     ∙ (ap (λ (stub : Option (List Stretch)). record { machine = now; stub = fresh (chunks_of stub) }) starts.found
@@ -61,14 +60,16 @@ left_so odt key place stretch stretches starts rising =
     ∙ ap (λ those. station now (begun now.memory those)) (sym some.are)))))
 
 pub started_are_stations : StartedStubsAreStations
-started_are_stations odt key place stretch stretches farewell x y what starts by good seven sends ran =
-    let is : IsStarted place (stretch ∷ stretches) x.machine = started odt key place stretch stretches x.machine starts by in
-    let now : OdtMachine = after_key odt key in
-    let rising : stretch.from < stretch.to = is.stands.fit.0.rising in
-    let some = some_pieces stretch stretches rising in
-    let passed = are_stations program place (stretch ∷ stretches) now farewell x y what is good seven sends ran in
-    let same : as_line now farewell (opened (stretch ∷ stretches) x) ≡ line_of (after_odt program odt key) x =
-    ap (λ up. record { station = station now (begun x.machine.memory (pieces (stretch ∷ stretches))); down = held x.machine.console ++ x.down; up = up; lost = x.lost })
-    (ap (λ those. (x.up ++ waiting x.machine.console) ++ goodbye those farewell) some.are ∙ append-nil (x.up ++ waiting x.machine.console))
-    ∙ ap (λ s. line_of s x) (ap (λ memory. station now (begun memory (pieces (stretch ∷ stretches)))) by.memory ∙ sym (left_so odt key place stretch stretches starts rising)) in
-    (passed.0, subst (λ (l : Line). Passes program l (items_of what) (as_line now farewell passed.0)) same passed.1, passed.2)
+started_are_stations start run starts by may =
+    let x = run.before in
+    let all : List Stretch = start.stretch ∷ start.stretches in
+    let is : IsStarted start.place all x.machine = started start x.machine starts by in
+    let now : OdtMachine = left_by start in
+    let rising : start.stretch.from < start.stretch.to = is.stands.fit.0.rising in
+    let some = some_pieces start.stretch start.stretches rising in
+    let passed = are_stations program start.place all now run is may in
+    let same : as_line now run.farewell (opened all x) ≡ line_of (after_odt program start.odt start.key) x =
+    ap (λ up. record { station = station now (begun x.machine.memory (pieces all)); down = held x.machine.console ++ x.down; up = up; lost = x.lost })
+    (ap (λ those. (x.up ++ waiting x.machine.console) ++ goodbye those run.farewell) some.are ∙ append-nil (x.up ++ waiting x.machine.console))
+    ∙ ap (λ s. line_of s x) (ap (λ memory. station now (begun memory (pieces all))) by.memory ∙ sym (left_so start starts rising)) in
+    record { link = passed.link; passes = subst (λ (l : Line). Passes program l (items_of run.what) (as_line now run.farewell passed.link)) same passed.passes; shows = passed.shows }

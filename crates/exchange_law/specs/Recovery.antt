@@ -32,13 +32,24 @@ pub record IsLater (tape : PlanValue) (verified : ℕ) (b : ℕ) : Type 0 where
 abbrev pub IsBeside : PlanValue → ℕ → PlanValue → ℕ → Type 0
 IsBeside tape verified plan first = (i : ℕ) → i < first → (b : ℕ) → gives (word_nr plan.words i) b ≡ true → IsLater tape verified b → ⊥
 
+-- a line behind an exchange: which stubs a program is, the tape of the exchange and how many of its words count as verified, and how the line was found
+pub record LineBehind : Type 0 where
+  pub program : Program
+  pub tape : PlanValue
+  pub verified : ℕ
+  pub found : Link
+
+-- a byte that a stub may still change there
+abbrev pub IsLaterAt : LineBehind → ℕ → Type 0
+IsLaterAt at = IsLater at.tape at.verified
+
 -- an ordinary host, of the tape's plan or of another, may begin over such a line: what it counts as verified stands there, and no stub may change it
-pub record MayRecover (program : Program) (tape : PlanValue) (verified : ℕ) (core : Core) (x : Link) : Type 0 where
+pub record MayRecover (at : LineBehind) (core : Core) : Type 0 where
   pub host : IsHost core
   pub at_first : core ≡ begun core.plan core.verified false core.patience
-  pub stand : FirstStand core.plan.words core.verified x.station.machine.memory
-  pub beside : IsBeside tape verified core.plan core.verified
-  pub line : IsUnsettled program (IsLater tape verified) x
+  pub stand : FirstStand core.plan.words core.verified at.found.station.machine.memory
+  pub beside : IsBeside at.tape at.verified core.plan core.verified
+  pub line : IsUnsettled at.program (IsLaterAt at) at.found
 
 -- what counts as verified stands; outside the host's own image each byte is what it was, but for those that a stub may change; and with the mark every
 -- word stands
@@ -74,21 +85,20 @@ pub record IsPaid (core : Core) (now : List ℕ) (lost : ℕ) : Type 0 where
   pub spent : core.spent ≤ lost
   pub cause : HasCause core.phase now core.patience core.spent lost
 
--- what came of a host that began at one line, became a core and sent these keys
-pub record IsTrustedBehind (program : Program) (tape : PlanValue) (verified : ℕ) (x : Link) (core : Core) (keys : List ℕ) (y : Link) : Type 0 where
-  pub safe : IsSafeBut tape verified x.station.machine.memory core y.station.machine.memory
+-- what came of a host that began at such a line, became a core, sent these keys and left the line so
+pub record IsTrustedBehind (at : LineBehind) (core : Core) (keys : List ℕ) (left : Link) : Type 0 where
+  pub safe : IsSafeBut at.tape at.verified at.found.station.machine.memory core left.station.machine.memory
   -- `G` is the last of its keys if it is one of them, and exactly then the mark is set
   pub last : EndsAtGo keys
   pub marked : Contains keys go → core.going ≡ true
   pub typed : core.going ≡ true → Contains keys go
-  pub started : core.phase ≡ Ended Started → HasStarted program core y
-  pub leaves : Leaves program tape verified core y
+  pub started : core.phase ≡ Ended Started → HasStarted at.program core left
+  pub leaves : Leaves at.program at.tape at.verified core left
   -- its losses pay, and one more: a stub that it finds running halts at the first `Z`, which nobody answers
-  pub paid : IsPaid core y.station.machine.memory (y.lost + 1 - x.lost)
+  pub paid : IsPaid core left.station.machine.memory (left.lost + 1 - at.found.lost)
 
 -- an ordinary host may be trusted that begins over such a line, whatever the stub is in the middle of and whatever is under way
 abbrev pub HostsRecover : Type 0
 HostsRecover =
-    (program : Program) (tape : PlanValue) (verified : ℕ) (core : Core) (things : List Heard) (x y : Link) →
-    MayRecover program tape verified core x → Passes program x (dialogue core things) y →
-    IsTrustedBehind program tape verified x (led core things) (keys_of (dialogue core things)) y
+    (at : LineBehind) (core : Core) (things : List Heard) (left : Link) → MayRecover at core →
+    Passes at.program at.found (dialogue core things) left → IsTrustedBehind at (led core things) (keys_of (dialogue core things)) left

@@ -7,12 +7,12 @@ use Rattle.odt_machine.specs.declared.mode.Mode.TheVariants.{Running}
 use Rattle.processor.specs.Machine.{Machine, Runs}
 use Rattle.exchange_core.specs.declared.stretch.Stretch.{Stretch}
 use Rattle.exchange_core.specs.Stretch.{pieces}
-use Rattle.exchange_law.specs.Station.{Station, Program, IsHaltText, Each, after_odt}
-use Rattle.exchange_law.specs.Line.{Link as Line, Passes}
+use Rattle.exchange_law.specs.Station.{Station, Program, after_odt}
+use Rattle.exchange_law.specs.Line.{Link as Line}
 use Rattle.stub.specs.Decoder.{stub_at}
 use Rattle.stub.specs.Law.{waiting}
-use Rattle.stub.specs.Seen.{Bench, Happening, Ran, Link, Shows, held}
-use Rattle.exchange_law.specs.StubStation.{as_line, items_of, IsSeven, SendsSeven}
+use Rattle.stub.specs.Seen.{Bench, held}
+use Rattle.exchange_law.specs.StubStation.{BenchRun, MayRun, PassesAsAStation}
 
 -- the chunks of a stub's stretches; a stub without any halts at once, and counts as none
 abbrev pub chunks_of : Option (List Stretch) → Option (List Stretch)
@@ -24,12 +24,24 @@ chunks_of (Some (stretch ∷ stretches)) = Some (pieces (stretch ∷ stretches))
 abbrev pub program : Program
 program memory address = chunks_of (stub_at memory address)
 
--- a key by which ODT starts the program at an address, where a stub with stretches stands
-pub record StartsStub (odt : OdtMachine) (key place : ℕ) (stretch : Stretch) (stretches : List Stretch) : Type 0 where
-  pub console : IsMachine (after_key odt key)
-  pub still : is_running odt.mode ≡ false
-  pub goes : (after_key odt key).mode ≡ Running place
-  pub found : stub_at (after_key odt key).memory place ≡ Some (stretch ∷ stretches)
+-- a key at ODT, and the stub with stretches that it is to start: where it stands, and its stretches
+pub record Start : Type 0 where
+  pub odt : OdtMachine
+  pub key : ℕ
+  pub place : ℕ
+  pub stretch : Stretch
+  pub stretches : List Stretch
+
+-- the machine as the key leaves it
+abbrev pub left_by : Start → OdtMachine
+left_by start = after_key start.odt start.key
+
+-- the key starts the program at the address where the stub stands
+pub record StartsStub (start : Start) : Type 0 where
+  pub console : IsMachine (left_by start)
+  pub still : is_running start.odt.mode ≡ false
+  pub goes : (left_by start).mode ≡ Running start.place
+  pub found : stub_at (left_by start).memory start.place ≡ Some (start.stretch ∷ start.stretches)
 
 -- how ODT's `G` leaves the processor: at that address, over memory as it is. The registers and the codes are whatever they are, and so is what the
 -- receiver and the transmitter hold; the notes of what was fetched and what has left begin here
@@ -49,7 +61,5 @@ line_of station x =
 -- the station stands that ODT leaves at that key, and that line ends as the machine's looks
 abbrev pub StartedStubsAreStations : Type 0
 StartedStubsAreStations =
-    (odt : OdtMachine) (key place : ℕ) (stretch : Stretch) (stretches : List Stretch) (farewell : List ℕ) (x y : Bench) (what : List Happening) →
-    StartsStub odt key place stretch stretches → IsStartedBy (after_key odt key) place x.machine → IsHaltText farewell →
-    Each IsSeven (held x.machine.console ++ x.down) → SendsSeven what → Ran x what y →
-    (link : Link) × Passes program (line_of (after_odt program odt key) x) (items_of what) (as_line (after_key odt key) farewell link) × Shows y link
+    (start : Start) (run : BenchRun) → StartsStub start → IsStartedBy (left_by start) start.place run.before.machine → MayRun run →
+    PassesAsAStation program (left_by start) (line_of (after_odt program start.odt start.key) run.before) run

@@ -50,13 +50,31 @@ SendsSeven [] = ⊤
 SendsSeven (Sends c ∷ what) = IsSeven c × SendsSeven what
 SendsSeven (_ ∷ what) = SendsSeven what
 
--- whatever happens between a host and the machine with the stub in it: what the host sends and hears passes over a line at whose end the station
--- stands, and that line ends as the machine's looks
+-- what happens between a host and a machine at a bench, and what ODT prints at the halt
+pub record BenchRun : Type 0 where
+  pub before : Bench
+  pub what : List Happening
+  pub behind : Bench
+  pub farewell : List ℕ
+
+-- it may happen: the host sends characters of seven bits alone, and such are under way to the machine
+pub record MayRun (run : BenchRun) : Type 0 where
+  pub farewell : IsHaltText run.farewell
+  pub under_way : Each IsSeven (held run.before.machine.console ++ run.before.down)
+  pub sends : SendsSeven run.what
+  pub ran : Ran run.before run.what run.behind
+
+-- what the host sends and hears passes over a line from here, at whose end the station stands, and that line ends as the machine's looks
+pub record PassesAsAStation (program : Program) (odt : OdtMachine) (found : Line) (run : BenchRun) : Type 0 where
+  pub link : Link
+  pub passes : Passes program found (items_of run.what) (as_line odt run.farewell link)
+  pub shows : Shows run.behind link
+
+-- so it is of whatever happens between a host and the machine with the stub in it
 abbrev pub StubsAreStations : Type 0
 StubsAreStations =
-    (program : Program) (place : ℕ) (stretches : List Stretch) (odt : OdtMachine) (farewell : List ℕ) (x y : Bench) (what : List Happening) →
-    IsStarted place stretches x.machine → IsHaltText farewell → Each IsSeven (held x.machine.console ++ x.down) → SendsSeven what → Ran x what y →
-    (link : Link) × Passes program (as_line odt farewell (opened stretches x)) (items_of what) (as_line odt farewell link) × Shows y link
+    (program : Program) (place : ℕ) (stretches : List Stretch) (odt : OdtMachine) (run : BenchRun) →
+    IsStarted place stretches run.before.machine → MayRun run → PassesAsAStation program odt (as_line odt run.farewell (opened stretches run.before)) run
 
 -- at its start it is the station that ODT makes of a stub with these chunks: no character of the first has come
 abbrev pub StubsBeginFresh : Type 0

@@ -72,7 +72,7 @@ stub_starts program tape stub from chunks core for plan memory set all =
     (refl, within_all (IsLater tape from) chunks (λ i below b inside. chunk_later tape from chunks 0 i for.words (omega arith) below b inside))
 
 brought : (program : Program) (tape stub : PlanValue) (from : ℕ) (before : List ℕ) (chunks : List Chunk) (core : Core) (keys : List ℕ) (x y : Link) → IsPlan tape → from ≤ length tape.words → IsStubFor program tape from stub chunks → core.plan ≡ stub → IsHost core →
-    Between program tape from before x → IsTrustedBehind program tape from x core keys y → IsBrought program tape from before chunks core y
+    Between program tape from before x → IsTrustedBehind (record { program = program; tape = tape; verified = from; found = x }) core keys y → IsBrought program tape from before chunks core y
 brought program tape stub from before chunks core keys x y is within for plan host b t = record {
   between = record {
     stand = record {
@@ -118,7 +118,7 @@ pub stub_brought : (program : Program) (tape : PlanValue) (part : StubPart) (fro
     Passes program x (dialogue (bringer part) things) y → IsBrought program tape from before part.chunks (led (bringer part) things) y
 stub_brought program tape part from before things x y for long between passes =
     let host = stub_host part for.plan long in
-    let t = hosts_recover program tape from (bringer part) things x y
+    let t = hosts_recover (record { program = program; tape = tape; verified = from; found = x }) (bringer part) things y
     (record { host = host; at_first = refl; stand = none_stand part.stub x.station.machine.memory; beside = λ i less b g later. absurd (omega (arith, less)); line = between.line }) passes in
     brought program tape part.stub from before part.chunks (led (bringer part) things) _ x y for.words.sound (begins_within tape from part.chunks for.words) for (led_plan (bringer part) things) (led_kept (bringer part) things host) between t
 
@@ -151,7 +151,7 @@ loaded_by tape before now is kept all = record {
 }
 
 loaded_on : (program : Program) (tape : PlanValue) (from : ℕ) (before : List ℕ) (core : Core) (keys : List ℕ) (x y : Link) → IsPlan tape → core.plan ≡ tape → IsHost core → Between program tape from before x →
-    IsTrustedBehind program tape from x core keys y → IsLoadedOn program tape before core keys y.lost y
+    IsTrustedBehind (record { program = program; tape = tape; verified = from; found = x }) core keys y → IsLoadedOn program tape before core keys y.lost y
 loaded_on program tape from before core keys x y is plan host b t = record {
   stand = stand;
   kept = kept;
@@ -190,6 +190,6 @@ pub load_went : (program : Program) (tape : PlanValue) (from patience : ℕ) (be
 load_went program tape from patience before things x y is within long between passes =
     let core : Core = begun tape from false patience in
     let host : IsHost core = begun_kept tape from false patience is within long (λ set. absurd (cc set)) in
-    let t = hosts_recover program tape from core things x y
+    let t = hosts_recover (record { program = program; tape = tape; verified = from; found = x }) core things y
     (record { host = host; at_first = refl; stand = between.stand; beside = λ i less b g later. later.later i less g; line = between.line }) passes in
     loaded_on program tape from before (led core things) (keys_of (dialogue core things)) x y is (led_plan core things) (led_kept core things host) between t

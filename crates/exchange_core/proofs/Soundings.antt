@@ -17,7 +17,7 @@ use Rattle.tape_image.proofs.Given.{image_at_word}
 use Rattle.tape_image.proofs.Laying.{byte_at-append}
 use Rattle.host_core.specs.Core.{no_word, word_nr}
 use Rattle.exchange_core.proofs.Chunks.{words_apart}
-use Rattle.exchange_core.specs.StubPlan.{AreSoundings, IsSounding, block_of}
+use Rattle.exchange_core.specs.StubPlan.{AreSoundingsBefore, IsSounding, block_of}
 use Rattle.exchange_core.proofs.Bytes.{AreBytes, IsAt, at_given, given_at, in_word, of_both, of_high, of_low}
 
 -- ---- the block of a word
@@ -109,8 +109,8 @@ behind_others blocks block b = byte_at-append blocks (block ∷ []) b
 pub with_block : (blocks : List BlockValue) (block : BlockValue) → written_length (blocks ++ block ∷ []) ≡ written_length blocks + (7 + length block.bytes)
 with_block blocks block = let more = sum_by_push (λ (b : BlockValue). 7 + length b.bytes) blocks block in omega (arith, more)
 
-pub sounding_more : (plan : PlanValue) (from to n : ℕ) (blocks : List BlockValue) → IsPlan plan → to ≤ length plan.words → IsSounding from to n → AreSoundings plan from to n blocks →
-    AreSoundings plan from to (n + 1) (blocks ++ block_of (word_nr plan.words n) ∷ [])
+pub sounding_more : (plan : PlanValue) (from to n : ℕ) (blocks : List BlockValue) → IsPlan plan → to ≤ length plan.words → IsSounding from to n → AreSoundingsBefore plan from to n blocks →
+    AreSoundingsBefore plan from to (n + 1) (blocks ++ block_of (word_nr plan.words n) ∷ [])
 sounding_more plan from to n blocks is within sounding are = record {
   each = All-push IsBlock blocks (block_of w) are.each holds.is;
   holds = All-push HoldsBytes blocks (block_of w) are.holds holds.holds;
@@ -148,7 +148,7 @@ sounding_more plan from to n blocks is within sounding are = record {
       ]
     ]
 
-pub no_sounding : (plan : PlanValue) (from to n : ℕ) (blocks : List BlockValue) → (IsSounding from to n → ⊥) → from ≤ n → AreSoundings plan from to n blocks → AreSoundings plan from to (n + 1) blocks
+pub no_sounding : (plan : PlanValue) (from to n : ℕ) (blocks : List BlockValue) → (IsSounding from to n → ⊥) → from ≤ n → AreSoundingsBefore plan from to n blocks → AreSoundingsBefore plan from to (n + 1) blocks
 no_sounding plan from to n blocks other begins are = record {
   each = are.each;
   holds = are.holds;

@@ -15,7 +15,7 @@ use Rattle.exchange_core.specs.declared.phase.End.TheVariants.{Complete, Broken}
 use Rattle.exchange_core.specs.declared.turn.Turn.{Turn}
 use Rattle.exchange_core.specs.declared.turn.Turn.TheVariants.{Listen, Next, Verified, Stop}
 use Rattle.exchange_core.specs.Chunk.{AreChunks, chunk_nr, answer_at, words_behind}
-use Rattle.exchange_core.specs.Exchange.{IsExchange, PhaseFits, RisesByAnswer, ExchangeStep, advance, exchange_bound, listens, next_chunk, taken, turn_of, used_in, with_chunk}
+use Rattle.exchange_core.specs.Exchange.{EndsAnswer, IsExchange, PhaseFits, ExchangeStep, advance, exchange_bound, listens, next_chunk, taken, turn_of, used_in, with_chunk}
 use Rattle.exchange_core.proofs.Chunks.{chunks_few}
 
 -- there is a chunk, and each has one to sixteen bytes
@@ -150,6 +150,10 @@ step_grows plan chunks e heard are k = by (turn_of plan.image chunks e heard) (t
     by Stop fits = omega arith
 
 -- ---- words are verified by the last character of an answer
+
+-- more words are verified only so
+abbrev pub RisesByAnswer : Image → List Chunk → Exchange → Heard → Exchange → Type 0
+RisesByAnswer image chunks e heard e' = e.verified < e'.verified → EndsAnswer image (chunk_nr chunks e.done) e.phase heard
 
 -- a turn that verifies comes of it
 turn_rises : (image : Image) (chunks : List Chunk) (e : Exchange) (heard : Heard) (phase : Phase) → e.phase ≡ phase → PhaseFits chunks e.done phase →

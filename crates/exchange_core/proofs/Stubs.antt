@@ -85,7 +85,7 @@ place_even plan from size window is w some =
         omega (arith, there, less, even, count)
 
 pub sound_tape : (plan : PlanValue) (from window : ℕ) (words : List ℕ) (soundings : List BlockValue) → IsPlan plan → IsWindow plan.words from (length words) window → 0 < length words → All (λ n. n < 65536) words →
-    AreSoundings plan from window window soundings → IsSound (record { blocks = soundings ++ block_at (place_of plan window) (flat_map low_first words) ∷ []; start = place_of plan window })
+    AreSoundings plan from window soundings → IsSound (record { blocks = soundings ++ block_at (place_of plan window) (flat_map low_first words) ∷ []; start = place_of plan window })
 sound_tape plan from window words soundings is w some small are = record {
   each_block = All-push IsBlock soundings code are.each (record { not_empty = omega (arith, bytes_length words, some); below_top = omega (arith, bytes_length words, place.1) });
   each_byte = All-push HoldsBytes soundings code are.holds (all_bytes words small);

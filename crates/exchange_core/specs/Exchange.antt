@@ -116,8 +116,6 @@ pub record IsExchange (chunks : List Chunk) (e : Exchange) : Type 0 where
 abbrev pub exchange_bound : ℕ → ℕ
 exchange_bound chunks = 32 * chunks + 1
 
--- more words are verified only by the last character of the answer for the chunk under way, which is the one that is awaited
-abbrev pub RisesByAnswer : Image → List Chunk → Exchange → Heard → Exchange → Type 0
-RisesByAnswer image chunks e heard e' =
-    e.verified < e'.verified →
-    (place : ℕ) × (e.phase ≡ Answer place) × (place + 1 ≡ 2 * (chunk_nr chunks e.done).size) × (heard ≡ Got (answer_at image (chunk_nr chunks e.done) place))
+-- what is heard is the last character of the answer for a chunk, and the one that is awaited
+abbrev pub EndsAnswer : Image → Chunk → Phase → Heard → Type 0
+EndsAnswer image chunk phase heard = (place : ℕ) × (phase ≡ Answer place) × (place + 1 ≡ 2 * chunk.size) × (heard ≡ Got (answer_at image chunk place))

@@ -50,17 +50,21 @@ abbrev pub block_of : WordValue → BlockValue
 block_of w = block_at (bytes_of w).from (bytes_in w)
 
 -- the blocks of the soundings before number n, of the words from one number up to another
-pub record AreSoundings (plan : PlanValue) (from to n : ℕ) (blocks : List BlockValue) : Type 0 where
+pub record AreSoundingsBefore (plan : PlanValue) (from to n : ℕ) (blocks : List BlockValue) : Type 0 where
   pub each : All IsBlock blocks
   pub holds : All HoldsBytes blocks
   pub short : written_length blocks ≤ 7 + 9 * (n - from)
   pub sounded : (j : ℕ) → IsSounding from to j → j < n → (b : ℕ) → gives (word_nr plan.words j) b ≡ true → byte_at blocks b ≡ get plan.image b
   pub others : (b : ℕ) → IsSome (byte_at blocks b) → (j : ℕ) × IsSounding from to j × (gives (word_nr plan.words j) b ≡ true)
 
+-- the blocks of all soundings of the words from one number up to another
+abbrev pub AreSoundings : PlanValue → ℕ → ℕ → List BlockValue → Type 0
+AreSoundings plan from to blocks = AreSoundingsBefore plan from to to blocks
+
 -- the tape of a stub's plan: the soundings, and then the stub's words as one block
 pub record IsStubTape (plan : PlanValue) (from window : ℕ) (words : List ℕ) (tape : TapeValue) : Type 0 where
   pub sound : IsPlan plan
   pub soundings : List BlockValue
-  pub are : AreSoundings plan from window window soundings
+  pub are : AreSoundings plan from window soundings
   pub blocks_are : tape.blocks ≡ soundings ++ block_at (place_of plan window) (flat_map low_first words) ∷ []
   pub start_is : tape.start ≡ place_of plan window

@@ -1,8 +1,8 @@
 ghost use Rattle.std.specs.Prelude.{◌≡◌, ◌<◌, ◌≤◌, ◌*◌, ◌^◌, length, []};
 ghost use Rattle.host_core.specs.declared.heard.Heard.TheVariants.{Got};
-ghost use Rattle.exchange_core.specs.Chunk.{AreChunks, IsChunk};
+ghost use Rattle.exchange_core.specs.Chunk.{AreChunks, IsChunk, chunk_nr};
 ghost use Rattle.exchange_core.specs.declared.turn.Turn.TheVariants.{Verified};
-ghost use Rattle.exchange_core.specs.Exchange.{IsExchange, RisesByAnswer, exchange_bound};
+ghost use Rattle.exchange_core.specs.Exchange.{EndsAnswer, IsExchange, exchange_bound};
 ghost use Rattle.exchange_core.specs.Exchange.{advance, answer_hears, begun, ended, listens, next_chunk, taken, turn_of, waits};
 
 use crate::chunk::{Chunk, Keys, awaited, keys_of};
@@ -33,7 +33,7 @@ pub struct Exchange {
 
 /// An exchange after a step, and the characters that the step sends.
 #[derive(Drop)]
-pub struct Asked {
+pub struct ExchangeStep {
     /// The exchange.
     pub next: Exchange,
 
@@ -67,12 +67,12 @@ impl Exchange {
 
     /// Hears one thing and answers the exchange behind it, with the characters to send now: a step of
     /// the table. It never refuses. The plan and the chunks have to be the same at each step.
-    pub fn step(self, plan: &Plan, chunks: &[Chunk], heard: Heard) -> Asked
+    pub fn step(self, plan: &Plan, chunks: &[Chunk], heard: Heard) -> ExchangeStep
         requires chunks { AreChunks plan.now self.from chunks.now }
         requires kept { IsExchange chunks.now self }
         ensures next { result.next ≡ (advance plan.now.image chunks.now self heard).next }
         ensures keys { result.keys.items ≡ (advance plan.now.image chunks.now self heard).keys }
-        ensures rises { RisesByAnswer plan.now.image chunks.now self heard result.next }
+        ensures rises { self.verified < result.next.verified → EndsAnswer plan.now.image (chunk_nr chunks.now self.done) self.phase heard }
         ensures bound { result.next.sent ≤ exchange_bound (length chunks.now) }
         ensures from { result.next.from ≡ self.from }
         ensures kept { IsExchange chunks.now result.next }
@@ -108,7 +108,7 @@ impl Exchange {
 
     // What the turn does to the exchange, and the characters that it sends.
     #[tactic(auto, using(crate::proofs::Steps::counts_fit))]
-    fn taken(self, plan: &Plan, chunks: &[Chunk], turn: Turn) -> Asked
+    fn taken(self, plan: &Plan, chunks: &[Chunk], turn: Turn) -> ExchangeStep
         requires chunks { AreChunks plan.now self.from chunks.now }
         requires kept { IsExchange chunks.now self }
         requires verified { turn ≡ Verified → self.done < length chunks.now }
@@ -130,7 +130,7 @@ impl Exchange {
             Turn::Stop => {
                 let mut keys = Keys::new();
                 keys.push(RESYNCHRONISE);
-                Asked {
+                ExchangeStep {
                     next: Exchange {
                         sent: self.sent + 1,
                         phase: Phase::Ended(End::Broken),
@@ -143,7 +143,7 @@ impl Exchange {
     }
 
     // Sends the next chunk, or ends where there is none.
-    fn next_chunk(self, plan: &Plan, chunks: &[Chunk]) -> Asked
+    fn next_chunk(self, plan: &Plan, chunks: &[Chunk]) -> ExchangeStep
         requires chunks { AreChunks plan.now self.from chunks.now }
         requires few { self.sent < 2 ^ 31 }
         ensures next { result.next ≡ (next_chunk plan.now.image chunks.now self).next }
@@ -153,7 +153,7 @@ impl Exchange {
             return self.listens(Phase::Ended(End::Complete));
         }
         let chunk = chunks[self.done as usize];
-        Asked {
+        ExchangeStep {
             next: Exchange {
                 sent: self.sent + 2 * u32::from(chunk.size),
                 phase: Phase::Answer(0),
@@ -164,11 +164,11 @@ impl Exchange {
     }
 
     // Goes on in this phase, nothing is sent.
-    fn listens(self, phase: Phase) -> Asked
+    fn listens(self, phase: Phase) -> ExchangeStep
         ensures next { result.next ≡ (listens self phase).next }
         ensures keys { result.keys.items ≡ [] }
     {
-        Asked {
+        ExchangeStep {
             next: Exchange { phase, ..self },
             keys: Keys::new(),
         }

@@ -23,7 +23,7 @@ mod word_bytes;
 
 pub use chunk::{Chunk, Keys};
 pub use chunking::chunks_of;
-pub use exchange::{Asked, Exchange};
+pub use exchange::{Exchange, ExchangeStep};
 pub use phase::{End, Phase};
 pub use planning::stub_plan;
 pub use stretch::Stretch;

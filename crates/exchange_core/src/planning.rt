@@ -58,7 +58,7 @@ fn stub_tape(
 fn soundings(alloc: Global, plan: &Plan, from: u32, to: u32) -> Result<Vec<Block>, AllocError>
     requires order { from ≤ to }
     requires within { to ≤ length plan.now.words }
-    ensures { IfOk result (λ blocks. AreSoundings plan.now from to to blocks.items) }
+    ensures { IfOk result (λ blocks. AreSoundings plan.now from to blocks.items) }
 {
     let words = plan.words();
     let mut blocks = Vec::new(alloc);

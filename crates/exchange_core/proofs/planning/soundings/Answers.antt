@@ -1,6 +1,6 @@
 use Rattle.std.proofs.Common.{◌<◌, ◌+◌, ◌++◌, ◌∷◌, [], List, length, arith, ap, sym, subst, ◌∙◌}
 use Rattle.tape_values.specs.Block.{BlockValue}
-use Rattle.exchange_core.specs.StubPlan.{AreSoundings, block_of}
+use Rattle.exchange_core.specs.StubPlan.{AreSoundingsBefore, block_of}
 use Rattle.exchange_core.proofs.Soundings.{no_sounding, sounding_more}
 use Rattle.exchange_core.proofs.Together.{read_from}
 use Rattle.exchange_core.proofs.planning.soundings.Goals as goal
@@ -9,7 +9,7 @@ use Rattle.exchange_core.proofs.planning.soundings.Goals.{then-is_sounding+in_ok
 pub loop-number-preserved : goal.loop-number-preserved
 loop-number-preserved c =
     let plan = c.args.plan.now in
-    let P : List BlockValue → Type 0 = λ blocks. AreSoundings plan c.args.from c.args.to (c.loop-number.number + 1) blocks in
+    let P : List BlockValue → Type 0 = λ blocks. AreSoundingsBefore plan c.args.from c.args.to (c.loop-number.number + 1) blocks in
     let below : c.loop-number.number < length plan.words = omega (arith, c.loop-number-test.true, c.requires.within) in
     elim c.if-is_sounding.branch [
       | then-is_sounding+in_ok-block_of+in_ok-push w ↦

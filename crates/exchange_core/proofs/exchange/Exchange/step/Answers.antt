@@ -1,7 +1,7 @@
 use Rattle.std.proofs.Common.{ap, sym, subst, ◌∙◌}
 use Rattle.exchange_core.specs.declared.exchange.Exchange.{Exchange}
-use Rattle.exchange_core.specs.Exchange.{IsExchange, RisesByAnswer, taken}
-use Rattle.exchange_core.proofs.Steps.{are_small, bound_kept, step_from, step_kept, step_rises}
+use Rattle.exchange_core.specs.Exchange.{IsExchange, taken}
+use Rattle.exchange_core.proofs.Steps.{RisesByAnswer, are_small, bound_kept, step_from, step_kept, step_rises}
 use Rattle.exchange_core.proofs.exchange.Exchange.step.Goals as goal
 
 pub returns-clause-next : goal.returns-clause-next

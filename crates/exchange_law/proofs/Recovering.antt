@@ -20,11 +20,12 @@ use Rattle.host_core.specs.declared.phase.End.{End}
 use Rattle.host_core.specs.declared.phase.End.TheVariants.{Loaded, Started, Uncertain, MaybeStarted, GaveUp, NoWord, WontHold}
 use Rattle.host_core.specs.declared.phase.Phase.{Phase}
 use Rattle.host_core.specs.declared.phase.Phase.TheVariants.{Settle, Sync, Address, Slash, Before, Value, Deposit, Return, Start, Go, Ended}
-use Rattle.host_core.specs.declared.turn.Turn.TheVariants.{Stray, Listen}
+use Rattle.host_core.specs.declared.turn.Turn.TheVariants.{Stray}
 use Rattle.host_core.specs.Core.{Core, begun, no_word, start_of, word_nr}
 use Rattle.host_core.specs.Host.{IsHost, basis_of}
 use Rattle.host_core.specs.Laws.{led, replay}
-use Rattle.host_core.specs.PhaseTable.{Move, listens, move, sends, sync_hears, taken}
+use Rattle.host_core.specs.declared.answers.Reply.TheVariants.{On, Wrong}
+use Rattle.host_core.specs.PhaseTable.{Move, listens, move, sends, sync_hears, synced, taken}
 use Rattle.host_core.proofs.Frame.{on_move}
 use Rattle.host_core.proofs.Turns.{kept}
 use Rattle.line_world.specs.Invariant.{EndIsPaid, IsKept, RunsWith}
@@ -272,7 +273,7 @@ halt_no_answer c (inr (inr (inr is))) = not_one c 64 is refl refl
 stray : (place c : ℕ) → place ≡ 0 → IsHaltCharacter c → sync_hears place c ≡ Stray
 stray place c none halt =
     let n = halt_no_answer c halt in
-    ap (λ p. sync_hears p c) none ∙ (ap (λ b. if b then Listen (Sync 1) else (if c == 63 then Listen (Sync 2) else Stray)) n.0 ∙ ap (λ b. if b then Listen (Sync 2) else Stray) n.1)
+    ap (λ p. sync_hears p c) none ∙ (ap (λ b. synced (if b then On 1 else (if c == 63 then On 2 else Wrong))) n.0 ∙ ap (λ b. synced (if b then On 2 else Wrong)) n.1)
 
 lower : (a b : ℕ) → ltb a b ≡ true → a < b
 lower a b e = grind (arith, nat_tests)

@@ -68,7 +68,7 @@ hears_start word start Settle c = inl (λ e. cc)
 hears_start word start (Sync place) c = inl (sync_walk NoStart place c tt (λ k within e. cc) tt)
 hears_start word start (Address visit place) c = inl (address_walk NoStart word.address visit place c tt (λ less e. cc) (λ e. cc))
 hears_start word start (Slash visit) c = inl (slash_walk NoStart visit c tt (λ e. cc))
-hears_start word start (Before visit) c = inl (before_walk NoStart word.address visit c tt (λ e. cc) (λ e. cc) (λ low high e. cc))
+hears_start word start (Before visit) c = inl (before_walk NoStart word visit c tt (λ e. cc) (λ e. cc) (λ low high e. cc))
 hears_start word start (Value visit value place) c =
     inl (value_walk NoStart word visit value place c tt (λ none low high e. cc) (λ some less digit e. cc) (λ all blank same. tt) (λ all. read_differs word visit value))
 hears_start word start (Deposit value place) c = inl (deposit_walk NoStart value place c tt (λ less e. cc) (λ e. cc))

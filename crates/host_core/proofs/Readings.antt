@@ -113,7 +113,7 @@ hears_tells word start (Sync place) c b heard f h = sync_walk (Tells word (heard
 hears_tells word start (Address visit place) c b heard f h = address_walk (Tells word (heard ++ Got c ∷ [])) word.address visit place c tt (λ _. tt) tt
 hears_tells word start (Slash visit) c b heard f h = slash_walk (Tells word (heard ++ Got c ∷ [])) visit c tt tt
 hears_tells word start (Before visit) c b heard f h =
-    before_walk (Tells word (heard ++ Got c ∷ [])) word.address visit c tt (no_digits visit (heard ++ Got c ∷ [])) tt (λ low high. first_digit visit heard c low high)
+    before_walk (Tells word (heard ++ Got c ∷ [])) word visit c tt (no_digits visit (heard ++ Got c ∷ [])) tt (λ low high. first_digit visit heard c low high)
 hears_tells word start (Value visit value place) c b heard f h =
     value_walk (Tells word (heard ++ Got c ∷ [])) word visit value place c tt (λ _ low high. first_digit visit heard c low high)
     (λ some less digit. next_digit visit value place c heard some less digit f.2 h)

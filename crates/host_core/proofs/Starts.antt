@@ -77,7 +77,7 @@ hears_types word start (Sync place) c b f = sync_walk (Types (Sync place) start)
 hears_types word start (Address visit place) c b f =
     address_walk (Types (Address visit place) start) word.address visit place c tt (λ _. (no_digit word.address (place + 1), λ _ _. tt)) ((λ e. omega arith), λ _ _. tt)
 hears_types word start (Slash visit) c b f = slash_walk (Types (Slash visit) start) visit c tt (λ _ _. tt)
-hears_types word start (Before visit) c b f = before_walk (Types (Before visit) start) word.address visit c tt (λ _ _. tt) tt (λ _ _ _ _. tt)
+hears_types word start (Before visit) c b f = before_walk (Types (Before visit) start) word visit c tt (λ _ _. tt) tt (λ _ _ _ _. tt)
 hears_types word start (Value visit value place) c b f =
     value_walk (Types (Value visit value place) start) word visit value place c tt (λ _ _ _ _ _. tt) (λ _ _ _ _ _. tt) (λ _ _ _. tt) (λ _. differs_types (Value visit value place) start word visit value)
 hears_types word start (Deposit value place) c b f =

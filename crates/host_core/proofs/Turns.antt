@@ -105,9 +105,9 @@ address_fits b address visit place c e f =
 reading : (b : Basis) (visit : Visit) (value place : ℕ) → b.going ≡ false → HasWord b → place ≤ 6 → value < value_room place → TurnFits (Listen (Value visit value place)) b (used_before visit + 7)
 reading b visit value place e f le room = on b (used_before visit + 7) (Value visit value place) e (f, le, room) (omega arith)
 
-before_fits : (b : Basis) (visit : Visit) (c : ℕ) → b.going ≡ false → HasWord b → TurnFits (before_hears (word_nr b.plan.words b.verified).address visit c) b (used_before visit + 7)
+before_fits : (b : Basis) (visit : Visit) (c : ℕ) → b.going ≡ false → HasWord b → TurnFits (before_hears (word_nr b.plan.words b.verified) visit c) b (used_before visit + 7)
 before_fits b visit c e f =
-    before_walk (λ t. TurnFits t b (used_before visit + 7)) (word_nr b.plan.words b.verified).address visit c (e, omega (arith, visit_le visit))
+    before_walk (λ t. TurnFits t b (used_before visit + 7)) (word_nr b.plan.words b.verified) visit c (e, omega (arith, visit_le visit))
     (reading b visit 0 0 e f (omega arith) (omega arith))
     ((f, refl), no_mark b.going b.plan.start (Ended (NoWord (word_nr b.plan.words b.verified).address)) e, omega (arith, visit_le visit))
     (λ low high. reading b visit (c - 48) 1 e f (omega arith) (omega arith))

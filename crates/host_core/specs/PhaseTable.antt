@@ -1,11 +1,17 @@
 -- The phase table: what the host does on what it hears (this project's choice). A host types one
--- character at a time, and waits in a phase for what the console has to answer. Places are counted
--- as in the phases: the digits of a number from 1, the digits of a reading that were heard from 0.
-use Rattle.std.specs.Prelude.{ℕ, ◌+◌, ◌*◌, true, ◌==◌, nat_lt, if◌then◌else◌, length, Option, Some, None}
-use Rattle.octal.specs.Octal.{digit_of, digit_value, is_digit, is_first_digit}
+-- character at a time, and waits in a phase for what the console has to answer (Answers).
+use Rattle.std.specs.Prelude.{ℕ, ◌+◌, true, ◌==◌, nat_lt, if◌then◌else◌, length, Option, Some, None}
+use Rattle.octal.specs.Octal.{digit_of}
 use Rattle.tape_image.specs.Word.{WordValue, merged}
-use Rattle.host_core.specs.Console.{resynchronise, question_mark, carriage_return, line_feed, prompt, slash, space, go}
+use Rattle.host_core.specs.Answers.{resynchronise_reply, return_reply, digit_echo, reading_start, reading_rest}
+use Rattle.host_core.specs.Console.{resynchronise, carriage_return, slash, go}
 use Rattle.host_core.specs.Core.{Core, word_under_way, start_of}
+use Rattle.host_core.specs.declared.answers.Reply.{Reply}
+use Rattle.host_core.specs.declared.answers.Reply.TheVariants.{On, Over, Wrong}
+use Rattle.host_core.specs.declared.answers.Echo.{Echo}
+use Rattle.host_core.specs.declared.answers.Echo.TheVariants.{More, Whole, NoEcho}
+use Rattle.host_core.specs.declared.answers.Reading.{Reading}
+use Rattle.host_core.specs.declared.answers.Reading.TheVariants.{Digits, Number, NoMemory, NoReading}
 use Rattle.host_core.specs.declared.phase.Phase.{Phase}
 use Rattle.host_core.specs.declared.phase.Phase.TheVariants.{Settle, Sync, Address, Slash, Before, Value, Deposit, Return, Start, Go, Ended}
 use Rattle.host_core.specs.declared.phase.Visit.{Visit}
@@ -18,40 +24,29 @@ use Rattle.host_core.specs.declared.heard.Heard.TheVariants.{Got, Quiet}
 use Rattle.host_core.specs.declared.turn.Turn.{Turn}
 use Rattle.host_core.specs.declared.turn.Turn.TheVariants.{Listen, Key, Verified, ReadBack, Next, Mark, Stop, Stray, Timeout}
 
--- Sync: the answer to `Z`, with or without its echo, with one CR or two, up to the prompt
-abbrev pub sync_hears : ℕ → ℕ → Turn
-sync_hears place c =
-    if place == 0 then (if c == resynchronise then Listen (Sync 1) else (if c == question_mark then Listen (Sync 2) else Stray))
-    else (if place == 1 then (if c == question_mark then Listen (Sync 2) else Stray)
-    else (if place == 2 then (if c == carriage_return then Listen (Sync 3) else Stray)
-    else (if place == 3 then (if c == carriage_return then Listen (Sync 4) else (if c == line_feed then Listen (Sync 5) else Stray))
-    else (if place == 4 then (if c == line_feed then Listen (Sync 5) else Stray)
-    else (if c == prompt then Next else Stray)))))
+-- behind the answer to `Z` comes the next word
+abbrev pub synced : Reply → Turn
+synced (On place) = Listen (Sync place)
+synced Over = Next
+synced Wrong = Stray
 
--- the echo of one of a number's six digits: the next is typed, to go on in phase `next`; after the sixth comes `last`
-abbrev pub echo_hears : ℕ → ℕ → ℕ → Phase → Turn → Turn
-echo_hears number place c next last =
-    if c == digit_of number place then (if nat_lt place 6 then Key (digit_of number (place + 1)) next else last)
-    else Stray
+-- Sync: the answer to `Z`
+abbrev pub sync_hears : ℕ → ℕ → Turn
+sync_hears place c = synced (resynchronise_reply place c)
+
+-- behind the echo of a digit the next is typed, to go on in phase `next`; after the sixth comes `last`
+abbrev pub echoed : Echo → Phase → Turn → Turn
+echoed (More digit) next last = Key digit next
+echoed Whole next last = last
+echoed NoEcho next last = Stray
 
 -- Address: the echo of each of the six digits, then `/`
 abbrev pub address_hears : ℕ → Visit → ℕ → ℕ → Turn
-address_hears address visit place c = echo_hears address place c (Address visit (place + 1)) (Key slash (Slash visit))
+address_hears address visit place c = echoed (digit_echo address place c) (Address visit (place + 1)) (Key slash (Slash visit))
 
 -- Slash: the echo of `/`
 abbrev pub slash_hears : Visit → ℕ → Turn
 slash_hears visit c = if c == slash then Listen (Before visit) else Stray
-
--- the first of a reading's six digits, which is 0 or 1
-abbrev pub first_digit_hears : Visit → ℕ → Turn
-first_digit_hears visit c = if is_first_digit c then Listen (Value visit (digit_value c) 1) else Stray
-
--- Before: the reading of the word, with or without a space before it, or `?` where there is no memory
-abbrev pub before_hears : ℕ → Visit → ℕ → Turn
-before_hears address visit c =
-    if c == space then Listen (Value visit 0 0)
-    else (if c == question_mark then Stop (NoWord address)
-    else first_digit_hears visit c)
 
 -- a whole reading that is not the tape's word: on the first visit it is mended, after the deposit the memory doesn't hold it
 abbrev pub differs : WordValue → Visit → ℕ → Turn
@@ -62,33 +57,43 @@ differs word Check value = Stop (WontHold word.address)
 abbrev pub read : WordValue → Visit → ℕ → Turn
 read word visit value = if merged word value == value then Verified else differs word visit value
 
--- Value: six digits and then a space
+-- a reading of the word on a visit: it goes on, it is whole, or there is no memory
+abbrev pub reads : WordValue → Visit → Reading → Turn
+reads word visit (Digits value count) = Listen (Value visit value count)
+reads word visit (Number value) = read word visit value
+reads word visit NoMemory = Stop (NoWord word.address)
+reads word visit NoReading = Stray
+
+-- Before: the beginning of the reading
+abbrev pub before_hears : WordValue → Visit → ℕ → Turn
+before_hears word visit c = reads word visit (reading_start c)
+
+-- Value: the rest of the reading
 abbrev pub value_hears : WordValue → Visit → ℕ → ℕ → ℕ → Turn
-value_hears word visit value place c =
-    if place == 0 then first_digit_hears visit c
-    else (if nat_lt place 6 then (if is_digit c then Listen (Value visit (8 * value + digit_value c) (place + 1)) else Stray)
-    else (if c == space then read word visit value else Stray))
+value_hears word visit value place c = reads word visit (reading_rest value place c)
 
 -- Deposit: the echo of each of the six digits, then CR
 abbrev pub deposit_hears : ℕ → ℕ → ℕ → Turn
-deposit_hears value place c = echo_hears value place c (Deposit value (place + 1)) (Key carriage_return (Return Store 0))
+deposit_hears value place c = echoed (digit_echo value place c) (Deposit value (place + 1)) (Key carriage_return (Return Store 0))
 
 -- at the prompt after a CR: a stored word is read back, after a verified word comes the next
 abbrev pub returned : Reason → Turn
 returned Store = ReadBack
 returned Close = Next
 
--- Return: the answer to CR, one CR or two, up to the prompt
+-- the answer to the CR that was typed for a reason
+abbrev pub returns : Reason → Reply → Turn
+returns reason (On place) = Listen (Return reason place)
+returns reason Over = returned reason
+returns reason Wrong = Stray
+
+-- Return: the answer to CR
 abbrev pub return_hears : Reason → ℕ → ℕ → Turn
-return_hears reason place c =
-    if place == 0 then (if c == carriage_return then Listen (Return reason 1) else Stray)
-    else (if place == 1 then (if c == carriage_return then Listen (Return reason 2) else (if c == line_feed then Listen (Return reason 3) else Stray))
-    else (if place == 2 then (if c == line_feed then Listen (Return reason 3) else Stray)
-    else (if c == prompt then returned reason else Stray)))
+return_hears reason place c = returns reason (return_reply place c)
 
 -- Start: the echo of each of the start address's six digits, then `G`
 abbrev pub start_hears : ℕ → ℕ → ℕ → Turn
-start_hears start place c = echo_hears start place c (Start (place + 1)) Mark
+start_hears start place c = echoed (digit_echo start place c) (Start (place + 1)) Mark
 
 -- Go: the echo of `G`
 abbrev pub go_hears : ℕ → Turn
@@ -100,7 +105,7 @@ hears word start Settle c = Listen Settle
 hears word start (Sync place) c = sync_hears place c
 hears word start (Address visit place) c = address_hears word.address visit place c
 hears word start (Slash visit) c = slash_hears visit c
-hears word start (Before visit) c = before_hears word.address visit c
+hears word start (Before visit) c = before_hears word visit c
 hears word start (Value visit value place) c = value_hears word visit value place c
 hears word start (Deposit value place) c = deposit_hears value place c
 hears word start (Return reason place) c = return_hears reason place c

@@ -11,7 +11,7 @@ ghost use Rattle.host_core.specs.Steps.{IsVerifying, IsMarking};
 mod turns;
 
 use crate::heard::Heard;
-use crate::life::{LifeState, Outcome};
+use crate::life::{LifeState, LifeStep};
 use crate::phase::{End, Phase};
 use crate::progress::{BadProgress, Progress};
 use std::marker::Model;
@@ -191,7 +191,7 @@ impl HostCore {
         ensures bound { self.new.sent ≤ character_bound (length self.new.plan.words) self.new.patience }
     {
         let turn = self.turn(heard);
-        let Outcome { life, key } = self.taken(turn);
+        let LifeStep { life, key } = self.taken(turn);
         self.life = life;
         key
     }

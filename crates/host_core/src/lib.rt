@@ -4,11 +4,13 @@
 //! where it differs, and reads it back before it counts as verified; then it types the start. It is told what was
 //! heard and answers the character to send. There is no line, no clock and no memory here.
 //!
-//! The contract of `step` is the phase table. Above it stand the laws of every life: a bound on characters
+//! What a console answers is said once, for every host (`answers`). The contract of `step` is the phase table: what
+//! this host makes of it. Above it stand the laws of every life: a bound on characters
 //! (`sent_count`), nothing sent behind the mark (`progress`), `G` only with every word verified, and a word
 //! verified only where it was just read and stands. `line_world` puts it at a line, `load_engine` lends it to one.
 #![tactic(auto)]
 
+pub mod answers;
 pub mod console;
 mod heard;
 mod host;

@@ -17,7 +17,7 @@ pub(crate) struct LifeState {
 
 /// A life after a step, and the character that the step sends.
 #[derive(Clone, Copy)]
-pub(crate) struct Outcome {
+pub(crate) struct LifeStep {
     pub(crate) life: LifeState,
     pub(crate) key: Option<u8>,
 }
@@ -82,21 +82,21 @@ impl LifeState {
     }
 
     /// Goes on in this phase, nothing is sent.
-    pub(crate) fn listens(self, phase: Phase) -> Outcome
+    pub(crate) fn listens(self, phase: Phase) -> LifeStep
         ensures { result ≡ record { life = record self { phase = phase }; key = None } }
     {
-        Outcome {
+        LifeStep {
             life: LifeState { phase, ..self },
             key: None,
         }
     }
 
     /// Sends the character and goes on in this phase.
-    pub(crate) fn sends(self, key: u8, phase: Phase) -> Outcome
+    pub(crate) fn sends(self, key: u8, phase: Phase) -> LifeStep
         requires { self.sent + 1 < 2 ^ 64 }
         ensures { result ≡ record { life = record self { sent = self.sent + 1; phase = phase }; key = Some key } }
     {
-        Outcome {
+        LifeStep {
             life: LifeState {
                 sent: self.sent + 1,
                 phase,

@@ -1,49 +1,35 @@
 // The phase table: for each phase, what the host does on a character.
 
-ghost use Rattle.std.specs.Prelude.{◌≡◌, ◌<◌};
-ghost use Rattle.octal.specs.Octal.{digit_of};
-ghost use Rattle.host_core.specs.PhaseTable.{sync_hears, echo_hears, address_hears, slash_hears, first_digit_hears, before_hears};
-ghost use Rattle.host_core.specs.PhaseTable.{read, value_hears, deposit_hears, return_hears, start_hears, go_hears, waits};
-ghost use Rattle.host_core.specs.Host.{IsPlace, value_room};
+ghost use Rattle.std.specs.Prelude.{◌≡◌};
+ghost use Rattle.host_core.specs.Host.{IsPlace};
+ghost use Rattle.host_core.specs.PhaseTable.{address_hears, deposit_hears, echoed, go_hears, read, reads, returns};
+ghost use Rattle.host_core.specs.PhaseTable.{slash_hears, start_hears, synced, waits};
 
-use crate::console::{
-    CARRIAGE_RETURN, GO, LINE_FEED, PROMPT, QUESTION_MARK, RESYNCHRONISE, SLASH, SPACE,
-};
+use crate::answers::{Echo, Reading, Reply, digit, digit_echo};
+use crate::console::{CARRIAGE_RETURN, GO, RESYNCHRONISE, SLASH};
 use crate::phase::{End, Phase, Reason, Visit};
 use crate::turn::Turn;
-use octal::oct6;
 use tape_image::{Word, merge};
 
-// How many octal digits the host types of every number.
-const DIGITS: u8 = 6;
-
-/// The answer to `Z`: its echo or none, `?`, one CR or two, LF, and the prompt.
-pub(crate) fn sync(place: u8, c: u8) -> Turn
-    ensures { result ≡ sync_hears place c }
+/// Behind the answer to `Z` comes the next word.
+pub(crate) fn synced(reply: Reply) -> Turn
+    ensures { result ≡ synced reply }
 {
-    match (place, c) {
-        (0, RESYNCHRONISE) => Turn::Listen(Phase::Sync(1)),
-        (0 | 1, QUESTION_MARK) => Turn::Listen(Phase::Sync(2)),
-        (2, CARRIAGE_RETURN) => Turn::Listen(Phase::Sync(3)),
-        (3, CARRIAGE_RETURN) => Turn::Listen(Phase::Sync(4)),
-        (3 | 4, LINE_FEED) => Turn::Listen(Phase::Sync(5)),
-        (5.., PROMPT) => Turn::Next,
-        _ => Turn::Stray,
+    match reply {
+        Reply::On(place) => Turn::Listen(Phase::Sync(place)),
+        Reply::Over => Turn::Next,
+        Reply::Wrong => Turn::Stray,
     }
 }
 
-// The echo of a digit of `number`: the next digit is typed, to go on in phase `next`; after the sixth
-// comes `last`.
-fn digit_echo(number: u16, place: u8, c: u8, next: Phase, last: Turn) -> Turn
-    requires { IsPlace place }
-    ensures { result ≡ echo_hears number place c next last }
+// Behind the echo of a digit the next is typed, to go on in phase `next`; after the sixth comes `last`.
+fn echoed(echo: Echo, next: Phase, last: Turn) -> Turn
+    ensures { result ≡ echoed echo next last }
 {
-    if c != digit(number, place) {
-        Turn::Stray
-    } else if place < DIGITS {
-        Turn::Key(digit(number, place + 1), next)
-    } else {
-        last
+    match echo {
+        Echo::More(digit) => Turn::Key(digit, next),
+        Echo::Whole => last,
+        Echo::NoEcho => Turn::Stray,
     }
 }
 
@@ -53,7 +39,8 @@ pub(crate) fn address(address: u16, visit: Visit, place: u8, c: u8) -> Turn
     ensures { result ≡ address_hears address visit place c }
 {
     let opens = Turn::Key(SLASH, Phase::Slash(visit));
-    digit_echo(address, place, c, Phase::Address(visit, place + 1), opens)
+    let echo = digit_echo(address, place, c);
+    echoed(echo, Phase::Address(visit, place + 1), opens)
 }
 
 /// The echo of `/`.
@@ -66,42 +53,15 @@ pub(crate) fn slash(visit: Visit, c: u8) -> Turn
     }
 }
 
-/// The beginning of a reading, with or without a space, or `?` where no memory answers.
-pub(crate) fn before(address: u16, visit: Visit, c: u8) -> Turn
-    ensures { result ≡ before_hears address visit c }
+/// A reading of the word on a visit: it goes on, it is whole, or there is no memory.
+pub(crate) fn reads(word: Word, visit: Visit, reading: Reading) -> Turn
+    ensures { result ≡ reads word visit reading }
 {
-    match c {
-        SPACE => Turn::Listen(Phase::Value(visit, 0, 0)),
-        QUESTION_MARK => Turn::Stop(End::NoWord(address)),
-        _ => first_digit(visit, c),
-    }
-}
-
-// A word's first octal digit is 0 or 1.
-fn first_digit(visit: Visit, c: u8) -> Turn
-    ensures { result ≡ first_digit_hears visit c }
-{
-    match c {
-        b'0' | b'1' => Turn::Listen(Phase::Value(visit, u16::from(c - b'0'), 1)),
-        _ => Turn::Stray,
-    }
-}
-
-/// The rest of a reading: six digits in all, and the space after them. With five digits and a space
-/// one of six may have been lost, so that is a mishap.
-pub(crate) fn value(word: Word, visit: Visit, value: u16, place: u8, c: u8) -> Turn
-    requires { value < value_room place }
-    ensures { result ≡ value_hears word visit value place c }
-{
-    match (place, c) {
-        (0, _) => first_digit(visit, c),
-        (1..=5, b'0'..=b'7') => Turn::Listen(Phase::Value(
-            visit,
-            8 * value + u16::from(c - b'0'),
-            place + 1,
-        )),
-        (6.., SPACE) => whole_reading(word, visit, value),
-        _ => Turn::Stray,
+    match reading {
+        Reading::Digits(value, count) => Turn::Listen(Phase::Value(visit, value, count)),
+        Reading::Number(value) => whole_reading(word, visit, value),
+        Reading::NoMemory => Turn::Stop(End::NoWord(word.address())),
+        Reading::NoReading => Turn::Stray,
     }
 }
 
@@ -125,22 +85,19 @@ pub(crate) fn deposit(value: u16, place: u8, c: u8) -> Turn
     ensures { result ≡ deposit_hears value place c }
 {
     let stores = Turn::Key(CARRIAGE_RETURN, Phase::Return(Reason::Store, 0));
-    digit_echo(value, place, c, Phase::Deposit(value, place + 1), stores)
+    let echo = digit_echo(value, place, c);
+    echoed(echo, Phase::Deposit(value, place + 1), stores)
 }
 
-/// The answer to CR: one CR or two, LF, and the prompt.
-pub(crate) fn after_return(reason: Reason, place: u8, c: u8) -> Turn
-    ensures { result ≡ return_hears reason place c }
+/// The answer to CR: behind a deposit the word is read back, behind a verified word comes the next.
+pub(crate) fn after_return(reason: Reason, reply: Reply) -> Turn
+    ensures { result ≡ returns reason reply }
 {
-    match (place, c) {
-        (0, CARRIAGE_RETURN) => Turn::Listen(Phase::Return(reason, 1)),
-        (1, CARRIAGE_RETURN) => Turn::Listen(Phase::Return(reason, 2)),
-        (1 | 2, LINE_FEED) => Turn::Listen(Phase::Return(reason, 3)),
-        (3.., PROMPT) => match reason {
-            Reason::Store => Turn::ReadBack,
-            Reason::Close => Turn::Next,
-        },
-        _ => Turn::Stray,
+    match (reply, reason) {
+        (Reply::On(place), _) => Turn::Listen(Phase::Return(reason, place)),
+        (Reply::Over, Reason::Store) => Turn::ReadBack,
+        (Reply::Over, Reason::Close) => Turn::Next,
+        (Reply::Wrong, _) => Turn::Stray,
     }
 }
 
@@ -149,7 +106,8 @@ pub(crate) fn start(start: u16, place: u8, c: u8) -> Turn
     requires { IsPlace place }
     ensures { result ≡ start_hears start place c }
 {
-    digit_echo(start, place, c, Phase::Start(place + 1), Turn::Mark)
+    let echo = digit_echo(start, place, c);
+    echoed(echo, Phase::Start(place + 1), Turn::Mark)
 }
 
 /// The echo of `G`. It is never sent again: the program may be running.
@@ -172,12 +130,4 @@ pub(crate) fn quiet(phase: Phase) -> Turn
         Phase::Ended(_) => Turn::Listen(phase),
         _ => Turn::Timeout,
     }
-}
-
-/// The digit of `number` at a place from 1 to 6, as a character.
-pub(crate) fn digit(number: u16, place: u8) -> u8
-    requires { IsPlace place }
-    ensures { result ≡ digit_of number place }
-{
-    oct6(number)[usize::from(place - 1)]
 }

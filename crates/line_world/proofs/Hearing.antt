@@ -15,11 +15,14 @@ use Rattle.host_core.specs.declared.phase.Reason.TheVariants.{Store, Close}
 use Rattle.host_core.specs.declared.phase.Phase.{Phase}
 use Rattle.host_core.specs.declared.phase.Phase.TheVariants.{Settle, Sync, Address, Slash, Before, Value, Deposit, Return, Start, Go, Ended}
 use Rattle.host_core.specs.declared.turn.Turn.{Turn}
-use Rattle.host_core.specs.declared.turn.Turn.TheVariants.{Stray}
+use Rattle.host_core.specs.declared.turn.Turn.TheVariants.{Key, Mark}
 use Rattle.host_core.specs.declared.heard.Heard.TheVariants.{Got}
 use Rattle.host_core.specs.Core.{Core, word_under_way, start_of}
 use Rattle.host_core.specs.Host.{IsHost, PhaseFits, IsPlace, basis_of}
-use Rattle.host_core.specs.PhaseTable.{move, hears, sync_hears, address_hears, slash_hears, first_digit_hears, before_hears, differs, read, value_hears, deposit_hears, returned, return_hears, start_hears, go_hears}
+use Rattle.host_core.specs.Answers.{first_digit}
+use Rattle.host_core.specs.declared.answers.Echo.{Echo}
+use Rattle.host_core.specs.declared.answers.Reading.TheVariants.{Number, NoReading}
+use Rattle.host_core.specs.PhaseTable.{move, hears, synced, sync_hears, echoed, address_hears, slash_hears, reads, before_hears, differs, value_hears, deposit_hears, returned, returns, return_hears, start_hears, go_hears}
 use Rattle.line_world.specs.World.{stepped}
 use Rattle.line_world.specs.Site.{Site, site, held_number, Lies, number_mode, typing_mode, opened_mode, prompt_from, last_digits, reading}
 use Rattle.line_world.specs.Pending.{Live, Fits as MeetsKey, IsRemnant, IsOpened, Checked, Facts, after_of, rest_of}
@@ -53,7 +56,12 @@ step_on next t rest mode c u spent lost h follows facts = record {
 missed : (new : Mode) (rest : List ℕ) (mode : Mode) (c : ℕ) (u : List ℕ) (spent lost : ℕ) → Hears new rest mode c u spent lost → Misses c rest → spent < lost
 missed new rest mode c u spent lost h other = elim h.paid [ inl whole ↦ absurd (other u whole) | inr paid ↦ paid ]
 
--- each test of the table has two outcomes
+-- each test of an answer has two outcomes, whatever the table makes of them
+fits_by : {A : Type 0} (turn : A → Turn) (m : Machine) (core : Core) (u : List ℕ) (lost : ℕ) (test : Bool) (x y : A) → (test ≡ true → TurnFits m core u lost (turn x)) → (test ≡ false → TurnFits m core u lost (turn y)) →
+    TurnFits m core u lost (turn (if test then x else y))
+fits_by turn m core u lost true x y f g = f refl
+fits_by turn m core u lost false x y f g = g refl
+
 fits_if : (m : Machine) (core : Core) (u : List ℕ) (lost : ℕ) (test : Bool) (x y : Turn) → (test ≡ true → TurnFits m core u lost x) → (test ≡ false → TurnFits m core u lost y) → TurnFits m core u lost (if test then x else y)
 fits_if m core u lost true x y f g = f refl
 fits_if m core u lost false x y f g = g refl
@@ -179,31 +187,31 @@ module _ (m : Machine) (core : Core) (c : ℕ) (u : List ℕ) (lost : ℕ) where
   sync_fits : (k : ℕ) → k < 6 → Holds (Sync k) → Fits (sync_hears k c)
   sync_fits = below_six (λ k. Holds (Sync k) → Fits (sync_hears k c))
       (λ h. let x = hears_in (Sync 0) here m.mode c u core.spent lost h in
-      fits_if m core u lost (eqb c 90) _ _
+      fits_by synced m core u lost (eqb c 90) _ _
       (λ e. step_on (Sync 1) here _ m.mode c u core.spent lost x (follows_at c 90 _ _ (equal c 90 e) (echo_z m.style.echo_illegal _)) tt)
-      (λ z. fits_if m core u lost (eqb c 63) _ _
+      (λ z. fits_by synced m core u lost (eqb c 63) _ _
       (λ e. step_on (Sync 2) here _ m.mode c u core.spent lost x (follows_at c 63 _ _ (equal c 63 e) (echo_question m.style.echo_illegal _)) tt)
       (λ q. missed _ _ m.mode c u core.spent lost x (miss_echo m.style.echo_illegal c _ (differ c 90 z) (differ c 63 q)))))
       (λ h. let x = hears_in (Sync 1) here m.mode c u core.spent lost h in
-      fits_if m core u lost (eqb c 63) _ _
+      fits_by synced m core u lost (eqb c 63) _ _
       (λ e. step_on (Sync 2) here _ m.mode c u core.spent lost x (follows_next c 63 _) tt)
       (λ q. missed _ _ m.mode c u core.spent lost x (misses c 63 _ (differ c 63 q))))
       (λ h. let x = hears_in (Sync 2) here m.mode c u core.spent lost h in
-      fits_if m core u lost (eqb c 13) _ _
+      fits_by synced m core u lost (eqb c 13) _ _
       (λ e. step_on (Sync 3) here _ m.mode c u core.spent lost x (follows_at c 13 _ _ (equal c 13 e) (cr_first m.style.two_returns)) tt)
       (λ q. missed _ _ m.mode c u core.spent lost x (miss_first m.style.two_returns c (differ c 13 q))))
       (λ h. let x = hears_in (Sync 3) here m.mode c u core.spent lost h in
-      fits_if m core u lost (eqb c 13) _ _
+      fits_by synced m core u lost (eqb c 13) _ _
       (λ e. step_on (Sync 4) here _ m.mode c u core.spent lost x (follows_at c 13 _ _ (equal c 13 e) (cr_second m.style.two_returns)) tt)
-      (λ q. fits_if m core u lost (eqb c 10) _ _
+      (λ q. fits_by synced m core u lost (eqb c 10) _ _
       (λ e. step_on (Sync 5) here _ m.mode c u core.spent lost x (follows_at c 10 _ _ (equal c 10 e) (lf_first m.style.two_returns)) tt)
       (λ l. missed _ _ m.mode c u core.spent lost x (miss_second m.style.two_returns c (differ c 13 q) (differ c 10 l)))))
       (λ h. let x = hears_in (Sync 4) here m.mode c u core.spent lost h in
-      fits_if m core u lost (eqb c 10) _ _
+      fits_by synced m core u lost (eqb c 10) _ _
       (λ e. step_on (Sync 5) here _ m.mode c u core.spent lost x (follows_next c 10 _) tt)
       (λ q. missed _ _ m.mode c u core.spent lost x (misses c 10 _ (differ c 10 q))))
       (λ h. let x = hears_in (Sync 5) here m.mode c u core.spent lost h in
-      fits_if m core u lost (eqb c 64) _ _
+      fits_by synced m core u lost (eqb c 64) _ _
       (λ e. ((part_one c 64 u x.part).1, x.after))
       (λ q. missed _ _ m.mode c u core.spent lost x (misses c 64 _ (differ c 64 q))))
 
@@ -220,9 +228,10 @@ module _ (m : Machine) (core : Core) (c : ℕ) (u : List ℕ) (lost : ℕ) where
   address_fits : (visit : Visit) (k : ℕ) → IsPlace k → Holds (Address visit k) → Fits (address_hears here.word.address visit k c)
   address_fits visit k place h =
       let a = here.word.address in
+      let turn : Echo → Turn = λ e. echoed e (Address visit (k + 1)) (Key 47 (Slash visit)) in
       let x = hears_in (Address visit k) here m.mode c u core.spent lost h in
-      fits_if m core u lost (eqb c (digit_of a k)) _ _
-      (λ e. fits_if m core u lost (ltb k 6) _ _
+      fits_by turn m core u lost (eqb c (digit_of a k)) _ _
+      (λ e. fits_by turn m core u lost (ltb k 6) _ _
       (λ less. ((part_one c (digit_of a k) u x.part).1, key_down (Address visit (k + 1)) (digit_of a (k + 1)) h.facts (refl, x.after ∙ ap (number_mode a) (same_place k))))
       (λ last. ((part_one c (digit_of a k) u x.part).1, key_down (Slash visit) 47 h.facts (refl, x.after ∙ ap (number_mode a) (last_place k place last)))))
       (λ other. missed _ _ m.mode c u core.spent lost x (misses c (digit_of a k) _ (differ c (digit_of a k) other)))
@@ -237,9 +246,10 @@ module _ (m : Machine) (core : Core) (c : ℕ) (u : List ℕ) (lost : ℕ) where
   deposit_fits : (v k : ℕ) → IsPlace k → Holds (Deposit v k) → Fits (deposit_hears v k c)
   deposit_fits v k place h =
       let a = here.word.address in
+      let turn : Echo → Turn = λ e. echoed e (Deposit v (k + 1)) (Key 13 (Return Store 0)) in
       let x = hears_in (Deposit v k) here m.mode c u core.spent lost h in
-      fits_if m core u lost (eqb c (digit_of v k)) _ _
-      (λ e. fits_if m core u lost (ltb k 6) _ _
+      fits_by turn m core u lost (eqb c (digit_of v k)) _ _
+      (λ e. fits_by turn m core u lost (ltb k 6) _ _
       (λ less. ((part_one c (digit_of v k) u x.part).1, key_down (Deposit v (k + 1)) (digit_of v (k + 1)) h.facts (refl, x.after ∙ ap (typing_mode a v) (same_place k))))
       (λ last. (
         (part_one c (digit_of v k) u x.part).1,
@@ -250,9 +260,10 @@ module _ (m : Machine) (core : Core) (c : ℕ) (u : List ℕ) (lost : ℕ) where
   start_fits : (k : ℕ) → IsPlace k → core.verified ≡ length core.plan.words → Holds (Start k) → Fits (start_hears here.start k c)
   start_fits k place all h =
       let s = here.start in
+      let turn : Echo → Turn = λ e. echoed e (Start (k + 1)) Mark in
       let x = hears_in (Start k) here m.mode c u core.spent lost h in
-      fits_if m core u lost (eqb c (digit_of s k)) _ _
-      (λ e. fits_if m core u lost (ltb k 6) _ _
+      fits_by turn m core u lost (eqb c (digit_of s k)) _ _
+      (λ e. fits_by turn m core u lost (ltb k 6) _ _
       (λ less. ((part_one c (digit_of s k) u x.part).1, key_down (Start (k + 1)) (digit_of s (k + 1)) tt (refl, x.after ∙ ap (number_mode s) (same_place k))))
       (λ last. ((part_one c (digit_of s k) u x.part).1, all, x.after ∙ ap (number_mode s) (last_place k place last))))
       (λ other. missed _ _ m.mode c u core.spent lost x (misses c (digit_of s k) _ (differ c (digit_of s k) other)))
@@ -274,21 +285,21 @@ module _ (m : Machine) (core : Core) (c : ℕ) (u : List ℕ) (lost : ℕ) where
   return_fits : (why : Reason) (k : ℕ) → k < 4 → Holds (Return why k) → Fits (return_hears why k c)
   return_fits why = below_four (λ k. Holds (Return why k) → Fits (return_hears why k c))
       (λ h. let x = hears_in (Return why 0) here m.mode c u core.spent lost h in
-      fits_if m core u lost (eqb c 13) _ _
+      fits_by (returns why) m core u lost (eqb c 13) _ _
       (λ e. step_on (Return why 1) here _ m.mode c u core.spent lost x (follows_at c 13 _ _ (equal c 13 e) (cr_first m.style.two_returns)) (return_facts why 0 1 h.facts))
       (λ q. missed _ _ m.mode c u core.spent lost x (miss_first m.style.two_returns c (differ c 13 q))))
       (λ h. let x = hears_in (Return why 1) here m.mode c u core.spent lost h in
-      fits_if m core u lost (eqb c 13) _ _
+      fits_by (returns why) m core u lost (eqb c 13) _ _
       (λ e. step_on (Return why 2) here _ m.mode c u core.spent lost x (follows_at c 13 _ _ (equal c 13 e) (cr_second m.style.two_returns)) (return_facts why 1 2 h.facts))
-      (λ q. fits_if m core u lost (eqb c 10) _ _
+      (λ q. fits_by (returns why) m core u lost (eqb c 10) _ _
       (λ e. step_on (Return why 3) here _ m.mode c u core.spent lost x (follows_at c 10 _ _ (equal c 10 e) (lf_first m.style.two_returns)) (return_facts why 1 3 h.facts))
       (λ l. missed _ _ m.mode c u core.spent lost x (miss_second m.style.two_returns c (differ c 13 q) (differ c 10 l)))))
       (λ h. let x = hears_in (Return why 2) here m.mode c u core.spent lost h in
-      fits_if m core u lost (eqb c 10) _ _
+      fits_by (returns why) m core u lost (eqb c 10) _ _
       (λ e. step_on (Return why 3) here _ m.mode c u core.spent lost x (follows_next c 10 _) (return_facts why 2 3 h.facts))
       (λ q. missed _ _ m.mode c u core.spent lost x (misses c 10 _ (differ c 10 q))))
       (λ h. let x = hears_in (Return why 3) here m.mode c u core.spent lost h in
-      fits_if m core u lost (eqb c 64) _ _
+      fits_by (returns why) m core u lost (eqb c 64) _ _
       (λ e. returned_fits why h.facts (part_one c 64 u x.part).1 x.after)
       (λ q. missed _ _ m.mode c u core.spent lost x (misses c 64 _ (differ c 64 q))))
     where
@@ -302,49 +313,49 @@ module _ (m : Machine) (core : Core) (c : ℕ) (u : List ℕ) (lost : ℕ) where
   -- the first digit of a reading
   first_fits : (visit : Visit) (rest : List ℕ) → Hears (opened_mode here) rest m.mode c u core.spent lost → Checked visit here → Lies here → held_number here < 65536 →
       (c ≢ 32 → Follows c rest (last_digits (held_number here) 5)) → (c ≢ 32 → IsRemnant (c ∷ u) rest → IsRemnant (c ∷ u) (last_digits (held_number here) 6)) → (c ≢ digit_of (held_number here) 1 → Misses c rest) →
-      Fits (first_digit_hears visit c)
+      Fits (reads here.word visit (first_digit c))
   first_fits visit rest x checked lies wide follows part other =
-      fits_if m core u lost (eqb c 48 || eqb c 49) _ _
+      fits_by (reads here.word visit) m core u lost (eqb c 48 || eqb c 49) _ _
       (λ e.
       let no_space = early_other c 32 e (differ 32 48 refl) (differ 32 49 refl) in
       step_on (Value visit (c - 48) 1) here rest m.mode c u core.spent lost x (follows no_space)
       (checked, lies, λ whole. first_value (held_number here) c wide (part_next c (digit_of (held_number here) 1) u (subst (λ y. IsRemnant (c ∷ u) (digit_of (held_number here) 1 ∷ y)) (sym whole) (part no_space x.part)))))
       (λ e. missed _ rest m.mode c u core.spent lost x (other (not_first (held_number here) c wide e)))
 
-  before_lies : (visit : Visit) → Lies here → held_number here < 65536 → Holds (Before visit) → Fits (before_hears here.word.address visit c)
+  before_lies : (visit : Visit) → Lies here → held_number here < 65536 → Holds (Before visit) → Fits (before_hears here.word visit c)
   before_lies visit lies wide h =
       let w = held_number here in
       let space = m.style.space_before in
       let is : reading here ≡ (if space then 32 ∷ last_digits w 6 else last_digits w 6) = ap (λ b. if b then (if space then 32 ∷ last_digits w 6 else last_digits w 6) else 63 ∷ prompt_from m.style.two_returns 0) lies in
       let x : Hears (opened_mode here) (if space then 32 ∷ last_digits w 6 else last_digits w 6) m.mode c u core.spent lost =
       subst (λ r. Hears (opened_mode here) r m.mode c u core.spent lost) is (hears_in (Before visit) here m.mode c u core.spent lost h) in
-      fits_if m core u lost (eqb c 32) _ _
+      fits_by (reads here.word visit) m core u lost (eqb c 32) _ _
       (λ e. step_on (Value visit 0 0) here _ m.mode c u core.spent lost x (follows_at c 32 _ _ (equal c 32 e) (space_reading space w)) (h.facts, lies, λ whole. refl))
-      (λ no_space. fits_if m core u lost (eqb c 63) _ _
+      (λ no_space. fits_by (reads here.word visit) m core u lost (eqb c 63) _ _
       (λ e. absurd (part_absent 63 u _ (absent_reading space w) (subst (λ d. IsRemnant (d ∷ u) (if space then 32 ∷ last_digits w 6 else last_digits w 6)) (equal c 63 e) x.part)))
       (λ q. first_fits visit _ x h.facts lies wide (λ other. digit_reading space w c other) (λ other part. part_reading space w c u other part) (λ other. miss_reading space w c (differ c 32 no_space) other)))
 
-  before_past : (visit : Visit) → is_word m.memory here.word.address ≡ false → here.word.address % 2 ≡ 0 → Holds (Before visit) → Fits (before_hears here.word.address visit c)
+  before_past : (visit : Visit) → is_word m.memory here.word.address ≡ false → here.word.address % 2 ≡ 0 → Holds (Before visit) → Fits (before_hears here.word visit c)
   before_past visit past even h =
       let two = m.style.two_returns in
       let w = held_number here in
       let is : reading here ≡ 63 ∷ prompt_from two 0 = ap (λ b. if b then (if m.style.space_before then 32 ∷ last_digits w 6 else last_digits w 6) else 63 ∷ prompt_from two 0) past in
       let x : Hears (opened_mode here) (63 ∷ prompt_from two 0) m.mode c u core.spent lost =
       subst (λ r. Hears (opened_mode here) r m.mode c u core.spent lost) is (hears_in (Before visit) here m.mode c u core.spent lost h) in
-      fits_if m core u lost (eqb c 32) _ _
+      fits_by (reads here.word visit) m core u lost (eqb c 32) _ _
       (λ e. absurd (part_absent c u (63 ∷ prompt_from two 0) (absent_refused two c (elsewhere c 32 63 e refl) (elsewhere c 32 13 e refl) (elsewhere c 32 10 e refl) (elsewhere c 32 64 e refl)) x.part))
-      (λ no_space. fits_if m core u lost (eqb c 63) _ _
+      (λ no_space. fits_by (reads here.word visit) m core u lost (eqb c 63) _ _
       (λ e. past_top m.memory here.word.address even past)
-      (λ q. fits_if m core u lost (eqb c 48 || eqb c 49) _ _
+      (λ q. fits_by (reads here.word visit) m core u lost (eqb c 48 || eqb c 49) _ _
       (λ e. absurd (part_absent c u (63 ∷ prompt_from two 0) (absent_refused two c (differ c 63 q) (early_other c 13 e (differ 13 48 refl) (differ 13 49 refl)) (early_other c 10 e (differ 10 48 refl) (differ 10 49 refl)) (early_other c 64 e (differ 64 48 refl) (differ 64 49 refl))) x.part))
       (λ e. missed _ _ m.mode c u core.spent lost x (misses c 63 _ (differ c 63 q)))))
     where
       elsewhere : (c d e : ℕ) → eqb c d ≡ true → eqb d e ≡ false → c ≢ e
       elsewhere c d e same other is = differ d e other (sym (equal c d same) ∙ is)
 
-  before_fits : (visit : Visit) → here.word.address % 2 ≡ 0 → held_number here < 65536 → Holds (Before visit) → Fits (before_hears here.word.address visit c)
+  before_fits : (visit : Visit) → here.word.address % 2 ≡ 0 → held_number here < 65536 → Holds (Before visit) → Fits (before_hears here.word visit c)
   before_fits visit even wide h =
-      elim (is_word m.memory here.word.address) as (λ b. is_word m.memory here.word.address ≡ b → Fits (before_hears here.word.address visit c)) [
+      elim (is_word m.memory here.word.address) as (λ b. is_word m.memory here.word.address ≡ b → Fits (before_hears here.word visit c)) [
         | true ↦ λ lies. before_lies visit lies wide h
         | false ↦ λ past. before_past visit past even h
       ] refl
@@ -357,9 +368,9 @@ module _ (m : Machine) (core : Core) (c : ℕ) (u : List ℕ) (lost : ℕ) where
   differs_fits Check v checked lies is none opened other = absurd (differ (merged here.word v) v other (ap (merged here.word) is ∙ checked.1 ∙ sym is))
 
   -- the space after a whole reading
-  read_fits : (visit : Visit) (v : ℕ) → Hears (opened_mode here) (32 ∷ []) m.mode c u core.spent lost → Checked visit here → Lies here → (c ∷ u ≡ 32 ∷ [] → v ≡ held_number here) → Fits (if eqb c 32 then read here.word visit v else Stray)
+  read_fits : (visit : Visit) (v : ℕ) → Hears (opened_mode here) (32 ∷ []) m.mode c u core.spent lost → Checked visit here → Lies here → (c ∷ u ≡ 32 ∷ [] → v ≡ held_number here) → Fits (reads here.word visit (if eqb c 32 then Number v else NoReading))
   read_fits visit v x checked lies value =
-      fits_if m core u lost (eqb c 32) _ _
+      fits_by (reads here.word visit) m core u lost (eqb c 32) _ _
       (λ e.
       let none : u ≡ [] = (part_one c 32 u x.part).1 in
       let is : v ≡ held_number here = value (whole c u (equal c 32 e) none) in
@@ -378,14 +389,14 @@ module _ (m : Machine) (core : Core) (c : ℕ) (u : List ℕ) (lost : ℕ) where
       let checked = h.facts.0 in
       let lies = h.facts.1 in
       let x : Hears (opened_mode here) (last_digits w (6 - j)) m.mode c u core.spent lost = hears_in (Value visit v j) here m.mode c u core.spent lost h in
-      fits_if m core u lost (eqb j 0) _ _
+      fits_by (reads here.word visit) m core u lost (eqb j 0) _ _
       (λ z. first_fits visit (last_digits w 6) (subst (λ k. Hears (opened_mode here) (last_digits w (6 - k)) m.mode c u core.spent lost) (equal j 0 z) x) checked lies wide
       (λ other. follows_next c (digit_of w 1) (last_digits w 5)) (λ other part. part) (λ other. misses c (digit_of w 1) _ other))
-      (λ later. fits_if m core u lost (ltb j 6) _ _
+      (λ later. fits_by (reads here.word visit) m core u lost (ltb j 6) _ _
       (λ less.
       let below : j < 6 = under j less in
       let y : Hears (opened_mode here) (digit_of w (j + 1) ∷ last_digits w (6 - (j + 1))) m.mode c u core.spent lost = subst (λ r. Hears (opened_mode here) r m.mode c u core.spent lost) (last_step w j below) x in
-      fits_if m core u lost (is_digit c) _ _
+      fits_by (reads here.word visit) m core u lost (is_digit c) _ _
       (λ e. step_on (Value visit (8 * v + (c - 48)) (j + 1)) here _ m.mode c u core.spent lost y (follows_next c (digit_of w (j + 1)) _) (
         checked,
         lies,

@@ -13,7 +13,9 @@ use Rattle.host_core.specs.declared.phase.Phase.TheVariants.{Settle, Sync, Addre
 use Rattle.host_core.specs.declared.turn.Turn.{Turn}
 use Rattle.host_core.specs.declared.turn.Turn.TheVariants.{Listen, Key, Verified, ReadBack, Next, Mark, Stop, Stray, Timeout}
 use Rattle.host_core.specs.Host.{IsPlace, PhaseFits, HasWord, Basis}
-use Rattle.host_core.specs.PhaseTable.{hears, sync_hears, address_hears, slash_hears, first_digit_hears, before_hears, differs, read, value_hears, deposit_hears, return_hears, start_hears, go_hears}
+use Rattle.host_core.specs.Answers.{first_digit}
+use Rattle.host_core.specs.declared.answers.Reading.TheVariants.{Digits, NoReading}
+use Rattle.host_core.specs.PhaseTable.{hears, sync_hears, address_hears, slash_hears, reads, before_hears, differs, read, value_hears, deposit_hears, return_hears, start_hears, go_hears}
 use Rattle.line_world.specs.Site.{Site, held_number, Lies, prompt_from, last_digits, reading, refusal_from}
 use Rattle.line_world.specs.Pending.{Checked, Facts, rest_of}
 use Rattle.line_world.proofs.Parts.{differ}
@@ -74,6 +76,12 @@ Leads t here later Timeout keys = ⊥
 leads_if : (t : Site) (here later : List ℕ) (test : Bool) (x y : Turn) (keys : List ℕ) → (test ≡ true → Leads t here later x keys) → (test ≡ false → Leads t here later y keys) → Leads t here later (if test then x else y) keys
 leads_if t here later true x y keys f g = f refl
 leads_if t here later false x y keys f g = g refl
+
+-- so has each test of an answer, whatever the table makes of it
+leads_by : {A : Type 0} (turn : A → Turn) (t : Site) (here later : List ℕ) (test : Bool) (x y : A) (keys : List ℕ) → (test ≡ true → Leads t here later (turn x) keys) → (test ≡ false → Leads t here later (turn y) keys) →
+    Leads t here later (turn (if test then x else y)) keys
+leads_by turn t here later true x y keys f g = f refl
+leads_by turn t here later false x y keys f g = g refl
 
 same_self : (n : ℕ) → eqb n n ≡ true
 same_self n = grind (arith, nat_tests)
@@ -152,9 +160,9 @@ module _ (t : Site) (here later : List ℕ) (c : ℕ) (u : List ℕ) where
   slash_leads visit more e = at_first 47 more (visit_keys visit t.word (held_number t) later) (λ x. slash_hears visit x) e refl
 
   -- the first digit of a word is 0 or 1
-  first_leads : (visit : Visit) (more : List ℕ) → held_number t < 65536 → c ∷ u ≡ digit_of (held_number t) 1 ∷ more → Goes (first_digit_hears visit c) (visit_keys visit t.word (held_number t) later)
+  first_leads : (visit : Visit) (more : List ℕ) → held_number t < 65536 → c ∷ u ≡ digit_of (held_number t) 1 ∷ more → Goes (reads t.word visit (first_digit c)) (visit_keys visit t.word (held_number t) later)
   first_leads visit more wide e =
-      leads_if t here later (eqb c 48 || eqb c 49) _ _ _ (λ yes. refl)
+      leads_by (reads t.word visit) t here later (eqb c 48 || eqb c 49) _ _ _ (λ yes. refl)
       (λ other. absurd (not_first (held_number t) c wide other (first_of e)))
 
   -- a digit is neither a space nor `?`
@@ -168,11 +176,11 @@ module _ (t : Site) (here later : List ℕ) (c : ℕ) (u : List ℕ) where
       question : (c n : ℕ) → n < 8 → eqb c 63 ≡ true → c ≡ 48 + n → ⊥
       question c n small e same = grind (arith, nat_tests)
 
-  before_leads : (visit : Visit) (space : Bool) → held_number t < 65536 → c ∷ u ≡ (if space then 32 ∷ last_digits (held_number t) 6 else last_digits (held_number t) 6) → Goes (before_hears t.word.address visit c) (visit_keys visit t.word (held_number t) later)
-  before_leads visit true wide e = at_first 32 _ (visit_keys visit t.word (held_number t) later) (λ x. before_hears t.word.address visit x) e refl
+  before_leads : (visit : Visit) (space : Bool) → held_number t < 65536 → c ∷ u ≡ (if space then 32 ∷ last_digits (held_number t) 6 else last_digits (held_number t) 6) → Goes (before_hears t.word visit c) (visit_keys visit t.word (held_number t) later)
+  before_leads visit true wide e = at_first 32 _ (visit_keys visit t.word (held_number t) later) (λ x. before_hears t.word visit x) e refl
   before_leads visit false wide e =
-      leads_if t here later (eqb c 32) _ _ _ (λ yes. refl)
-      (λ other. leads_if t here later (eqb c 63) _ _ _
+      leads_by (reads t.word visit) t here later (eqb c 32) _ _ _ (λ yes. refl)
+      (λ other. leads_by (reads t.word visit) t here later (eqb c 63) _ _ _
       (λ question. absurd (digit_other (head (held_number t) 1) 63 c (inr refl) (first_of e) question))
       (λ no_question. first_leads visit _ wide e))
 
@@ -188,9 +196,9 @@ module _ (t : Site) (here later : List ℕ) (c : ℕ) (u : List ℕ) where
       (λ other. absurd (differ (merged t.word v) v other (ap (merged t.word) is ∙ checked.1 ∙ sym is)))
 
   -- a further digit
-  digit_leads : (visit : Visit) (v j h : ℕ) (more : List ℕ) → c ∷ u ≡ (48 + h % 8) ∷ more → Goes (if is_digit c then Listen (Value visit (8 * v + (c - 48)) (j + 1)) else Stray) (visit_keys visit t.word (held_number t) later)
+  digit_leads : (visit : Visit) (v j h : ℕ) (more : List ℕ) → c ∷ u ≡ (48 + h % 8) ∷ more → Goes (reads t.word visit (if is_digit c then Digits (8 * v + (c - 48)) (j + 1) else NoReading)) (visit_keys visit t.word (held_number t) later)
   digit_leads visit v j h more e =
-      leads_if t here later (is_digit c) _ _ _ (λ yes. refl)
+      leads_by (reads t.word visit) t here later (is_digit c) _ _ _ (λ yes. refl)
       (λ other. absurd (not_digit (sym (ap is_digit (first_of e)) ∙ other) (digit_is h)))
     where
       not_digit : {b : Bool} → b ≡ false → b ≡ true → ⊥

@@ -27,7 +27,7 @@ use Rattle.reading_core.specs.declared.turn.Turn.TheVariants.{Listen, Key, Read,
 use Rattle.reading_core.specs.Addresses.{AreAddresses}
 use Rattle.reading_core.specs.Laws.{led}
 use Rattle.reading_core.specs.Reader.{Reader, begun}
-use Rattle.reading_core.specs.ReadingTable.{Asked, ask, taken, turn_of, values_after}
+use Rattle.reading_core.specs.ReadingTable.{ReaderStep, ask, taken, turn_of, values_after}
 use Rattle.reading_core.proofs.Lives.{asked}
 use Rattle.looking_law.specs.Belief.{dialogue}
 use Rattle.looking_law.specs.Inquiry.{Inquiry, happens, over}
@@ -64,7 +64,7 @@ hears_right memory r (Got c) x paid w = not_reading r.phase r.patience paid r.sp
 hears_right memory r Silence x paid w = tt
 
 -- what comes next
-abbrev Goes : Program → (ℕ → Type 0) → List ℕ → ℕ → Asked → Link → Type 0
+abbrev Goes : Program → (ℕ → Type 0) → List ℕ → ℕ → ReaderStep → Link → Type 0
 Goes program R before paid a v =
     Waiting program R before paid (core_for before a.next) (sent_on v (option_to_list a.key)) ⊎ Settled program R before paid (core_for before a.next) (sent_on v (option_to_list a.key))
 

@@ -1,9 +1,9 @@
 -- Step by step a reading host does what a loading host does whose plan says what memory holds already.
-use Rattle.std.proofs.Common.{◌≡◌, ℕ, zero, suc, ◌+◌, ◌≤◌, Bool, true, false, ◌==◌, nat_lt, ◌||◌, ◌&&◌, if◌then◌else◌, List, [], ◌∷◌, length, take, get_or, refl, ap, sym, ◌∙◌, length-take}
+use Rattle.std.proofs.Common.{◌≡◌, ℕ, zero, suc, ◌+◌, ◌≤◌, Bool, true, false, ◌==◌, nat_lt, ◌&&◌, if◌then◌else◌, List, [], ◌∷◌, length, take, get_or, refl, ap, sym, ◌∙◌, length-take}
 use Rattle.std.proofs.lemmas.Bool.{eq-eqb}
 use Rattle.std.proofs.lemmas.List.{length_push}
-use borrow.Author.Tests.{ltb-true, ltb-false, eqb-true}
-use Rattle.octal.specs.Octal.{digit_of, is_digit}
+use borrow.Author.Tests.{ltb-true, eqb-true}
+use Rattle.octal.specs.Octal.{digit_of}
 use Rattle.tape_image.specs.Word.{WordValue, merged}
 use Rattle.host_core.specs.declared.heard.Heard.{Heard}
 use Rattle.host_core.specs.declared.heard.Heard.TheVariants.{Got, Quiet}
@@ -15,8 +15,9 @@ use Rattle.host_core.specs.declared.phase.End.{End as LoadEnd}
 use Rattle.host_core.specs.declared.phase.End.TheVariants.{Loaded, GaveUp as LoadGaveUp, NoWord as LoadNoWord}
 use Rattle.host_core.specs.declared.turn.Turn.{Turn as LoadTurn}
 use Rattle.host_core.specs.declared.turn.Turn.TheVariants.{Listen as LoadListen, Key as LoadKey, Verified, Next as LoadNext, Stop as LoadStop, Stray as LoadStray, Timeout as LoadTimeout}
+use Rattle.host_core.specs.Answers.{resynchronise_reply, return_reply, digit_echo, reading_start, reading_rest}
 use Rattle.host_core.specs.Core.{Core, word_nr, word_under_way, begun as load_begun, restarted as load_restarted}
-use Rattle.host_core.specs.PhaseTable.{Move, move, sends as load_sends, listens as load_listens, taken as load_taken, turn_of as load_turn_of, hears as load_hears, waits as load_waits, read as load_read, differs, next_word as load_next_word, sync_hears as load_sync_hears, address_hears as load_address_hears, first_digit_hears as load_first_digit_hears, before_hears as load_before_hears, value_hears as load_value_hears, return_hears as load_return_hears}
+use Rattle.host_core.specs.PhaseTable.{Move, move, sends as load_sends, listens as load_listens, taken as load_taken, turn_of as load_turn_of, hears as load_hears, waits as load_waits, read as load_read, differs, next_word as load_next_word, synced as load_synced, echoed as load_echoed, address_hears as load_address_hears, reads as load_reads, returns as load_returns}
 use Rattle.reading_core.specs.declared.phase.Phase.{Phase}
 use Rattle.reading_core.specs.declared.phase.Phase.TheVariants.{Settle, Sync, Address, Slash, Before, Value, Close, Ended}
 use Rattle.reading_core.specs.declared.phase.End.{End}
@@ -24,7 +25,8 @@ use Rattle.reading_core.specs.declared.phase.End.TheVariants.{Complete, GaveUp, 
 use Rattle.reading_core.specs.declared.turn.Turn.{Turn}
 use Rattle.reading_core.specs.declared.turn.Turn.TheVariants.{Listen, Key, Read, Next, Stop, Stray, Timeout}
 use Rattle.reading_core.specs.Reader.{Reader, address_under_way, begun, restarted}
-use Rattle.reading_core.specs.ReadingTable.{Asked, ask, taken, turn_of, hears, waits, next_word, sends, listens, sync_hears, address_hears, first_digit_hears, before_hears, value_hears, close_hears}
+use Rattle.reading_core.specs.ReadingTable.{ReaderStep, ask, taken, turn_of, hears, waits, next_word, sends, listens, synced, addressed, reads, closed}
+use Rattle.host_core.proofs.Replies.{resynchronise_walk, return_walk, echo_walk, start_walk, rest_walk}
 use Rattle.looking_law.proofs.Saying.{plan_for, words_for, nr_for, length_for}
 
 -- ---- the same of the loading host
@@ -65,12 +67,12 @@ core_for memory r = record {
   phase = phase_for r.phase;
 }
 
-abbrev move_for : List ℕ → Asked → Move
+abbrev move_for : List ℕ → ReaderStep → Move
 move_for memory a = record { next = core_for memory a.next; key = a.key }
 
 -- ---- a turn
 
-same_if : (memory : List ℕ) (test other : Bool) (a b : Move) (x y : Asked) → test ≡ other → (other ≡ true → a ≡ move_for memory x) → b ≡ move_for memory y → (if test then a else b) ≡ move_for memory (if other then x else y)
+same_if : (memory : List ℕ) (test other : Bool) (a b : Move) (x y : ReaderStep) → test ≡ other → (other ≡ true → a ≡ move_for memory x) → b ≡ move_for memory y → (if test then a else b) ≡ move_for memory (if other then x else y)
 same_if memory test true a b x y same holds fails = ap (λ v. if v then a else b) same ∙ holds refl
 same_if memory test false a b x y same holds fails = ap (λ v. if v then a else b) same ∙ fails
 
@@ -105,39 +107,26 @@ row : (test : Bool) (a b : LoadTurn) (x y : Turn) → (test ≡ true → a ≡ t
 row true a b x y holds fails = holds refl
 row false a b x y holds fails = fails refl
 
-sync_for : (place c : ℕ) → load_sync_hears place c ≡ turn_for (sync_hears place c)
-sync_for place c =
-    row (place == 0) _ _ _ _ (λ _. row (c == 90) _ _ _ _ (λ _. refl) (λ _. row (c == 63) _ _ _ _ (λ _. refl) (λ _. refl)))
-    (λ _. row (place == 1) _ _ _ _ (λ _. row (c == 63) _ _ _ _ (λ _. refl) (λ _. refl))
-    (λ _. row (place == 2) _ _ _ _ (λ _. row (c == 13) _ _ _ _ (λ _. refl) (λ _. refl))
-    (λ _. row (place == 3) _ _ _ _ (λ _. row (c == 13) _ _ _ _ (λ _. refl) (λ _. row (c == 10) _ _ _ _ (λ _. refl) (λ _. refl)))
-    (λ _. row (place == 4) _ _ _ _ (λ _. row (c == 10) _ _ _ _ (λ _. refl) (λ _. refl))
-    (λ _. row (c == 64) _ _ _ _ (λ _. refl) (λ _. refl))))))
+sync_for : (place c : ℕ) → load_synced (resynchronise_reply place c) ≡ turn_for (synced (resynchronise_reply place c))
+sync_for place c = resynchronise_walk (λ r. load_synced r ≡ turn_for (synced r)) place c refl (λ _ _. refl) (λ _. refl)
 
-address_for : (address place c : ℕ) → load_address_hears address Look place c ≡ turn_for (address_hears address place c)
-address_for address place c = row (c == digit_of address place) _ _ _ _ (λ _. row (nat_lt place 6) _ _ _ _ (λ _. refl) (λ _. refl)) (λ _. refl)
+address_for : (address place c : ℕ) → load_address_hears address Look place c ≡ turn_for (addressed place (digit_echo address place c))
+address_for address place c =
+    echo_walk (λ e. load_echoed e (LoadAddress Look (place + 1)) (LoadKey 47 (LoadSlash Look)) ≡ turn_for (addressed place e)) address place c refl (λ _ _. refl) (λ _ _. refl)
 
-first_digit_for : (c : ℕ) → load_first_digit_hears Look c ≡ turn_for (first_digit_hears c)
-first_digit_for c = row (c == 48 || c == 49) _ _ _ _ (λ _. refl) (λ _. refl)
-
-before_for : (address c : ℕ) → load_before_hears address Look c ≡ turn_for (before_hears address c)
-before_for address c = row (c == 32) _ _ _ _ (λ _. refl) (λ _. row (c == 63) _ _ _ _ (λ _. refl) (λ _. first_digit_for c))
+before_for : (word : WordValue) (c : ℕ) → load_reads word Look (reading_start c) ≡ turn_for (reads word.address (reading_start c))
+before_for word c = start_walk (λ r. load_reads word Look r ≡ turn_for (reads word.address r)) c refl refl refl (λ _ _. refl)
 
 read_for : (word : WordValue) (value : ℕ) → merged word value ≡ value → load_read word Look value ≡ Verified
 read_for word value same = ap (λ test. if test then Verified else differs word Look value) (eq-eqb (merged word value) value same)
 
-value_for : (word : WordValue) (value place c : ℕ) → (6 ≤ place → c ≡ 32 → merged word value ≡ value) → load_value_hears word Look value place c ≡ turn_for (value_hears value place c)
+value_for : (word : WordValue) (value place c : ℕ) → (6 ≤ place → c ≡ 32 → merged word value ≡ value) → load_reads word Look (reading_rest value place c) ≡ turn_for (reads word.address (reading_rest value place c))
 value_for word value place c same =
-    row (place == 0) _ _ _ _ (λ _. first_digit_for c)
-    (λ _. row (nat_lt place 6) _ _ _ _ (λ _. row (is_digit c) _ _ _ _ (λ _. refl) (λ _. refl))
-    (λ all. row (c == 32) _ _ _ _ (λ blank. read_for word value (same (ltb-false _ _ all) (eqb-true _ _ blank))) (λ _. refl)))
+    rest_walk (λ r. load_reads word Look r ≡ turn_for (reads word.address r)) value place c refl (λ _ _ _. refl) (λ _ _ _. refl)
+    (λ all blank. read_for word value (same all (eqb-true _ _ blank)))
 
-close_for : (place c : ℕ) → load_return_hears Closes place c ≡ turn_for (close_hears place c)
-close_for place c =
-    row (place == 0) _ _ _ _ (λ _. row (c == 13) _ _ _ _ (λ _. refl) (λ _. refl))
-    (λ _. row (place == 1) _ _ _ _ (λ _. row (c == 13) _ _ _ _ (λ _. refl) (λ _. row (c == 10) _ _ _ _ (λ _. refl) (λ _. refl)))
-    (λ _. row (place == 2) _ _ _ _ (λ _. row (c == 10) _ _ _ _ (λ _. refl) (λ _. refl))
-    (λ _. row (c == 64) _ _ _ _ (λ _. refl) (λ _. refl))))
+close_for : (place c : ℕ) → load_returns Closes (return_reply place c) ≡ turn_for (closed (return_reply place c))
+close_for place c = return_walk (λ r. load_returns Closes r ≡ turn_for (closed r)) place c refl (λ _ _. refl) (λ _. refl)
 
 -- a number that is about to be read is what the word holds
 abbrev pub ReadsWord : Phase → ℕ → WordValue → Type 0
@@ -149,7 +138,7 @@ hears_for word start Settle c right = refl
 hears_for word start (Sync place) c right = sync_for place c
 hears_for word start (Address place) c right = address_for word.address place c
 hears_for word start Slash c right = row (c == 47) _ _ _ _ (λ _. refl) (λ _. refl)
-hears_for word start Before c right = before_for word.address c
+hears_for word start Before c right = before_for word c
 hears_for word start (Value value place) c right = value_for word value place c right
 hears_for word start (Close place) c right = close_for place c
 hears_for word start (Ended end) c right = refl

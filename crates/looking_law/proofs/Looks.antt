@@ -1,11 +1,13 @@
 -- A reading host types no digit right after `/`, and never `G`, whatever it hears.
-use Rattle.std.proofs.Common.{◌≡◌, ℕ, ◌+◌, Bool, true, false, ◌==◌, nat_lt, ltb, ◌||◌, if◌then◌else◌, List, [], ◌∷◌, ◌++◌, length, Option, Some, None, unwrap_or, inl, inr, refl, arith}
+use Rattle.std.proofs.Common.{◌≡◌, ℕ, ◌+◌, Bool, true, false, ◌==◌, nat_lt, ltb, if◌then◌else◌, List, [], ◌∷◌, ◌++◌, length, Option, Some, None, unwrap_or, inl, inr, refl, arith}
 use Rattle.std.specs.Prelude.{option_to_list}
 use Rattle.std.proofs.lemmas.Bool.Decides.{nat_tests}
 use Rattle.octal.specs.Octal.{digit_of, is_digit}
 use Rattle.host_core.specs.declared.heard.Heard.{Heard}
 use Rattle.host_core.specs.declared.heard.Heard.TheVariants.{Got, Quiet as Silence}
+use Rattle.host_core.specs.Answers.{resynchronise_reply, return_reply, digit_echo, reading_start, reading_rest}
 use Rattle.host_core.proofs.Frame.{on_test}
+use Rattle.host_core.proofs.Replies.{either, resynchronise_walk, return_walk, echo_walk, start_walk, rest_walk}
 use Rattle.line_world.specs.declared.event.Event.{Event}
 use Rattle.line_world.specs.declared.event.Event.TheVariants.{Take, Hear, LoseDown, LoseUp, Quiet, Restart}
 use Rattle.line_world.specs.Wire.{without_down, without_up}
@@ -16,8 +18,7 @@ use Rattle.reading_core.specs.declared.turn.Turn.{Turn}
 use Rattle.reading_core.specs.declared.turn.Turn.TheVariants.{Listen, Key, Read, Next, Stop, Stray, Timeout}
 use Rattle.reading_core.specs.Laws.{replay}
 use Rattle.reading_core.specs.Reader.{Reader, address_under_way, restarted}
-use Rattle.reading_core.specs.ReadingTable.{ask, taken, turn_of, hears, waits, sends, listens, sync_hears, address_hears, first_digit_hears, before_hears, value_hears, close_hears}
-use Rattle.reading_core.proofs.Turns.{either}
+use Rattle.reading_core.specs.ReadingTable.{ask, taken, turn_of, hears, waits, sends, listens, synced, addressed, reads, closed}
 use Rattle.looking_law.specs.Inquiry.{Inquiry, wire_of, over, takes, host_hears as world_hears, times_out, happens, typed_hearing, typed_timeout, typed_in, typed}
 use Rattle.looking_law.specs.Harmless.{IsLooking, OnlyLook}
 
@@ -89,45 +90,26 @@ isnt : (slash : Bool) → (slash ≡ true → ⊥) → slash ≡ false
 isnt true never = absurd (never refl)
 isnt false never = refl
 
-sync_looks : (slash : Bool) (place c : ℕ) → slash ≡ false → TurnLooks slash (sync_hears place c)
-sync_looks slash place c e =
-    let P : Turn → Type 0 = TurnLooks slash in
-    either P (place == 0) _ _ (λ _. either P (c == 90) _ _ (λ _. λ s. cc) (λ _. either P (c == 63) _ _ (λ _. λ s. cc) (λ _. tt)))
-    (λ _. either P (place == 1) _ _ (λ _. either P (c == 63) _ _ (λ _. λ s. cc) (λ _. tt))
-    (λ _. either P (place == 2) _ _ (λ _. either P (c == 13) _ _ (λ _. λ s. cc) (λ _. tt))
-    (λ _. either P (place == 3) _ _ (λ _. either P (c == 13) _ _ (λ _. λ s. cc) (λ _. either P (c == 10) _ _ (λ _. λ s. cc) (λ _. tt)))
-    (λ _. either P (place == 4) _ _ (λ _. either P (c == 10) _ _ (λ _. λ s. cc) (λ _. tt))
-    (λ _. either P (c == 64) _ _ (λ _. e) (λ _. tt))))))
+sync_looks : (slash : Bool) (place c : ℕ) → slash ≡ false → TurnLooks slash (synced (resynchronise_reply place c))
+sync_looks slash place c e = resynchronise_walk (λ r. TurnLooks slash (synced r)) place c tt (λ _ _. λ s. cc) (λ _. e)
 
 slash_looks : (slash : Bool) → slash ≡ false → IsLooking slash 47
 slash_looks false e = inr (inl refl)
 slash_looks true e = absurd (cc e)
 
-address_looks : (slash : Bool) (address place c : ℕ) → slash ≡ false → TurnLooks slash (address_hears address place c)
+address_looks : (slash : Bool) (address place c : ℕ) → slash ≡ false → TurnLooks slash (addressed place (digit_echo address place c))
 address_looks slash address place c e =
-    either (TurnLooks slash) (c == digit_of address place) _ _
-    (λ _. either (TurnLooks slash) (nat_lt place 6) _ _ (λ _. (digit_looks slash address (place + 1) e, no_slash address (place + 1) ⊥)) (λ _. (slash_looks slash e, λ _. tt)))
-    (λ _. tt)
+    echo_walk (λ echo. TurnLooks slash (addressed place echo)) address place c tt
+    (λ _ _. (digit_looks slash address (place + 1) e, no_slash address (place + 1) ⊥)) (λ _ _. (slash_looks slash e, λ _. tt))
 
-first_digit_looks : (slash : Bool) (c : ℕ) → TurnLooks slash (first_digit_hears c)
-first_digit_looks slash c = either (TurnLooks slash) (c == 48 || c == 49) _ _ (λ _. λ _. tt) (λ _. tt)
+before_looks : (slash : Bool) (address c : ℕ) → TurnLooks slash (reads address (reading_start c))
+before_looks slash address c = start_walk (λ r. TurnLooks slash (reads address r)) c tt (λ _. tt) tt (λ _ _. λ _. tt)
 
-before_looks : (slash : Bool) (address c : ℕ) → TurnLooks slash (before_hears address c)
-before_looks slash address c = either (TurnLooks slash) (c == 32) _ _ (λ _. λ _. tt) (λ _. either (TurnLooks slash) (c == 63) _ _ (λ _. tt) (λ _. first_digit_looks slash c))
+value_looks : (slash : Bool) (address value place c : ℕ) → TurnLooks slash (reads address (reading_rest value place c))
+value_looks slash address value place c = rest_walk (λ r. TurnLooks slash (reads address r)) value place c tt (λ _ _ _. λ _. tt) (λ _ _ _. λ _. tt) (λ _ _. tt)
 
-value_looks : (slash : Bool) (value place c : ℕ) → TurnLooks slash (value_hears value place c)
-value_looks slash value place c =
-    either (TurnLooks slash) (place == 0) _ _ (λ _. first_digit_looks slash c)
-    (λ _. either (TurnLooks slash) (nat_lt place 6) _ _ (λ _. either (TurnLooks slash) (is_digit c) _ _ (λ _. λ _. tt) (λ _. tt))
-    (λ _. either (TurnLooks slash) (c == 32) _ _ (λ _. tt) (λ _. tt)))
-
-close_looks : (slash : Bool) (place c : ℕ) → slash ≡ false → TurnLooks slash (close_hears place c)
-close_looks slash place c e =
-    let P : Turn → Type 0 = TurnLooks slash in
-    either P (place == 0) _ _ (λ _. either P (c == 13) _ _ (λ _. λ s. cc) (λ _. tt))
-    (λ _. either P (place == 1) _ _ (λ _. either P (c == 13) _ _ (λ _. λ s. cc) (λ _. either P (c == 10) _ _ (λ _. λ s. cc) (λ _. tt)))
-    (λ _. either P (place == 2) _ _ (λ _. either P (c == 10) _ _ (λ _. λ s. cc) (λ _. tt))
-    (λ _. either P (c == 64) _ _ (λ _. e) (λ _. tt))))
+close_looks : (slash : Bool) (place c : ℕ) → slash ≡ false → TurnLooks slash (closed (return_reply place c))
+close_looks slash place c e = return_walk (λ r. TurnLooks slash (closed r)) place c tt (λ _ _. λ s. cc) (λ _. e)
 
 hears_look : (slash : Bool) (address : ℕ) (phase : Phase) (c : ℕ) → Agrees slash phase → TurnLooks slash (hears address phase c)
 hears_look slash address Settle c a = a
@@ -135,7 +117,7 @@ hears_look slash address (Sync place) c a = sync_looks slash place c (isnt slash
 hears_look slash address (Address place) c a = address_looks slash address place c (isnt slash a)
 hears_look slash address Slash c a = either (TurnLooks slash) (c == 47) _ _ (λ _. λ _. tt) (λ _. tt)
 hears_look slash address Before c a = before_looks slash address c
-hears_look slash address (Value value place) c a = value_looks slash value place c
+hears_look slash address (Value value place) c a = value_looks slash address value place c
 hears_look slash address (Close place) c a = close_looks slash place c (isnt slash a)
 hears_look slash address (Ended end) c a = a
 

@@ -1,7 +1,7 @@
 -- The world of a reading host beside the world of the loading host that does the same.
-use Rattle.std.proofs.Common.{◌≡◌, ℕ, ◌-◌, ◌^◌, ◌<◌, ◌≤◌, Bool, true, false, ltb, ◌==◌, nat_lt, ◌||◌, if◌then◌else◌, min, List, [], ◌∷◌, length, get_or, Some, None, unwrap_or, inl, inr, refl, arith, ap, sym, subst, ◌∙◌, length-take}
+use Rattle.std.proofs.Common.{◌≡◌, ℕ, ◌-◌, ◌^◌, ◌<◌, ◌≤◌, Bool, true, false, ltb, ◌==◌, if◌then◌else◌, min, List, [], ◌∷◌, length, get_or, Some, None, unwrap_or, inl, inr, refl, arith, ap, sym, subst, ◌∙◌, length-take}
 use Rattle.std.proofs.lemmas.List.{get_or-take, get_or_push, get_or_append_left, length_push}
-use Rattle.octal.specs.Octal.{head, digit_of, is_digit}
+use Rattle.octal.specs.Octal.{head}
 use Rattle.tape_image.specs.Word.{WordValue, merged}
 use Rattle.tape_image.specs.Plan.{IsPlan}
 use Rattle.odt_machine.specs.Machine.{Machine, IsMachine, is_word, word_at}
@@ -9,8 +9,10 @@ use Rattle.odt_machine.specs.Laws.{is_running}
 use Rattle.odt_machine.specs.declared.mode.Mode.{Mode}
 use Rattle.host_core.specs.declared.heard.Heard.{Heard}
 use Rattle.host_core.specs.declared.heard.Heard.TheVariants.{Got, Quiet as Silence}
+use Rattle.host_core.specs.Answers.{resynchronise_reply, return_reply, digit_echo, reading_start, reading_rest}
 use Rattle.host_core.specs.Core.{word_nr, begun as load_begun}
 use Rattle.host_core.specs.Host.{IsHost, basis_of, PhaseFits}
+use Rattle.host_core.proofs.Replies.{either, resynchronise_walk, return_walk, echo_walk, start_walk, rest_walk}
 use Rattle.host_core.proofs.Turns.{begun_kept}
 use Rattle.line_world.specs.declared.event.Event.{Event}
 use Rattle.line_world.specs.declared.event.Event.TheVariants.{Take, Hear, LoseDown, LoseUp, Quiet, Restart}
@@ -31,14 +33,13 @@ use Rattle.reading_core.specs.declared.turn.Turn.{Turn}
 use Rattle.reading_core.specs.declared.turn.Turn.TheVariants.{Listen, Key, Read, Next, Stop, Stray, Timeout}
 use Rattle.reading_core.specs.Addresses.{AreAddresses}
 use Rattle.reading_core.specs.Reader.{Reader, address_under_way, begun, restarted}
-use Rattle.reading_core.specs.ReadingTable.{ask, turn_of, hears as hears_row, waits, values_after, sync_hears, address_hears, first_digit_hears, before_hears, value_hears, close_hears}
+use Rattle.reading_core.specs.ReadingTable.{ask, turn_of, hears as hears_row, waits, values_after, synced, addressed, reads, closed}
 use Rattle.reading_core.proofs.Lives.{asked}
-use Rattle.reading_core.proofs.Turns.{either}
 use Rattle.looking_law.specs.Inquiry.{Inquiry, wire_of, over, takes, host_hears, times_out, happens, opened}
 use Rattle.looking_law.specs.Harmless.{HoldsRead}
 use Rattle.looking_law.proofs.Saying.{plan_for, words_for, word_for, image_for, nr_for, length_for, is_plan, unchanged, merged_for}
 use Rattle.looking_law.proofs.Loading.{core_for, phase_for, move_is, HearsRight, ReadsWord, begun_for, restarted_for}
-use borrow.Author.Tests.{ltb-false, eqb-true}
+use borrow.Author.Tests.{eqb-true}
 
 -- the same world with a loading host at the end of the line
 abbrev pub as_load : List ℕ → Inquiry → Scene
@@ -132,38 +133,21 @@ abbrev Takes : Turn → ℕ → Type 0
 Takes (Read value) x = value ≡ x
 Takes turn x = Unit {0}
 
-sync_takes : (x place c : ℕ) → Takes (sync_hears place c) x
-sync_takes x place c =
-    let P : Turn → Type 0 = λ t. Takes t x in
-    either P (place == 0) _ _ (λ _. either P (c == 90) _ _ (λ _. tt) (λ _. either P (c == 63) _ _ (λ _. tt) (λ _. tt)))
-    (λ _. either P (place == 1) _ _ (λ _. either P (c == 63) _ _ (λ _. tt) (λ _. tt))
-    (λ _. either P (place == 2) _ _ (λ _. either P (c == 13) _ _ (λ _. tt) (λ _. tt))
-    (λ _. either P (place == 3) _ _ (λ _. either P (c == 13) _ _ (λ _. tt) (λ _. either P (c == 10) _ _ (λ _. tt) (λ _. tt)))
-    (λ _. either P (place == 4) _ _ (λ _. either P (c == 10) _ _ (λ _. tt) (λ _. tt))
-    (λ _. either P (c == 64) _ _ (λ _. tt) (λ _. tt))))))
+sync_takes : (x place c : ℕ) → Takes (synced (resynchronise_reply place c)) x
+sync_takes x place c = resynchronise_walk (λ r. Takes (synced r) x) place c tt (λ _ _. tt) (λ _. tt)
 
-close_takes : (x place c : ℕ) → Takes (close_hears place c) x
-close_takes x place c =
-    let P : Turn → Type 0 = λ t. Takes t x in
-    either P (place == 0) _ _ (λ _. either P (c == 13) _ _ (λ _. tt) (λ _. tt))
-    (λ _. either P (place == 1) _ _ (λ _. either P (c == 13) _ _ (λ _. tt) (λ _. either P (c == 10) _ _ (λ _. tt) (λ _. tt)))
-    (λ _. either P (place == 2) _ _ (λ _. either P (c == 10) _ _ (λ _. tt) (λ _. tt))
-    (λ _. either P (c == 64) _ _ (λ _. tt) (λ _. tt))))
+close_takes : (x place c : ℕ) → Takes (closed (return_reply place c)) x
+close_takes x place c = return_walk (λ r. Takes (closed r) x) place c tt (λ _ _. tt) (λ _. tt)
 
-address_takes : (x address place c : ℕ) → Takes (address_hears address place c) x
-address_takes x address place c = either (λ t. Takes t x) (c == digit_of address place) _ _ (λ _. either (λ t. Takes t x) (nat_lt place 6) _ _ (λ _. tt) (λ _. tt)) (λ _. tt)
+address_takes : (x address place c : ℕ) → Takes (addressed place (digit_echo address place c)) x
+address_takes x address place c = echo_walk (λ e. Takes (addressed place e) x) address place c tt (λ _ _. tt) (λ _ _. tt)
 
-first_digit_takes : (x c : ℕ) → Takes (first_digit_hears c) x
-first_digit_takes x c = either (λ t. Takes t x) (c == 48 || c == 49) _ _ (λ _. tt) (λ _. tt)
+before_takes : (x address c : ℕ) → Takes (reads address (reading_start c)) x
+before_takes x address c = start_walk (λ r. Takes (reads address r) x) c tt tt tt (λ _ _. tt)
 
-before_takes : (x address c : ℕ) → Takes (before_hears address c) x
-before_takes x address c = either (λ t. Takes t x) (c == 32) _ _ (λ _. tt) (λ _. either (λ t. Takes t x) (c == 63) _ _ (λ _. tt) (λ _. first_digit_takes x c))
-
-value_takes : (x value place c : ℕ) → (6 ≤ place → c ≡ 32 → value ≡ x) → Takes (value_hears value place c) x
-value_takes x value place c right =
-    either (λ t. Takes t x) (place == 0) _ _ (λ _. first_digit_takes x c)
-    (λ _. either (λ t. Takes t x) (nat_lt place 6) _ _ (λ _. either (λ t. Takes t x) (is_digit c) _ _ (λ _. tt) (λ _. tt))
-    (λ all. either (λ t. Takes t x) (c == 32) _ _ (λ blank. right (ltb-false _ _ all) (eqb-true _ _ blank)) (λ _. tt)))
+value_takes : (x address value place c : ℕ) → (6 ≤ place → c ≡ 32 → value ≡ x) → Takes (reads address (reading_rest value place c)) x
+value_takes x address value place c right =
+    rest_walk (λ r. Takes (reads address r) x) value place c tt (λ _ _ _. tt) (λ _ _ _. tt) (λ all blank. right all (eqb-true _ _ blank))
 
 -- the phase of a reader fits, as the loading host's does
 abbrev Fits : List ℕ → Reader → Phase → Type 0
@@ -178,7 +162,7 @@ row_takes memory r Slash c fits right = either (λ t. Takes t (word_at memory (a
 row_takes memory r Before c fits right = before_takes _ (address_under_way r) c
 row_takes memory r (Value value place) c fits right =
     let below : length r.values < length r.addresses = subst (λ n. length r.values < n) (length_for memory r.addresses) fits.0 in
-    value_takes _ value place c (λ six blank. sym (right six blank) ∙ (ap (λ (x : WordValue). merged x value) (nr_for memory r.addresses (length r.values) below) ∙ merged_for memory (address_under_way r) value))
+    value_takes _ (address_under_way r) value place c (λ six blank. sym (right six blank) ∙ (ap (λ (x : WordValue). merged x value) (nr_for memory r.addresses (length r.values) below) ∙ merged_for memory (address_under_way r) value))
 row_takes memory r (Close place) c fits right = close_takes _ place c
 row_takes memory r (Ended end) c fits right = tt
 

@@ -1,15 +1,17 @@
 -- A trial sends a key only where nothing is under way: each of its keys answers the last character of an answer, or a silence.
-use Rattle.std.proofs.Common.{◌≡◌, ℕ, zero, suc, ◌+◌, ◌<◌, ◌≤◌, Bool, true, false, ◌==◌, ◌||◌, nat_lt, if◌then◌else◌, List, [], ◌∷◌, ◌++◌, length, drop, inl, inr, refl, arith, ap, sym, subst, ◌∙◌}
+use Rattle.std.proofs.Common.{◌≡◌, ℕ, zero, suc, ◌+◌, ◌<◌, ◌≤◌, Bool, true, false, ◌==◌, nat_lt, if◌then◌else◌, List, [], ◌∷◌, ◌++◌, length, drop, inl, inr, refl, arith, ap, sym, subst, ◌∙◌}
 use Rattle.std.specs.Prelude.{option_to_list}
 use Rattle.std.specs.List.{remove}
 use Rattle.std.proofs.lemmas.List.Edits.{length-remove}
-use Rattle.octal.specs.Octal.{digit_of, is_digit}
+use Rattle.octal.specs.Octal.{digit_of}
 use Rattle.octal.proofs.Heads.{digit_of-is_digit}
 use Rattle.odt_machine.specs.KeyTable.{take_of}
 use Rattle.odt_machine.specs.Machine.{Machine}
 use Rattle.host_core.specs.declared.heard.Heard.{Heard}
 use Rattle.host_core.specs.declared.heard.Heard.TheVariants.{Got, Quiet}
+use Rattle.host_core.specs.Answers.{resynchronise_reply, digit_echo, reading_start, reading_rest}
 use Rattle.host_core.proofs.Frame.{on_test}
+use Rattle.host_core.proofs.Replies.{resynchronise_walk, echo_walk, start_walk, rest_walk}
 use Rattle.line_world.specs.Invariant.{OneWay}
 use Rattle.line_world.specs.Wire.{Wire, sent}
 use Rattle.honest_line.specs.Moves.{Gives, Moves, MovesTimes, Passes}
@@ -18,14 +20,14 @@ use Rattle.looking_law.proofs.Events.{passes_said}
 use Rattle.trial_core.specs.declared.phase.Phase.{Phase}
 use Rattle.trial_core.specs.declared.phase.Phase.TheVariants.{Settle, Sync, Address, Slash, Before, Value, Typed, Done, Ended}
 use Rattle.trial_core.specs.declared.phase.End.TheVariants.{GaveUp}
-use Rattle.trial_core.specs.declared.turn.Reply.{Reply}
-use Rattle.trial_core.specs.declared.turn.Reply.TheVariants.{On, Over, Wrong}
+use Rattle.host_core.specs.declared.answers.Reply.{Reply}
+use Rattle.host_core.specs.declared.answers.Reply.TheVariants.{On, Over, Wrong}
 use Rattle.trial_core.specs.declared.turn.Turn.{Turn}
 use Rattle.trial_core.specs.declared.turn.Turn.TheVariants.{Listen, Key, Stop, Stray, Timeout}
 use Rattle.trial_core.specs.declared.trial.Trial.{Trial}
 use Rattle.trial_core.specs.Laws.{led}
 use Rattle.trial_core.specs.Trial.{begun_trial}
-use Rattle.trial_core.specs.TrialTable.{Asked, ask, reply, synced, address_hears, first_digit_hears, before_hears, value_hears, typed_hears, finished, hears, waits, turn_of, taken, noted, listens, sends}
+use Rattle.trial_core.specs.TrialTable.{TrialStep, ask, synced, addressed, reads, typed, finished, hears, waits, turn_of, taken, noted, listens, sends}
 use Rattle.looking_law.specs.Trying.{trial_dialogue}
 use Rattle.looking_law.specs.Splitting.{EndsTidily, TrialsEndTidily}
 use Rattle.looking_law.proofs.Answers.{Alone, EndsAt, answer_short, digit_ends, ends_behind, ends_removed, none_removed, resync_ends, slash_ends}
@@ -135,24 +137,14 @@ last_one false left alone is = absurd (cc is)
 either : (left : List ℕ) (test : Bool) (t u : Turn) → (test ≡ true → TurnFits t left) → (test ≡ false → TurnFits u left) → TurnFits (if test then t else u) left
 either left test t u is isnt = on_test (λ v. TurnFits (if v then t else u) left) test is isnt
 
-either_reply : (left : List ℕ) (test : Bool) (t u : Reply) → (test ≡ true → ReplyFits t left) → ReplyFits u left → ReplyFits (if test then t else u) left
-either_reply left test t u is isnt = on_test (λ v. ReplyFits (if v then t else u) left) test is (λ _. isnt)
-
 digit_fits : (w k place : ℕ) → Answers (Address place) (digit_of w k)
 digit_fits w k place m e = digit_ends m (digit_of w k) e (cc (digit_of-is_digit w k))
 
 typed_fits : (w k place : ℕ) → Answers (Typed place) (digit_of w k)
 typed_fits w k place m e = digit_ends m (digit_of w k) e (cc (digit_of-is_digit w k))
 
-reply_fits : (place c : ℕ) (left : List ℕ) → EndsAt 64 (c ∷ left) → ReplyFits (reply place c) left
-reply_fits place c left ends =
-    let on = ends.1 in
-    either_reply left (place == 0) _ _ (λ _. either_reply left (c == 90) _ _ (λ _. on) (either_reply left (c == 63) _ _ (λ _. on) tt))
-    (either_reply left (place == 1) _ _ (λ _. either_reply left (c == 63) _ _ (λ _. on) tt)
-    (either_reply left (place == 2) _ _ (λ _. either_reply left (c == 13) _ _ (λ _. on) tt)
-    (either_reply left (place == 3) _ _ (λ _. either_reply left (c == 13) _ _ (λ _. on) (either_reply left (c == 10) _ _ (λ _. on) tt))
-    (either_reply left (place == 4) _ _ (λ _. either_reply left (c == 10) _ _ (λ _. on) tt)
-    (either_reply left (c == 64) _ _ (λ is. last_one (c == 64) left ends.0 is) tt)))))
+reply_fits : (place c : ℕ) (left : List ℕ) → EndsAt 64 (c ∷ left) → ReplyFits (resynchronise_reply place c) left
+reply_fits place c left ends = resynchronise_walk (λ r. ReplyFits r left) place c tt (λ _ _. ends.1) (λ is. last_one (c == 64) left ends.0 is)
 
 synced_fits : (address : ℕ) (r : Reply) (left : List ℕ) → ReplyFits r left → TurnFits (synced address r) left
 synced_fits address (On place) left fits = fits
@@ -164,41 +156,32 @@ finished_fits (On place) left = tt
 finished_fits Over left = tt
 finished_fits Wrong left = tt
 
-address_fits : (address place c : ℕ) (left : List ℕ) → ((e : ℕ) → EndsAt e (c ∷ left)) → TurnFits (address_hears address place c) left
+address_fits : (address place c : ℕ) (left : List ℕ) → ((e : ℕ) → EndsAt e (c ∷ left)) → TurnFits (addressed place (digit_echo address place c)) left
 address_fits address place c left ends =
-    either left (c == digit_of address place) _ _
-    (λ is. let none : left ≡ [] = last_one (c == digit_of address place) left (ends (digit_of address place)).0 is in
-    either left (nat_lt place 6) _ _ (λ _. (none, digit_fits address (place + 1) (place + 1))) (λ _. (none, slash_ends)))
-    (λ _. tt)
+    let none : (c == digit_of address place) ≡ true → left ≡ [] = λ is. last_one (c == digit_of address place) left (ends (digit_of address place)).0 is in
+    echo_walk (λ e. TurnFits (addressed place e) left) address place c tt (λ is _. (none is, digit_fits address (place + 1) (place + 1))) (λ is _. (none is, slash_ends))
 
-first_digit_fits : (c : ℕ) (left : List ℕ) → EndsAt 32 left → TurnFits (first_digit_hears c) left
-first_digit_fits c left ends = either left (c == 48 || c == 49) _ _ (λ _. ends) (λ _. tt)
+before_fits : (digits c : ℕ) (left : List ℕ) → EndsAt 32 left → TurnFits (reads digits (reading_start c)) left
+before_fits digits c left ends = start_walk (λ r. TurnFits (reads digits r) left) c tt ends tt (λ _ _. ends)
 
-before_fits : (c : ℕ) (left : List ℕ) → EndsAt 32 left → TurnFits (before_hears c) left
-before_fits c left ends = either left (c == 32) _ _ (λ _. ends) (λ _. either left (c == 63) _ _ (λ _. tt) (λ _. first_digit_fits c left ends))
-
-value_fits : (digits place c : ℕ) (left : List ℕ) → EndsAt 32 (c ∷ left) → TurnFits (value_hears digits place c) left
+value_fits : (digits place c : ℕ) (left : List ℕ) → EndsAt 32 (c ∷ left) → TurnFits (reads digits (reading_rest 0 place c)) left
 value_fits digits place c left ends =
-    either left (place == 0) _ _ (λ _. first_digit_fits c left ends.1)
-    (λ _. either left (nat_lt place 6) _ _ (λ _. either left (is_digit c) _ _ (λ _. ends.1) (λ _. tt))
-    (λ _. either left (c == 32) _ _ (λ is. (last_one (c == 32) left ends.0 is, typed_fits digits 4 1)) (λ _. tt)))
+    rest_walk (λ r. TurnFits (reads digits r) left) 0 place c tt (λ _ _ _. ends.1) (λ _ _ _. ends.1) (λ _ is. (last_one (c == 32) left ends.0 is, typed_fits digits 4 1))
 
-digits_fit : (digits place c : ℕ) (left : List ℕ) → ((e : ℕ) → EndsAt e (c ∷ left)) → TurnFits (typed_hears digits place c) left
+digits_fit : (digits place c : ℕ) (left : List ℕ) → ((e : ℕ) → EndsAt e (c ∷ left)) → TurnFits (typed place (digit_echo digits (place + 3) c)) left
 digits_fit digits place c left ends =
-    either left (c == digit_of digits (place + 3)) _ _
-    (λ is. let none : left ≡ [] = last_one (c == digit_of digits (place + 3)) left (ends (digit_of digits (place + 3))).0 is in
-    either left (nat_lt place 3) _ _ (λ _. (none, typed_fits digits (place + 1 + 3) (place + 1))) (λ _. (none, λ m. tt)))
-    (λ _. tt)
+    let none : (c == digit_of digits (place + 3)) ≡ true → left ≡ [] = λ is. last_one (c == digit_of digits (place + 3)) left (ends (digit_of digits (place + 3))).0 is in
+    echo_walk (λ e. TurnFits (typed place e) left) digits (place + 3) c tt (λ is _. (none is, typed_fits digits (place + 3 + 1) (place + 1))) (λ is _. (none is, λ m. tt))
 
 hears_fits : (address digits : ℕ) (phase : Phase) (c : ℕ) (left : List ℕ) → Fits phase (c ∷ left) → TurnFits (hears address digits phase c) left
 hears_fits address digits Settle c left fits = tt
-hears_fits address digits (Sync place) c left fits = synced_fits address (reply place c) left (reply_fits place c left fits)
+hears_fits address digits (Sync place) c left fits = synced_fits address (resynchronise_reply place c) left (reply_fits place c left fits)
 hears_fits address digits (Address place) c left fits = address_fits address place c left fits
 hears_fits address digits Slash c left fits = either left (c == 47) _ _ (λ _. fits) (λ _. tt)
-hears_fits address digits Before c left fits = before_fits c left fits
+hears_fits address digits Before c left fits = before_fits digits c left fits
 hears_fits address digits (Value place) c left fits = value_fits digits place c left fits
 hears_fits address digits (Typed place) c left fits = digits_fit digits place c left fits
-hears_fits address digits (Done place) c left fits = finished_fits (reply place c) left
+hears_fits address digits (Done place) c left fits = finished_fits (resynchronise_reply place c) left
 hears_fits address digits (Ended end) c left fits = tt
 
 waits_fits : (phase : Phase) (left : List ℕ) → left ≡ [] → TurnFits (waits phase) left
@@ -213,7 +196,7 @@ waits_fits (Done place) left none = none
 waits_fits (Ended end) left none = tt
 
 -- a trial that took a step where no key is under way and this is left
-abbrev SteadyAsked : List ℕ → Asked → Type 0
+abbrev SteadyAsked : List ℕ → TrialStep → Type 0
 SteadyAsked left a = Steady a.next.phase (option_to_list a.key) left
 
 turn_steady : (t : Trial) (turn : Turn) (left : List ℕ) → TurnFits turn left → length left ≤ 32 → SteadyAsked left (taken t turn)

@@ -8,7 +8,7 @@ use Rattle.line_world.specs.declared.event.Event.{Event}
 use Rattle.line_world.specs.declared.event.Event.TheVariants.{Take, Hear, LoseDown, LoseUp, Quiet, Restart}
 use Rattle.line_world.specs.Wire.{Wire, with_answer, without_down, without_up, heard, sent, forgiven}
 use Rattle.reading_core.specs.Reader.{Reader, restarted}
-use Rattle.reading_core.specs.ReadingTable.{Asked, ask}
+use Rattle.reading_core.specs.ReadingTable.{ReaderStep, ask}
 
 -- a machine, a reading host, the keys under way (`down`), the answers under way (`up`), and how many characters the line
 -- has lost in this life
@@ -28,7 +28,7 @@ abbrev pub over : Reader → Wire → Inquiry
 over reader x = record { machine = x.machine; reader = reader; down = x.down; up = x.up; lost = x.lost }
 
 -- after a step of the host: what it sends stands at the end of `down`
-abbrev pub stepped : Inquiry → List ℕ → Asked → Inquiry
+abbrev pub stepped : Inquiry → List ℕ → ReaderStep → Inquiry
 stepped w rest a = over a.next (sent (heard (wire_of w) rest) (option_to_list a.key))
 
 -- Take, where a key is under way

@@ -12,12 +12,12 @@ use Rattle.reading_core.specs.declared.turn.Turn.TheVariants.{Listen, Key, Read,
 use Rattle.reading_core.specs.Invariant.{IsReader}
 use Rattle.reading_core.specs.Laws.{led, replay, KeepsBound}
 use Rattle.reading_core.specs.Reader.{Reader, address_under_way}
-use Rattle.reading_core.specs.ReadingTable.{Asked, ask, listens, sends, taken, turn_of, values_after}
+use Rattle.reading_core.specs.ReadingTable.{ReaderStep, ask, listens, sends, taken, turn_of, values_after}
 use Rattle.reading_core.proofs.Turns.{kept, within_bound}
 
 -- what every turn does: addresses and patience stay, a character that is sent is counted, and the numbers grow by
 -- what the turn took
-pub record IsAsked (r : Reader) (turn : Turn) (a : Asked) : Type 0 where
+pub record IsAsked (r : Reader) (turn : Turn) (a : ReaderStep) : Type 0 where
   pub addresses : a.next.addresses ≡ r.addresses
   pub values : a.next.values ≡ values_after r.values turn
   pub patience : a.next.patience ≡ r.patience
@@ -26,7 +26,7 @@ pub record IsAsked (r : Reader) (turn : Turn) (a : Asked) : Type 0 where
 not_sent : (n : ℕ) → n ≡ n + 0
 not_sent n = omega arith
 
-either_asked : (r : Reader) (turn : Turn) (test : Bool) (a b : Asked) → IsAsked r turn a → IsAsked r turn b → IsAsked r turn (if test then a else b)
+either_asked : (r : Reader) (turn : Turn) (test : Bool) (a b : ReaderStep) → IsAsked r turn a → IsAsked r turn b → IsAsked r turn (if test then a else b)
 either_asked r turn test a b one other = on_test (λ v. IsAsked r turn (if v then a else b)) test (λ _. one) (λ _. other)
 
 taken_asked : (r : Reader) (turn : Turn) → IsAsked r turn (taken r turn)

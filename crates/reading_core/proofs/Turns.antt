@@ -1,13 +1,13 @@
 -- Each turn of the table keeps what holds of every reader.
-use Rattle.std.proofs.Common.{◌≡◌, ℕ, ◌+◌, ◌-◌, ◌^◌, ◌<◌, ◌≤◌, Bool, true, false, ◌==◌, nat_lt, ◌||◌, if◌then◌else◌, List, [], length, refl, arith, length-append}
+use Rattle.std.proofs.Common.{◌≡◌, ℕ, ◌+◌, ◌-◌, ◌^◌, ◌<◌, ◌≤◌, Bool, true, false, ◌==◌, nat_lt, if◌then◌else◌, List, [], length, refl, arith, length-append}
 use Rattle.std.specs.Prelude.{All}
-use Rattle.std.proofs.lemmas.Bool.Decides.{nat_tests}
 use Rattle.std.proofs.lemmas.List.Elements.{All-nil, All-push}
 use borrow.Author.Tests.{ltb-true, ltb-false, eqb-true}
-use Rattle.octal.specs.Octal.{digit_of, is_digit}
+use Rattle.host_core.specs.Answers.{resynchronise_reply, return_reply, digit_echo, reading_start, reading_rest}
 use Rattle.host_core.specs.declared.heard.Heard.{Heard}
 use Rattle.host_core.specs.declared.heard.Heard.TheVariants.{Got, Quiet}
 use Rattle.host_core.proofs.Frame.{on_test}
+use Rattle.host_core.proofs.Replies.{either, resynchronise_walk, return_walk, echo_walk, start_walk, rest_walk}
 use Rattle.host_core.proofs.Turns.{room_step, room_le, digit_below_eight}
 use Rattle.reading_core.specs.declared.phase.Phase.{Phase}
 use Rattle.reading_core.specs.declared.phase.Phase.TheVariants.{Settle, Sync, Address, Slash, Before, Value, Close, Ended}
@@ -18,7 +18,7 @@ use Rattle.reading_core.specs.Addresses.{AreAddresses}
 use Rattle.reading_core.specs.Bound.{used_in, reading_bound}
 use Rattle.reading_core.specs.Invariant.{IsReader, Basis, basis_of, PhaseFits, EndFits, HasWord}
 use Rattle.reading_core.specs.Reader.{Reader, address_nr, begun}
-use Rattle.reading_core.specs.ReadingTable.{Asked, ask, taken, turn_of, hears, waits, sync_hears, address_hears, first_digit_hears, before_hears, value_hears, close_hears, next_word}
+use Rattle.reading_core.specs.ReadingTable.{ReaderStep, ask, taken, turn_of, hears, waits, synced, addressed, reads, closed, next_word}
 
 -- what a turn needs of the reader that takes it, n being the characters that its phase may have used
 abbrev TurnFits : Turn → Basis → ℕ → Type 0
@@ -30,7 +30,7 @@ TurnFits (Stop end) b n = EndFits end b × (n ≤ 9)
 TurnFits Stray b n = n ≤ 9
 TurnFits Timeout b n = n ≤ 9
 
-either_asked : (test : Bool) (m k : Asked) → (test ≡ true → IsReader m.next) → (test ≡ false → IsReader k.next) → IsReader (if test then m else k).next
+either_asked : (test : Bool) (m k : ReaderStep) → (test ≡ true → IsReader m.next) → (test ≡ false → IsReader k.next) → IsReader (if test then m else k).next
 either_asked test m k is isnt = on_test (λ v. IsReader (if v then m else k).next) test is isnt
 
 next_kept : (r : Reader) → IsReader r → used_in r.phase ≤ 1 → IsReader (next_word r).next
@@ -66,54 +66,31 @@ taken_kept r Timeout h f =
     (λ more. record { asked = h.asked; within = h.within; numbers = h.numbers; patient = omega (arith, ltb-true _ _ more); long = h.long; fits = omega arith; paid = omega (arith, h.paid, f) })
     (λ none. given_up r h (ltb-false _ _ none) f)
 
--- what holds of both turns holds of the one that a test chooses
-pub either : (P : Turn → Type 0) (test : Bool) (t u : Turn) → (test ≡ true → P t) → (test ≡ false → P u) → P (if test then t else u)
-either P test t u is isnt = on_test (λ v. P (if v then t else u)) test is isnt
+sync_fits : (b : Basis) (place c : ℕ) → TurnFits (synced (resynchronise_reply place c)) b 1
+sync_fits b place c = resynchronise_walk (λ r. TurnFits (synced r) b 1) place c (omega arith) (λ k le. (le, omega arith)) (λ _. omega arith)
 
-sync_fits : (b : Basis) (place c : ℕ) → TurnFits (sync_hears place c) b 1
-sync_fits b place c =
-    let P : Turn → Type 0 = λ t. TurnFits t b 1 in
-    either P (place == 0) _ _ (λ _. either P (c == 90) _ _ (λ _. (omega arith, omega arith)) (λ _. either P (c == 63) _ _ (λ _. (omega arith, omega arith)) (λ _. omega arith)))
-    (λ _. either P (place == 1) _ _ (λ _. either P (c == 63) _ _ (λ _. (omega arith, omega arith)) (λ _. omega arith))
-    (λ _. either P (place == 2) _ _ (λ _. either P (c == 13) _ _ (λ _. (omega arith, omega arith)) (λ _. omega arith))
-    (λ _. either P (place == 3) _ _ (λ _. either P (c == 13) _ _ (λ _. (omega arith, omega arith)) (λ _. either P (c == 10) _ _ (λ _. (omega arith, omega arith)) (λ _. omega arith)))
-    (λ _. either P (place == 4) _ _ (λ _. either P (c == 10) _ _ (λ _. (omega arith, omega arith)) (λ _. omega arith))
-    (λ _. either P (c == 64) _ _ (λ _. omega arith) (λ _. omega arith))))))
-
-address_fits : (b : Basis) (address place c : ℕ) → PhaseFits (Address place) b → TurnFits (address_hears address place c) b (1 + place)
+address_fits : (b : Basis) (address place c : ℕ) → PhaseFits (Address place) b → TurnFits (addressed place (digit_echo address place c)) b (1 + place)
 address_fits b address place c f =
-    let P : Turn → Type 0 = λ t. TurnFits t b (1 + place) in
-    either P (c == digit_of address place) _ _
-    (λ _. either P (nat_lt place 6) _ _ (λ less. ((f.0, record { from = omega arith; to = omega (arith, ltb-true _ _ less) }), omega arith)) (λ _. (f.0, omega (arith, f.1.to))))
-    (λ _. omega (arith, f.1.to))
+    echo_walk (λ e. TurnFits (addressed place e) b (1 + place)) address place c (omega (arith, f.1.to))
+    (λ _ less. ((f.0, record { from = omega arith; to = omega (arith, less) }), omega arith)) (λ _ _. (f.0, omega (arith, f.1.to)))
 
-first_is : (c : ℕ) → (c == 48 || c == 49) ≡ true → c - 48 < 2
-first_is c h = grind (arith, nat_tests)
+first_below : (c : ℕ) → 48 ≤ c → c ≤ 49 → c - 48 < 2
+first_below c low high = omega arith
 
-first_digit_fits : (b : Basis) (c : ℕ) → HasWord b → TurnFits (first_digit_hears c) b 8
-first_digit_fits b c f = either (λ t. TurnFits t b 8) (c == 48 || c == 49) _ _ (λ first. ((f, omega arith, first_is c first), omega arith)) (λ _. omega arith)
-
-before_fits : (b : Basis) (c : ℕ) → HasWord b → TurnFits (before_hears (address_nr b.addresses (length b.values)) c) b 8
+before_fits : (b : Basis) (c : ℕ) → HasWord b → TurnFits (reads (address_nr b.addresses (length b.values)) (reading_start c)) b 8
 before_fits b c f =
-    let P : Turn → Type 0 = λ t. TurnFits t b 8 in
-    either P (c == 32) _ _ (λ _. ((f, omega arith, omega arith), omega arith))
-    (λ _. either P (c == 63) _ _ (λ _. ((f, refl), omega arith)) (λ _. first_digit_fits b c f))
+    start_walk (λ r. TurnFits (reads (address_nr b.addresses (length b.values)) r) b 8) c (omega arith) ((f, omega arith, omega arith), omega arith) ((f, refl), omega arith)
+    (λ low high. ((f, omega arith, first_below c low high), omega arith))
 
-value_fits : (b : Basis) (value place c : ℕ) → PhaseFits (Value value place) b → TurnFits (value_hears value place c) b 8
-value_fits b value place c f =
-    let P : Turn → Type 0 = λ t. TurnFits t b 8 in
-    either P (place == 0) _ _ (λ _. first_digit_fits b c f.0)
-    (λ some. either P (nat_lt place 6) _ _
-    (λ less. either P (is_digit c) _ _ (λ digit. ((f.0, omega (arith, ltb-true _ _ less), room_step place value (c - 48) some (ltb-true _ _ less) f.2 (digit_below_eight c digit)), omega arith)) (λ _. omega arith))
-    (λ _. either P (c == 32) _ _ (λ _. (f.0, room_le place value f.2, omega arith)) (λ _. omega arith)))
+value_fits : (b : Basis) (address value place c : ℕ) → PhaseFits (Value value place) b → TurnFits (reads address (reading_rest value place c)) b 8
+value_fits b address value place c f =
+    rest_walk (λ r. TurnFits (reads address r) b 8) value place c (omega arith)
+    (λ _ low high. ((f.0, omega arith, first_below c low high), omega arith))
+    (λ some less digit. ((f.0, omega (arith, less), room_step place value (c - 48) some less f.2 (digit_below_eight c digit)), omega arith))
+    (λ _ _. (f.0, room_le place value f.2, omega arith))
 
-close_fits : (b : Basis) (place c : ℕ) → TurnFits (close_hears place c) b 1
-close_fits b place c =
-    let P : Turn → Type 0 = λ t. TurnFits t b 1 in
-    either P (place == 0) _ _ (λ _. either P (c == 13) _ _ (λ _. (omega arith, omega arith)) (λ _. omega arith))
-    (λ _. either P (place == 1) _ _ (λ _. either P (c == 13) _ _ (λ _. (omega arith, omega arith)) (λ _. either P (c == 10) _ _ (λ _. (omega arith, omega arith)) (λ _. omega arith)))
-    (λ _. either P (place == 2) _ _ (λ _. either P (c == 10) _ _ (λ _. (omega arith, omega arith)) (λ _. omega arith))
-    (λ _. either P (c == 64) _ _ (λ _. omega arith) (λ _. omega arith))))
+close_fits : (b : Basis) (place c : ℕ) → TurnFits (closed (return_reply place c)) b 1
+close_fits b place c = return_walk (λ r. TurnFits (closed r) b 1) place c (omega arith) (λ k le. (le, omega arith)) (λ _. omega arith)
 
 hears_fits : (b : Basis) (phase : Phase) (c : ℕ) → PhaseFits phase b → TurnFits (hears (address_nr b.addresses (length b.values)) phase c) b (used_in phase)
 hears_fits b Settle c f = (tt, omega arith)
@@ -121,7 +98,7 @@ hears_fits b (Sync place) c f = sync_fits b place c
 hears_fits b (Address place) c f = address_fits b _ place c f
 hears_fits b Slash c f = either (λ t. TurnFits t b 8) (c == 47) _ _ (λ _. (f, omega arith)) (λ _. omega arith)
 hears_fits b Before c f = before_fits b c f
-hears_fits b (Value value place) c f = value_fits b value place c f
+hears_fits b (Value value place) c f = value_fits b _ value place c f
 hears_fits b (Close place) c f = close_fits b place c
 hears_fits b (Ended end) c f = (f, omega arith)
 

@@ -13,7 +13,7 @@ pub(crate) struct LifeState {
 
 /// A life after a step, and the character that the step sends.
 #[derive(Clone, Copy)]
-pub(crate) struct Outcome {
+pub(crate) struct ReaderStep {
     pub(crate) life: LifeState,
     pub(crate) key: Option<u8>,
 }
@@ -47,21 +47,21 @@ impl LifeState {
     }
 
     /// Goes on in this phase, nothing is sent.
-    pub(crate) fn listens(self, phase: Phase) -> Outcome
+    pub(crate) fn listens(self, phase: Phase) -> ReaderStep
         ensures { result ≡ record { life = record self { phase = phase }; key = None } }
     {
-        Outcome {
+        ReaderStep {
             life: LifeState { phase, ..self },
             key: None,
         }
     }
 
     /// Sends the character and goes on in this phase.
-    pub(crate) fn sends(self, key: u8, phase: Phase) -> Outcome
+    pub(crate) fn sends(self, key: u8, phase: Phase) -> ReaderStep
         requires { self.sent + 1 < 2 ^ 64 }
         ensures { result ≡ record { life = record self { sent = self.sent + 1; phase = phase }; key = Some key } }
     {
-        Outcome {
+        ReaderStep {
             life: LifeState {
                 sent: self.sent + 1,
                 phase,

@@ -7,10 +7,13 @@ ghost use Rattle.reading_core.specs.Laws.{KeepsBound};
 ghost use Rattle.reading_core.specs.Reader.{address_under_way, begun, ended, reader_of, restarted};
 ghost use Rattle.reading_core.specs.ReadingTable.{ask, is_read, next_word, taken, turn_of, values_after};
 
-use crate::life::{LifeState, Outcome};
+use crate::life::{LifeState, ReaderStep};
 use crate::phase::{End, Phase};
 use crate::table;
 use crate::turn::Turn;
+use host_core::answers::{
+    digit, digit_echo, reading_rest, reading_start, resynchronise_reply, return_reply,
+};
 use host_core::console::{CARRIAGE_RETURN, RESYNCHRONISE};
 use host_core::{Heard, Plan};
 use std::alloc::{AllocError, Global};
@@ -174,7 +177,7 @@ impl ReadingCore {
         ensures bound { self.new.sent ≤ reading_bound (length self.new.addresses) self.new.patience }
     {
         let turn = self.turn(heard);
-        let Outcome { life, key } = self.taken(turn);
+        let ReaderStep { life, key } = self.taken(turn);
         note(&mut self.values, turn);
         self.life = life;
         key
@@ -196,12 +199,15 @@ impl ReadingCore {
     {
         match self.life.phase {
             Phase::Settle => Turn::Listen(Phase::Settle),
-            Phase::Sync(place) => table::sync(place, c),
-            Phase::Address(place) => table::address(self.address(), place, c),
+            Phase::Sync(place) => table::synced(resynchronise_reply(place, c)),
+            Phase::Address(place) => table::addressed(place, digit_echo(self.address(), place, c)),
             Phase::Slash => table::slash(c),
-            Phase::Before => table::before(self.address(), c),
-            Phase::Value(value, place) => table::value(value, place, c),
-            Phase::Close(place) => table::close(place, c),
+            Phase::Before => table::reads(self.address(), reading_start(c)),
+            Phase::Value(value, place) => table::reads(
+                self.address(),
+                reading_rest(value, place, c),
+            ),
+            Phase::Close(place) => table::closed(return_reply(place, c)),
             Phase::Ended(end) => Turn::Listen(Phase::Ended(end)),
         }
     }
@@ -215,7 +221,7 @@ impl ReadingCore {
     }
 
     // What the turn does to the life, and the character that it sends.
-    fn taken(&self, turn: Turn) -> Outcome
+    fn taken(&self, turn: Turn) -> ReaderStep
         requires { IsReader (taken self.now turn).next }
         ensures next { reader_of self.now.addresses (values_after self.now.values turn) self.now.patience result.life ≡ (taken self.now turn).next }
         ensures key { result.key ≡ (taken self.now turn).key }
@@ -236,14 +242,13 @@ impl ReadingCore {
     }
 
     // The next word, or nothing more.
-    fn next_word(&self) -> Outcome
+    fn next_word(&self) -> ReaderStep
         requires { self.now.sent + 1 < 2 ^ 64 }
         ensures next { reader_of self.now.addresses self.now.values self.now.patience result.life ≡ (next_word self.now).next }
         ensures key { result.key ≡ (next_word self.now).key }
     {
         if self.values.len() < self.addresses.len() {
-            self.life
-                .sends(table::digit(self.address(), 1), Phase::Address(1))
+            self.life.sends(digit(self.address(), 1), Phase::Address(1))
         } else {
             self.life.listens(Phase::Ended(End::Complete))
         }

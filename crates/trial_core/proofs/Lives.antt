@@ -12,7 +12,7 @@ use Rattle.trial_core.specs.declared.turn.Turn.TheVariants.{Listen, Key, Stop, S
 use Rattle.trial_core.specs.declared.trial.Trial.{Trial}
 use Rattle.trial_core.specs.Laws.{led, replay, TypesOnlyTrying}
 use Rattle.trial_core.specs.Trial.{IsTrial}
-use Rattle.trial_core.specs.TrialTable.{Asked, IsTrying, KeyTries, ask, listens, noted, sends, taken, turn_of}
+use Rattle.trial_core.specs.TrialTable.{TrialStep, IsTrying, KeyTries, ask, listens, noted, sends, taken, turn_of}
 use Rattle.trial_core.proofs.Trials.{kept, tries}
 
 key_tries : (key : Option ℕ) → KeyTries key → All IsTrying (option_to_list key)
@@ -25,12 +25,12 @@ types_only_trying t h (heard ∷ more) =
     All-append IsTrying (option_to_list (ask t heard).key) (replay (ask t heard).next more) (key_tries (ask t heard).key (tries t heard h)) (types_only_trying (ask t heard).next (kept t heard h) more)
 
 -- what every turn leaves as it is: the address, the digits and the patience
-pub record IsSame (t : Trial) (a : Asked) : Type 0 where
+pub record IsSame (t : Trial) (a : TrialStep) : Type 0 where
   pub address : a.next.address ≡ t.address
   pub digits : a.next.digits ≡ t.digits
   pub patience : a.next.patience ≡ t.patience
 
-either : (t : Trial) (test : Bool) (a b : Asked) → IsSame t a → IsSame t b → IsSame t (if test then a else b)
+either : (t : Trial) (test : Bool) (a b : TrialStep) → IsSame t a → IsSame t b → IsSame t (if test then a else b)
 either t test a b one other = on_test (λ v. IsSame t (if v then a else b)) test (λ _. one) (λ _. other)
 
 taken_same : (t : Trial) (turn : Turn) → IsSame t (taken t turn)

@@ -11,7 +11,7 @@ use Rattle.trial_core.specs.declared.turn.Turn.{Turn}
 use Rattle.trial_core.specs.declared.turn.Turn.TheVariants.{Listen, Key, Stop, Stray, Timeout}
 use Rattle.trial_core.specs.declared.trial.Trial.{Trial}
 use Rattle.trial_core.specs.Trial.{IsTrial, PhaseFits}
-use Rattle.trial_core.specs.TrialTable.{Asked, KeyTries, ask, listens, noted, sends, taken, turn_of}
+use Rattle.trial_core.specs.TrialTable.{TrialStep, KeyTries, ask, listens, noted, sends, taken, turn_of}
 use Rattle.trial_core.proofs.Turns.{TurnFits, turn_fits, z_tries}
 
 -- a trial that has come to another phase, perhaps with a mishap more
@@ -21,7 +21,7 @@ moved t phase h f = record { address = h.address; digits = h.digits; patient = h
 mishap : (t : Trial) (phase : Phase) → IsTrial t → nat_lt t.spent t.patience ≡ true → PhaseFits phase → IsTrial (record t { spent = t.spent + 1; phase = phase })
 mishap t phase h more f = record { address = h.address; digits = h.digits; patient = omega (arith, ltb-true _ _ more); long = h.long; fits = f }
 
-either : (P : Asked → Type 0) (test : Bool) (a b : Asked) → (test ≡ true → P a) → P b → P (if test then a else b)
+either : (P : TrialStep → Type 0) (test : Bool) (a b : TrialStep) → (test ≡ true → P a) → P b → P (if test then a else b)
 either P test a b is isnt = on_test (λ v. P (if v then a else b)) test is (λ _. isnt)
 
 taken_kept : (t : Trial) (turn : Turn) → IsTrial t → TurnFits turn → IsTrial (taken t turn).next

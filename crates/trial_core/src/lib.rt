@@ -20,4 +20,4 @@ mod turn;
 
 pub use habit::{Habit, Seen};
 pub use phase::{End, Phase};
-pub use trial::{Asked, Trial};
+pub use trial::{Trial, TrialStep};

@@ -1,38 +1,15 @@
-// The table of a trial: for each phase, what it does on a character.
+// The table of a trial: for each phase, what it does on what the console answers.
 
 ghost use Rattle.std.specs.Prelude.{◌≡◌, ◌≤◌};
-ghost use Rattle.octal.specs.Octal.{digit_of};
-ghost use Rattle.host_core.specs.Host.{IsPlace};
-ghost use Rattle.trial_core.specs.TrialTable.{address_hears, before_hears, first_digit_hears, slash_hears, typed_hears, value_hears, waits};
-ghost use Rattle.trial_core.specs.TrialTable.{finished, reply, synced, typed_digit};
+ghost use Rattle.trial_core.specs.TrialTable.{addressed, finished, reads, slash_hears, synced, typed, waits};
 
 use crate::phase::{End, Phase};
-use crate::turn::{Reply, Turn};
-use host_core::console::{
-    CARRIAGE_RETURN, LINE_FEED, PROMPT, QUESTION_MARK, RESYNCHRONISE, SLASH, SPACE,
-};
-use octal::oct6;
+use crate::turn::Turn;
+use host_core::answers::{Echo, Reading, Reply, digit};
+use host_core::console::{RESYNCHRONISE, SLASH};
 
-// How many octal digits the host types of an address, and the console prints of a word.
-const DIGITS: u8 = 6;
-
-// How many octal digits are typed into the open word.
-const TRIED_DIGITS: u8 = 3;
-
-/// The answer to `Z`: its echo or none, `?`, one CR or two, LF, and the prompt.
-pub(crate) fn reply(place: u8, c: u8) -> Reply
-    ensures { result ≡ reply place c }
-{
-    match (place, c) {
-        (0, RESYNCHRONISE) => Reply::On(1),
-        (0 | 1, QUESTION_MARK) => Reply::On(2),
-        (2, CARRIAGE_RETURN) => Reply::On(3),
-        (3, CARRIAGE_RETURN) => Reply::On(4),
-        (3 | 4, LINE_FEED) => Reply::On(5),
-        (5.., PROMPT) => Reply::Over,
-        _ => Reply::Wrong,
-    }
-}
+/// How many of a number's six octal digits are left out: the last three are typed into the open word.
+pub(crate) const LEFT_OUT_DIGITS: u8 = 3;
 
 /// Behind the first answer to `Z` the address is typed.
 pub(crate) fn synced(address: u16, reply: Reply) -> Turn
@@ -45,17 +22,15 @@ pub(crate) fn synced(address: u16, reply: Reply) -> Turn
     }
 }
 
-/// The echo of each digit of the address: the next is typed, and after the sixth `/`.
-pub(crate) fn address(address: u16, place: u8, c: u8) -> Turn
-    requires { IsPlace place }
-    ensures { result ≡ address_hears address place c }
+/// Behind the echo of a digit of the address the next is typed, after the sixth `/`.
+pub(crate) fn addressed(place: u8, echo: Echo) -> Turn
+    requires { place ≤ 6 }
+    ensures { result ≡ addressed place echo }
 {
-    if c != digit(address, place) {
-        Turn::Stray
-    } else if place < DIGITS {
-        Turn::Key(digit(address, place + 1), Phase::Address(place + 1))
-    } else {
-        Turn::Key(SLASH, Phase::Slash)
+    match echo {
+        Echo::More(digit) => Turn::Key(digit, Phase::Address(place + 1)),
+        Echo::Whole => Turn::Key(SLASH, Phase::Slash),
+        Echo::NoEcho => Turn::Stray,
     }
 }
 
@@ -69,51 +44,27 @@ pub(crate) fn slash(c: u8) -> Turn
     }
 }
 
-/// The beginning of a reading, with or without a space, or `?` where no memory answers.
-pub(crate) fn before(c: u8) -> Turn
-    ensures { result ≡ before_hears c }
+/// Behind a whole reading the word is open, and the first of the last three digits is typed.
+pub(crate) fn reads(digits: u16, reading: Reading) -> Turn
+    ensures { result ≡ reads digits reading }
 {
-    match c {
-        SPACE => Turn::Listen(Phase::Value(0)),
-        QUESTION_MARK => Turn::Stop(End::NoWord),
-        _ => first_digit(c),
+    match reading {
+        Reading::Digits(_, count) => Turn::Listen(Phase::Value(count)),
+        Reading::Number(_) => Turn::Key(digit(digits, LEFT_OUT_DIGITS + 1), Phase::Typed(1)),
+        Reading::NoMemory => Turn::Stop(End::NoWord),
+        Reading::NoReading => Turn::Stray,
     }
 }
 
-// A word's first octal digit is 0 or 1.
-fn first_digit(c: u8) -> Turn
-    ensures { result ≡ first_digit_hears c }
+/// Behind the echo of a digit that was typed into the open word the next is typed, after the third `Z`.
+pub(crate) fn typed(place: u8, echo: Echo) -> Turn
+    requires { place ≤ 3 }
+    ensures { result ≡ typed place echo }
 {
-    match c {
-        b'0' | b'1' => Turn::Listen(Phase::Value(1)),
-        _ => Turn::Stray,
-    }
-}
-
-/// The rest of a reading: behind six digits and a space the word is open, and the first digit is typed.
-pub(crate) fn value(digits: u16, place: u8, c: u8) -> Turn
-    ensures { result ≡ value_hears digits place c }
-{
-    match (place, c) {
-        (0, _) => first_digit(c),
-        (1..=5, b'0'..=b'7') => Turn::Listen(Phase::Value(place + 1)),
-        (6.., SPACE) => Turn::Key(typed_digit(digits, 1), Phase::Typed(1)),
-        _ => Turn::Stray,
-    }
-}
-
-/// The echo of each digit that is typed into the open word: the next is typed, and after the third `Z`.
-pub(crate) fn typed(digits: u16, place: u8, c: u8) -> Turn
-    requires from { 1 ≤ place }
-    requires to { place ≤ 3 }
-    ensures { result ≡ typed_hears digits place c }
-{
-    if c != typed_digit(digits, place) {
-        Turn::Stray
-    } else if place < TRIED_DIGITS {
-        Turn::Key(typed_digit(digits, place + 1), Phase::Typed(place + 1))
-    } else {
-        Turn::Key(RESYNCHRONISE, Phase::Done(0))
+    match echo {
+        Echo::More(digit) => Turn::Key(digit, Phase::Typed(place + 1)),
+        Echo::Whole => Turn::Key(RESYNCHRONISE, Phase::Done(0)),
+        Echo::NoEcho => Turn::Stray,
     }
 }
 
@@ -137,21 +88,4 @@ pub(crate) fn quiet(phase: Phase) -> Turn
         Phase::Ended(_) => Turn::Listen(phase),
         _ => Turn::Timeout,
     }
-}
-
-// The digit of `number` at a place from 1 to 6, as a character.
-fn digit(number: u16, place: u8) -> u8
-    requires { IsPlace place }
-    ensures { result ≡ digit_of number place }
-{
-    oct6(number)[usize::from(place - 1)]
-}
-
-// The digit that is typed into the open word at a place from 1 to 3: one of the last three of six.
-fn typed_digit(digits: u16, place: u8) -> u8
-    requires from { 1 ≤ place }
-    requires to { place ≤ 3 }
-    ensures { result ≡ typed_digit digits place }
-{
-    digit(digits, place + TRIED_DIGITS)
 }

@@ -8,9 +8,10 @@ ghost use Rattle.trial_core.specs.TrialTable.{KeyTries, ask, listens, sends, tak
 use crate::digits::digits_for;
 use crate::habit::Seen;
 use crate::phase::{End, Phase};
-use crate::table;
+use crate::table::{self, LEFT_OUT_DIGITS};
 use crate::turn::Turn;
 use host_core::Heard;
+use host_core::answers::{digit_echo, reading_rest, reading_start, resynchronise_reply};
 use host_core::console::RESYNCHRONISE;
 
 /// A host that tries whether a console forgets digits: it says which character to type next.
@@ -39,7 +40,7 @@ pub struct Trial {
 
 /// A trial after a step, and the character that the step sends.
 #[derive(Clone, Copy)]
-pub struct Asked {
+pub struct TrialStep {
     /// The trial.
     pub next: Trial,
 
@@ -77,7 +78,7 @@ impl Trial {
 
     /// Hears one thing and answers the trial behind it, and the character to send now, if any: a step of
     /// the table. Whatever is heard, the character is a digit, `/` or `Z`.
-    pub fn step(self, heard: Heard) -> Asked
+    pub fn step(self, heard: Heard) -> TrialStep
         requires { IsTrial self }
         ensures asked { result.next ≡ (ask self heard).next }
         ensures key { result.key ≡ (ask self heard).key }
@@ -107,19 +108,23 @@ impl Trial {
     {
         match self.phase {
             Phase::Settle => Turn::Listen(Phase::Settle),
-            Phase::Sync(place) => table::synced(self.address, table::reply(place, c)),
-            Phase::Address(place) => table::address(self.address, place, c),
+            Phase::Sync(place) => table::synced(self.address, resynchronise_reply(place, c)),
+            Phase::Address(place) => table::addressed(place, digit_echo(self.address, place, c)),
             Phase::Slash => table::slash(c),
-            Phase::Before => table::before(c),
-            Phase::Value(place) => table::value(self.digits, place, c),
-            Phase::Typed(place) => table::typed(self.digits, place, c),
-            Phase::Done(place) => table::finished(table::reply(place, c)),
+            Phase::Before => table::reads(self.digits, reading_start(c)),
+            // Which number the word holds was read before: here its digits are counted alone.
+            Phase::Value(count) => table::reads(self.digits, reading_rest(0, count, c)),
+            Phase::Typed(place) => {
+                let place_in_number = place + LEFT_OUT_DIGITS;
+                table::typed(place, digit_echo(self.digits, place_in_number, c))
+            }
+            Phase::Done(place) => table::finished(resynchronise_reply(place, c)),
             Phase::Ended(end) => Turn::Listen(Phase::Ended(end)),
         }
     }
 
     // What the turn does to the trial, and the character that it sends.
-    fn taken(self, turn: Turn) -> Asked
+    fn taken(self, turn: Turn) -> TrialStep
         requires { self.patience < 2 ^ 32 }
         ensures next { result.next ≡ (taken self turn).next }
         ensures key { result.key ≡ (taken self turn).key }
@@ -150,22 +155,22 @@ impl Trial {
     }
 
     // Goes on in this phase, nothing is sent.
-    fn listens(self, phase: Phase) -> Asked
+    fn listens(self, phase: Phase) -> TrialStep
         ensures next { result.next ≡ (listens self phase).next }
         ensures key { result.key ≡ None }
     {
-        Asked {
+        TrialStep {
             next: Trial { phase, ..self },
             key: None,
         }
     }
 
     // Sends the character and goes on in this phase.
-    fn sends(self, key: u8, phase: Phase) -> Asked
+    fn sends(self, key: u8, phase: Phase) -> TrialStep
         ensures next { result.next ≡ (sends self key phase).next }
         ensures key { result.key ≡ Some key }
     {
-        Asked {
+        TrialStep {
             next: Trial { phase, ..self },
             key: Some(key),
         }

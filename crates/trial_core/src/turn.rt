@@ -18,16 +18,3 @@ pub enum Turn {
     /// Nothing came where an answer was due.
     Timeout,
 }
-
-/// How far a character brings the answer to `Z`, which comes twice in a trial.
-#[derive(Clone, Copy)]
-pub enum Reply {
-    /// The answer goes on at this place.
-    On(u8),
-
-    /// It was the prompt, the last of the answer.
-    Over,
-
-    /// The answer has no such character there.
-    Wrong,
-}

@@ -6,9 +6,10 @@ ghost use Rattle.host_core.specs.Life.{core_of};
 ghost use Rattle.host_core.specs.PhaseTable.{next_word, taken, turn_of};
 
 use super::HostCore;
+use crate::answers::{digit, reading_rest, reading_start, resynchronise_reply, return_reply};
 use crate::console::{CARRIAGE_RETURN, GO, RESYNCHRONISE};
 use crate::heard::Heard;
-use crate::life::Outcome;
+use crate::life::LifeStep;
 use crate::phase::{End, Phase, Reason, Visit};
 use crate::table;
 use crate::turn::Turn;
@@ -39,13 +40,15 @@ impl HostCore {
     {
         match self.life.phase {
             Phase::Settle => Turn::Listen(Phase::Settle),
-            Phase::Sync(place) => table::sync(place, c),
+            Phase::Sync(place) => table::synced(resynchronise_reply(place, c)),
             Phase::Address(visit, place) => table::address(self.word().address(), visit, place, c),
             Phase::Slash(visit) => table::slash(visit, c),
-            Phase::Before(visit) => table::before(self.word().address(), visit, c),
-            Phase::Value(visit, value, place) => table::value(self.word(), visit, value, place, c),
+            Phase::Before(visit) => table::reads(self.word(), visit, reading_start(c)),
+            Phase::Value(visit, value, place) => {
+                table::reads(self.word(), visit, reading_rest(value, place, c))
+            }
             Phase::Deposit(value, place) => table::deposit(value, place, c),
-            Phase::Return(reason, place) => table::after_return(reason, place, c),
+            Phase::Return(reason, place) => table::after_return(reason, return_reply(place, c)),
             Phase::Start(place) => table::start(self.start(), place, c),
             Phase::Go => table::go(c),
             Phase::Ended(end) => Turn::Listen(Phase::Ended(end)),
@@ -60,7 +63,7 @@ impl HostCore {
     }
 
     /// What the turn does to the life, and the character that it sends.
-    pub(super) fn taken(&self, turn: Turn) -> Outcome
+    pub(super) fn taken(&self, turn: Turn) -> LifeStep
         requires { IsHost (taken self.now turn).next }
         ensures next { core_of self.now.plan self.now.patience result.life ≡ (taken self.now turn).next }
         ensures key { result.key ≡ (taken self.now turn).key }
@@ -73,7 +76,7 @@ impl HostCore {
                 .with_word()
                 .sends(CARRIAGE_RETURN, Phase::Return(Reason::Close, 0)),
             Turn::ReadBack => life.sends(
-                table::digit(self.word().address(), 1),
+                digit(self.word().address(), 1),
                 Phase::Address(Visit::Check, 1),
             ),
             Turn::Next => self.next_word(),
@@ -88,19 +91,19 @@ impl HostCore {
     }
 
     // The next word, or the start, or nothing more.
-    fn next_word(&self) -> Outcome
+    fn next_word(&self) -> LifeStep
         requires { self.now.sent + 1 < 2 ^ 64 }
         ensures next { core_of self.now.plan self.now.patience result.life ≡ (next_word self.now).next }
         ensures key { result.key ≡ (next_word self.now).key }
     {
         if (self.life.progress.verified as usize) < self.plan.words().len() {
             return self.life.sends(
-                table::digit(self.word().address(), 1),
+                digit(self.word().address(), 1),
                 Phase::Address(Visit::Look, 1),
             );
         }
         match self.plan.start() {
-            Some(start) => self.life.sends(table::digit(start, 1), Phase::Start(1)),
+            Some(start) => self.life.sends(digit(start, 1), Phase::Start(1)),
             None => self.life.listens(Phase::Ended(End::Loaded)),
         }
     }

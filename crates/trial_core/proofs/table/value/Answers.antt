@@ -1,5 +1,0 @@
-use Rattle.std.proofs.Common.{rules}
-use Rattle.trial_core.proofs.table.value.Goals as goal
-
-pub returns-in_default-3 : goal.returns-in_default-3
-returns-in_default-3 c = search rules

@@ -5,11 +5,11 @@
 
 use honest_line::{Loss, MemoryLine};
 use host_devices::{Item, Line, LineFault};
+use looking_engine::{Stop, conduct};
 use odt_machine::{Odt, Style};
 use std::alloc::Global;
 use std::process::Abort;
 use trial_core::{End, Habit, Seen, Trial};
-use trial_engine::{Stop, conduct};
 
 // The word's address.
 const WORD: u16 = 0o1000;
@@ -44,7 +44,7 @@ const AMPLE: Setting = Setting {
 // of two CRs.
 #[derive(Clone, Copy)]
 struct Course {
-    stop: Stop,
+    stop: Stop<End>,
     keys: usize,
     heard: usize,
     spent: u32,
@@ -190,12 +190,12 @@ fn line_of(alloc: Global, setting: &Setting) -> Option<MemoryLine> {
 }
 
 // The engine's answer. What its contract promises of it, no test needs.
-fn conduct_on<L: Line>(old: u16, patience: u32, line: &mut L, turns: u64) -> (Trial, Stop) {
+fn conduct_on<L: Line>(old: u16, patience: u32, line: &mut L, turns: u64) -> (Trial, Stop<End>) {
     conduct(Trial::new(WORD, old, patience), line, turns)
 }
 
 // What a trial in this setting comes to; nothing where memory for it is refused.
-fn try_in(alloc: Global, setting: &Setting) -> Option<((Trial, Stop), MemoryLine)> {
+fn try_in(alloc: Global, setting: &Setting) -> Option<((Trial, Stop<End>), MemoryLine)> {
     let mut line = line_of(alloc, setting)?;
     let answer = conduct_on(setting.held, setting.patience, &mut line, setting.turns);
     Some((answer, line))

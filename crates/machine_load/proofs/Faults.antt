@@ -9,8 +9,8 @@ use Rattle.machine_load.specs.GivenBack.{GivesLooked, GivesNone}
 use Rattle.machine_load.specs.Looks.{AreLooks, AreLooksAt, IsSampled, ended_by, unfinished_at}
 use Rattle.reading_core.specs.Reader.{Reader}
 use Rattle.reading_core.specs.declared.phase.End.TheVariants.{Complete, GaveUp, NoWord}
-use Rattle.reading_engine.specs.declared.stop.Stop.{Stop}
-use Rattle.reading_engine.specs.declared.stop.Stop.TheVariants.{Ended, LineFailed, TurnsOver}
+use Rattle.looking_engine.specs.Stopping.{LookStop}
+use Rattle.looking_engine.specs.declared.stop.Stop.TheVariants.{Ended, LineFailed, TurnsOver}
 use Rattle.sample_looks.specs.declared.finding.Finding.{Finding}
 use Rattle.sample_looks.specs.declared.finding.Finding.TheVariants.{AllStand, Stale, Unfinished}
 use Rattle.sample_looks.specs.Finding.{IsFound}
@@ -100,7 +100,7 @@ looked_first first samples shown reader looks before after sampled same looked =
   looked = subst (λ patience. AreLooksAt samples patience looks (before ⇒ after)) (ap (λ (r : Reader). r.patience) sampled.begins) (subst (λ list. AreLooksAt list reader.patience looks (before ⇒ after)) same looked);
 }
 
-whole : (stop : Stop) → unfinished_at stop ≡ None → stop ≡ Ended Complete
+whole : (stop : LookStop) → unfinished_at stop ≡ None → stop ≡ Ended Complete
 whole (Ended Complete) free = refl
 whole (Ended GaveUp) free = absurd (cc free)
 whole (Ended (NoWord address)) free = absurd (cc free)
@@ -108,7 +108,7 @@ whole (LineFailed fault) free = absurd (cc free)
 whole TurnsOver free = absurd (cc free)
 
 -- looks that let a life go on found that all words stand
-pub all_stand : (samples : List WordValue) (numbers : List ℕ) (stop : Stop) (finding : Finding) → IsFound samples numbers stop finding → ended_by finding stop ≡ None → finding ≡ AllStand
+pub all_stand : (samples : List WordValue) (numbers : List ℕ) (stop : LookStop) (finding : Finding) → IsFound samples numbers stop finding → ended_by finding stop ≡ None → finding ≡ AllStand
 all_stand samples numbers stop AllStand found free = refl
 all_stand samples numbers stop (Stale address) found free = absurd (cc free)
 all_stand samples numbers stop Unfinished found free = absurd (found.0 (whole stop free))

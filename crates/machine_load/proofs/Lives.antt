@@ -120,7 +120,7 @@ of_record : (plan : PlanValue) (v patience : ℕ) (recorded : Progress) (looks :
     → (l : AreLooks (begun plan v false patience) looks before after) → LooksGoOut l items → HasLooked plan recorded items
 of_record plan v patience recorded looks before after items long fewer same l out =
     let looked : HasLooked plan (record { verified = v; going = false }) items =
-    are_of_the_record plan (record { verified = v; going = false }) l.samples patience most_turns looks.stop l.looked.reader before.said after.said items refl l.of_record l.asked long l.looked.inquired.turns out in record {
+    are_of_the_record plan (record { verified = v; going = false }) l.samples patience most_turns looks.stop l.looked.reader before.said after.said items refl l.of_record l.asked long l.looked.inquired.turns.session out in record {
       unmarked = sym same;
       addresses = looked.addresses;
       asked = looked.asked;

@@ -19,8 +19,8 @@ use Rattle.machine_load.specs.declared.load_end.LoadEnd.TheVariants as load_end
 use Rattle.machine_load.specs.declared.looks.Looks.{Looks}
 use Rattle.machine_load.specs.Looks.{ended_by, held_up_by, unfinished_at}
 use Rattle.reading_core.specs.declared.phase.End.TheVariants.{Complete, GaveUp, NoWord}
-use Rattle.reading_engine.specs.declared.stop.Stop.{Stop}
-use Rattle.reading_engine.specs.declared.stop.Stop.TheVariants.{Ended, LineFailed, TurnsOver}
+use Rattle.looking_engine.specs.Stopping.{LookStop}
+use Rattle.looking_engine.specs.declared.stop.Stop.TheVariants.{Ended, LineFailed, TurnsOver}
 use Rattle.sample_looks.specs.declared.finding.Finding.{Finding}
 use Rattle.sample_looks.specs.declared.finding.Finding.TheVariants.{AllStand, Stale, Unfinished}
 use Rattle.machine_load.specs.declared.fault.LoadFault.{LoadFault}
@@ -109,14 +109,14 @@ idle_on told a b c (load_end.Unfinished stop) line none o same = only_read_on a 
 idle_on told a b c (load_end.Stale address) line none o same = only_read_on a b c o same
 
 -- a life that its looks hold up was not driven
-never_unfinished : {A : Type 0} (stop : Stop) (driven : DriveStop) → unfinished_at stop ≡ Some (load_end.Driven driven) → A
+never_unfinished : {A : Type 0} (stop : LookStop) (driven : DriveStop) → unfinished_at stop ≡ Some (load_end.Driven driven) → A
 never_unfinished (Ended Complete) driven e = absurd (cc e)
 never_unfinished (Ended GaveUp) driven e = absurd (cc e)
 never_unfinished (Ended (NoWord address)) driven e = absurd (cc e)
 never_unfinished (LineFailed fault) driven e = absurd (cc e)
 never_unfinished TurnsOver driven e = absurd (cc e)
 
-never_driven : {A : Type 0} (finding : Finding) (stop : Stop) (driven : DriveStop) → ended_by finding stop ≡ Some (load_end.Driven driven) → A
+never_driven : {A : Type 0} (finding : Finding) (stop : LookStop) (driven : DriveStop) → ended_by finding stop ≡ Some (load_end.Driven driven) → A
 never_driven AllStand stop driven e = never_unfinished stop driven e
 never_driven (Stale address) stop driven e = absurd (cc e)
 never_driven Unfinished stop driven e = never_unfinished stop driven e

@@ -13,9 +13,9 @@ use Rattle.reading_core.specs.declared.phase.End.TheVariants.{Complete, GaveUp, 
 use Rattle.reading_core.specs.Addresses.{AreAddresses, addresses_of}
 use Rattle.reading_core.specs.Bound.{reading_bound}
 use Rattle.reading_core.specs.Reader.{Reader, begun as reader_begun}
-use Rattle.reading_engine.specs.declared.stop.Stop.{Stop}
-use Rattle.reading_engine.specs.declared.stop.Stop.TheVariants.{Ended, LineFailed, TurnsOver}
-use Rattle.reading_engine.specs.Inquired.{IsInquired, inquiry}
+use Rattle.looking_engine.specs.Stopping.{LookStop}
+use Rattle.looking_engine.specs.declared.stop.Stop.TheVariants.{Ended, LineFailed, TurnsOver}
+use Rattle.looking_engine.specs.Inquired.{IsInquired, inquiry}
 use Rattle.sample_looks.specs.declared.finding.Finding.{Finding}
 use Rattle.sample_looks.specs.declared.finding.Finding.TheVariants.{AllStand, Stale, Unfinished}
 use Rattle.sample_looks.specs.Finding.{IsFound}
@@ -24,7 +24,7 @@ use Rattle.sample_looks.specs.Samples.{AreSamples}
 use Rattle.tape_image.specs.Word.{WordValue}
 
 -- how a load ends whose looks stopped so: where each word was read they do not end it
-abbrev pub unfinished_at : Stop → Option LoadEnd
+abbrev pub unfinished_at : LookStop → Option LoadEnd
 unfinished_at (Ended Complete) = None
 unfinished_at (Ended GaveUp) = Some (load_end.Unfinished (drive.Ended host.GaveUp))
 unfinished_at (Ended (NoWord address)) = Some (load_end.Unfinished (drive.Ended (host.NoWord address)))
@@ -32,7 +32,7 @@ unfinished_at (LineFailed fault) = Some (load_end.Unfinished (drive.LineFailed f
 unfinished_at TurnsOver = Some (load_end.Unfinished drive.TurnsOver)
 
 -- how a load ends that its looks do not let go on, by what they found and how they stopped
-abbrev pub ended_by : Finding → Stop → Option LoadEnd
+abbrev pub ended_by : Finding → LookStop → Option LoadEnd
 ended_by AllStand stop = unfinished_at stop
 ended_by (Stale address) stop = Some (load_end.Stale address)
 ended_by Unfinished stop = unfinished_at stop

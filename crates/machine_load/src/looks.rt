@@ -11,8 +11,8 @@ use crate::load_end::LoadEnd;
 use host_core::End;
 use host_devices::{Line, Unwatched};
 use load_engine::Stop;
+use looking_engine::Stop as ReadingStop;
 use reading_core::{End as ReadingEnd, ReadingCore};
-use reading_engine::Stop as ReadingStop;
 use sample_looks::{Finding, look_at_samples, reader_of, samples_of};
 use std::alloc::{AllocError, Global};
 use tape_image::Word;
@@ -27,7 +27,7 @@ pub struct Looks {
     pub spent: u32,
 
     /// Why the reading stopped.
-    pub stop: ReadingStop,
+    pub stop: ReadingStop<ReadingEnd>,
 
     /// What was found.
     pub finding: Finding,
@@ -46,7 +46,7 @@ impl Looks {
 }
 
 // How a load ends whose looks stopped so before each word was read.
-fn unfinished(stop: ReadingStop) -> Option<LoadEnd>
+fn unfinished(stop: ReadingStop<ReadingEnd>) -> Option<LoadEnd>
     ensures { result ≡ unfinished_at stop }
 {
     let stop = match stop {

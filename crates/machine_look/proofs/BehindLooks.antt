@@ -20,11 +20,12 @@ use Rattle.looking_law.proofs.Believed.{leave_ready}
 use Rattle.looking_law.proofs.Runs.{may_begin, run_begins, run_tidy}
 use Rattle.looking_law.proofs.Splits.{lines_split}
 use Rattle.looking_law.proofs.Told.{told_begins, told_honest}
-use Rattle.reading_engine.specs.Belief.{IsBelievableOver}
-use Rattle.reading_engine.specs.Inquired.{Inquired, IsSaid, inquiry}
-use Rattle.reading_engine.specs.declared.stop.Stop.{Stop}
-use Rattle.reading_engine.specs.declared.stop.Stop.TheVariants.{Ended, LineFailed, TurnsOver}
-use Rattle.reading_engine.proofs.Beliefs.{inquired_believable}
+use Rattle.looking_engine.specs.Belief.{IsBelievableOver}
+use Rattle.looking_engine.specs.Inquired.{Inquired, inquiry}
+use Rattle.looking_engine.specs.Session.{IsSaid}
+use Rattle.looking_engine.specs.Stopping.{LookStop}
+use Rattle.looking_engine.specs.declared.stop.Stop.TheVariants.{Ended, LineFailed, TurnsOver}
+use Rattle.looking_engine.proofs.Beliefs.{inquired_believable}
 use Rattle.sample_looks.specs.Finding.{IsSoIn}
 use Rattle.sample_looks.specs.Looked.{IsSeen}
 use Rattle.sample_looks.specs.declared.finding.Finding.{Finding}
@@ -39,26 +40,26 @@ led_addresses : (r : Reader) (things : List Heard) → (led r things).addresses 
 led_addresses r [] = refl
 led_addresses r (what ∷ things) = led_addresses (ask r what).next things ∙ (asked r what).addresses
 
-said_told : (stop : Stop) (left : ℕ) (all said : List Item) → IsSaid (Some stop) left all said → IsToldOf all said
+said_told : (stop : LookStop) (left : ℕ) (all said : List Item) → IsSaid (Some stop) left all said → IsToldOf all said
 said_told (Ended end) left all said s = inl s
 said_told TurnsOver left all said s = inl s.0
 said_told (LineFailed fault) left all said (inl s) = inl s.0
 said_told (LineFailed fault) left all said (inr lacks) = inr lacks
 
 -- the same, as of a line that tells what was said there alone
-told_by_itself : (turns : ℕ) (stop : Stop) (first last : Reader) (line line' : Option (List Item)) (s : Inquired turns (inquiry first last (Some stop)) line line') → Inquired turns (inquiry first last (Some stop)) (Some []) (Some s.said)
+told_by_itself : (turns : ℕ) (stop : LookStop) (first last : Reader) (line line' : Option (List Item)) (s : Inquired turns (inquiry first last (Some stop)) line line') → Inquired turns (inquiry first last (Some stop)) (Some []) (Some s.said)
 told_by_itself turns stop first last line line' s =
-    record { heard = s.heard; said = s.said; reader = s.reader; goes_on = s.goes_on; within = s.within; items = s.items; on_line = refl }
+    record { heard = s.heard; said = s.said; host = s.host; goes_on = s.goes_on; within = s.within; items = s.items; on_line = refl }
 
 -- what looks found is so in memory, which is what it was
 pub looks_hold : (samples : List WordValue) (patience : ℕ) (looked : Looked) (line : Change (Option (List Item))) → AreAddresses (addresses_of samples) → patience < 2 ^ 32
     → (s : AreLookedAt samples patience looked line) → IsReader looked.reader → WhereHonest s.inquired.said (IsAsFound samples looked.finding)
 looks_hold samples patience looked line are long s kept machine now lost ready honest =
     let looks : Reader = looked.reader in
-    let stop : Stop = looked.stop in
+    let stop : LookStop = looked.stop in
     let first : Reader = begun (addresses_of samples) [] patience in
     let reads = fresh_kept (addresses_of samples) patience are long in
-    let same : looks.addresses ≡ first.addresses = ap (λ (r : Reader). r.addresses) s.inquired.reader ∙ led_addresses first s.inquired.heard in
+    let same : looks.addresses ≡ first.addresses = ap (λ (r : Reader). r.addresses) s.inquired.host ∙ led_addresses first s.inquired.heard in
     let over : IsBelievableOver stop first looks (Some []) (Some s.inquired.said) =
     inquired_believable most_turns stop first looks (Some []) (Some s.inquired.said) reads (told_by_itself most_turns stop first looks line.before line.after s.inquired) in
     let seen : IsSeen samples looked.finding machine now =
@@ -72,7 +73,7 @@ pub record IsReadBehind (samples : List WordValue) (last : Reader) (machine : Ch
 
 pub reading_holds : (samples : List WordValue) (patience : ℕ) (looks : Reader) (line : Change (Option (List Item))) → AreAddresses (addresses_of samples) → patience < 2 ^ 32
     → (s : AreLookedAt samples patience (all_stood looks) line) → IsReader looks
-    → (turns : ℕ) (stop : Stop) (addresses : List ℕ) (left : ℕ) (last : Reader) (line' : Option (List Item)) → AreAddresses addresses → left < 2 ^ 32
+    → (turns : ℕ) (stop : LookStop) (addresses : List ℕ) (left : ℕ) (last : Reader) (line' : Option (List Item)) → AreAddresses addresses → left < 2 ^ 32
     → (t : Inquired turns (inquiry (begun addresses [] left) last (Some stop)) line.after line') → WhereHonest (s.inquired.said ++ t.said) (IsReadBehind samples last)
 reading_holds samples patience looks line are long s kept turns stop addresses left last line' are' long' t machine now lost ready honest =
     let one = Look (addresses_of samples) patience s.inquired.heard in

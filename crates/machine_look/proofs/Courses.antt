@@ -12,12 +12,11 @@ use Rattle.host_devices.specs.declared.item.Item.{Item}
 use Rattle.reading_core.specs.Addresses.{AreAddresses, IsRange, addresses_of}
 use Rattle.reading_core.specs.Bound.{reading_bound}
 use Rattle.reading_core.specs.Invariant.{IsReader}
-use Rattle.reading_core.specs.Reader.{Reader, begun}
+use Rattle.reading_core.specs.Reader.{Reader, begun, ended}
 use Rattle.reading_core.specs.declared.phase.End.TheVariants.{Complete}
-use Rattle.reading_engine.specs.Failing.{line_fault}
-use Rattle.reading_engine.specs.Inquired.{Inquired, TellsEnd, inquiry}
-use Rattle.reading_engine.specs.declared.stop.Stop.{Stop}
-use Rattle.reading_engine.specs.declared.stop.Stop.TheVariants.{Ended}
+use Rattle.looking_engine.specs.Stopping.{LookStop, TellsEnd, line_fault}
+use Rattle.looking_engine.specs.Inquired.{Inquired, inquiry}
+use Rattle.looking_engine.specs.declared.stop.Stop.TheVariants.{Ended}
 use Rattle.sample_looks.specs.Finding.{IsFound}
 use Rattle.sample_looks.specs.declared.finding.Finding.{Finding}
 use Rattle.sample_looks.specs.declared.finding.Finding.TheVariants.{AllStand}
@@ -30,7 +29,7 @@ use Rattle.machine_look.proofs.BehindLooks.{looks_hold, reading_holds}
 use Rattle.machine_look.proofs.SavedMemory.{memory_behind}
 
 pub are_looked_at : (samples : List WordValue) (patience : ℕ) (first : Reader) (looked : Looked) (line : Change (Option (List Item))) → first ≡ begun (addresses_of samples) [] patience
-    → Inquired most_turns (inquiry first looked.reader (Some looked.stop)) line.before line.after → TellsEnd looked.stop looked.reader → IsFound samples looked.reader.values looked.stop looked.finding
+    → Inquired most_turns (inquiry first looked.reader (Some looked.stop)) line.before line.after → TellsEnd looked.stop (ended looked.reader.phase) → IsFound samples looked.reader.values looked.stop looked.finding
     → looked.reader.sent ≤ reading_bound (length samples) first.patience → looked.reader.patience ≡ first.patience → IsReader looked.reader → AreLookedAt samples patience looked line
 are_looked_at samples patience first looked line is inquired end found bound same kept = record {
   inquired = subst (λ (r : Reader). Inquired most_turns (inquiry r looked.reader (Some looked.stop)) line.before line.after) is inquired;
@@ -41,7 +40,7 @@ are_looked_at samples patience first looked line is inquired end found bound sam
 }
 
 -- a line on which two hosts ran is given back: the first met no fault
-pub given_back : (stop : Stop) (line line' : Option (List Item)) (lines between lines' : Option (List LineTold)) (none after all : ℕ) (last : LineTold) → none ≡ 0 → after ≡ none → CountsFault (line_fault (Some stop)) after all → last.failures ≡ all
+pub given_back : (stop : LookStop) (line line' : Option (List Item)) (lines between lines' : Option (List LineTold)) (none after all : ℕ) (last : LineTold) → none ≡ 0 → after ≡ none → CountsFault (line_fault (Some stop)) after all → last.failures ≡ all
     → IsAsTold line [] → last.said ≡ line' → IsLastFault (line_fault (Some stop)) last.fault → between ≡ lines → Gains between lines' (last ∷ []) → IsGivenBack stop (line ⇒ line') (lines ⇒ lines')
 given_back stop line line' lines between lines' none after all last z same counted is fresh said named reached given = record {
   fresh = fresh;
@@ -66,7 +65,7 @@ held_up saving console looked samples line of s kept long not_all asked given = 
   is_memory = looks_hold samples saving.options.patience looked line of.asked long s kept;
 }
 
-pub is_read : (turns : ℕ) (saving : Saving) (console : Change ConsoleTold) (looked : Looked) (last first : Reader) (stop : Stop) (samples : List WordValue) (line : Change (Option (List Item))) (mid : Option (List Item))
+pub is_read : (turns : ℕ) (saving : Saving) (console : Change ConsoleTold) (looked : Looked) (last first : Reader) (stop : LookStop) (samples : List WordValue) (line : Change (Option (List Item))) (mid : Option (List Item))
     → IsRange saving.options.range.from saving.options.range.to → saving.options.start < 65536 → FillBlocks saving.options.range saving.found → AreAddresses (addresses_behind saving.options.range saving.found)
     → AreOfFound saving.options.range saving.found samples → looked.finding ≡ AllStand → AreLookedAt samples saving.options.patience looked (line.before ⇒ mid) → IsReader looked.reader → saving.options.patience < 2 ^ 32
     → first ≡ begun (addresses_behind saving.options.range saving.found) [] (saving.options.patience - looked.reader.spent) → Inquired turns (inquiry first last (Some stop)) mid line.after
@@ -77,11 +76,11 @@ is_read turns saving console looked last first stop samples line mid range begin
     let looks : Reader = looked.reader in
     let behind : List ℕ = addresses_behind saving.options.range saving.found in
     let found : IsFound samples looks.values looked.stop AllStand = subst (λ f. IsFound samples looks.values looked.stop f) all s.found in
-    let ended : looked.stop ≡ Ended Complete = found.0 in
+    let is_complete : looked.stop ≡ Ended Complete = found.0 in
     let stood : AreLookedAt samples saving.options.patience (all_stood looks) (line.before ⇒ mid) = record {
-      inquired = subst (λ t. Inquired most_turns (inquiry (begun (addresses_of samples) [] saving.options.patience) looks (Some t)) line.before mid) ended s.inquired;
-      end = subst (λ t. TellsEnd t looks) ended s.end;
-      found = subst (λ t. IsFound samples looks.values t AllStand) ended found;
+      inquired = subst (λ t. Inquired most_turns (inquiry (begun (addresses_of samples) [] saving.options.patience) looks (Some t)) line.before mid) is_complete s.inquired;
+      end = subst (λ t. TellsEnd t (ended looks.phase)) is_complete s.end;
+      found = subst (λ t. IsFound samples looks.values t AllStand) is_complete found;
       bound = s.bound;
       paid = s.paid;
     } in

@@ -4,7 +4,12 @@ use Rattle.odt_machine.specs.Machine.{Machine}
 use Rattle.host_devices.specs.declared.item.Item.{Item}
 use Rattle.host_devices.specs.Dialogue.{keys_of}
 use Rattle.host_devices.specs.Turns.{most_turns}
-use Rattle.reading_engine.specs.Honest.{IsHonest}
+use Rattle.looking_engine.specs.Honest.{IsHonest}
+use Rattle.looking_engine.specs.Stopping.{LookStop, TellsEnd}
+use Rattle.looking_engine.specs.declared.stop.Stop.TheVariants.{Ended, LineFailed, TurnsOver}
+use Rattle.looking_engine.specs.Belief.{IsBelievableAt}
+use Rattle.looking_engine.specs.Inquired.{Inquired, inquiry}
+use Rattle.looking_engine.proofs.Beliefs.{inquired_believable}
 use Rattle.reading_core.specs.declared.phase.End.{End}
 use Rattle.reading_core.specs.declared.phase.End.TheVariants.{Complete, GaveUp, NoWord}
 use Rattle.reading_core.specs.declared.phase.Phase.{Phase}
@@ -14,11 +19,6 @@ use Rattle.reading_core.specs.Invariant.{Basis, PhaseFits, IsReader}
 use Rattle.reading_core.specs.Reader.{Reader, ended}
 use Rattle.reading_core.proofs.Turns.{within_bound}
 use Rattle.looking_law.specs.Belief.{IsTrueReading, MayLook}
-use Rattle.reading_engine.specs.declared.stop.Stop.{Stop}
-use Rattle.reading_engine.specs.declared.stop.Stop.TheVariants.{Ended, LineFailed, TurnsOver}
-use Rattle.reading_engine.specs.Belief.{IsBelievableAt}
-use Rattle.reading_engine.specs.Inquired.{Inquired, TellsEnd, inquiry}
-use Rattle.reading_engine.proofs.Beliefs.{inquired_believable}
 use Rattle.host_devices.specs.Devices.{LineTold}
 use Rattle.request_values.specs.Change.{◌⇒◌}
 use Rattle.machine_look.specs.Look.{IsLineOf, IsLook, IsLookOf}
@@ -26,12 +26,12 @@ use Rattle.machine_look.specs.Look.{IsLineOf, IsLook, IsLookOf}
 -- ---- how a look comes to be
 
 -- what was said may be believed, also where the line doesn't tell it
-pub believed_said : (turns : ℕ) (stop : Stop) (first last : Reader) (line line' : Option (List Item)) (s : Inquired turns (inquiry first last (Some stop)) line line') → IsReader first → IsBelievableAt stop first last s.said
+pub believed_said : (turns : ℕ) (stop : LookStop) (first last : Reader) (line line' : Option (List Item)) (s : Inquired turns (inquiry first last (Some stop)) line line') → IsReader first → IsBelievableAt stop first last s.said
 believed_said turns stop first last line line' s reads =
     let told : Inquired turns (inquiry first last (Some stop)) (Some []) (Some s.said) = record {
       heard = s.heard;
       said = s.said;
-      reader = s.reader;
+      host = s.host;
       goes_on = s.goes_on;
       within = s.within;
       items = s.items;
@@ -39,8 +39,8 @@ believed_said turns stop first last line line' s reads =
     } in
     inquired_believable turns stop first last (Some []) (Some s.said) reads told s.said ([], refl, refl)
 
-pub is_look_of : (turns : ℕ) (first last : Reader) (stop : Stop) (line line' : Option (List Item)) (lines lines' : Option (List LineTold)) → IsReader first → Inquired turns (inquiry first last (Some stop)) line line'
-    → IsLineOf (ended first.phase) stop (line ⇒ line') (lines ⇒ lines') → TellsEnd stop last
+pub is_look_of : (turns : ℕ) (first last : Reader) (stop : LookStop) (line line' : Option (List Item)) (lines lines' : Option (List LineTold)) → IsReader first → Inquired turns (inquiry first last (Some stop)) line line'
+    → IsLineOf (ended first.phase) stop (line ⇒ line') (lines ⇒ lines') → TellsEnd stop (ended last.phase)
     → last.addresses ≡ first.addresses → last.patience ≡ first.patience → last.sent ≤ reading_bound (length last.addresses) last.patience → IsReader last → IsLookOf turns (first ⇒ last) stop (lines ⇒ lines')
 is_look_of turns first last stop line line' lines lines' reads inquired is end addresses patience bound kept = record {
   line = line ⇒ line';
@@ -54,8 +54,8 @@ is_look_of turns first last stop line line' lines lines' reads inquired is end a
   kept = kept;
 }
 
-pub is_look : (first last : Reader) (stop : Stop) (line line' : Option (List Item)) (lines lines' : Option (List LineTold)) → IsReader first → Inquired most_turns (inquiry first last (Some stop)) line line'
-    → IsLineOf (ended first.phase) stop (line ⇒ line') (lines ⇒ lines') → TellsEnd stop last
+pub is_look : (first last : Reader) (stop : LookStop) (line line' : Option (List Item)) (lines lines' : Option (List LineTold)) → IsReader first → Inquired most_turns (inquiry first last (Some stop)) line line'
+    → IsLineOf (ended first.phase) stop (line ⇒ line') (lines ⇒ lines') → TellsEnd stop (ended last.phase)
     → last.addresses ≡ first.addresses → last.patience ≡ first.patience → last.sent ≤ reading_bound (length last.addresses) last.patience → IsReader last → IsLook (first ⇒ last) stop (lines ⇒ lines')
 is_look = is_look_of most_turns
 
@@ -65,7 +65,7 @@ no_look reader end lines reads is =
     let nothing : Inquired most_turns (inquiry reader reader (Some (Ended end))) None None = record {
       heard = [];
       said = [];
-      reader = refl;
+      host = refl;
       goes_on = tt;
       within = omega arith;
       items = refl;
@@ -76,7 +76,7 @@ no_look reader end lines reads is =
 -- ---- what it says
 
 -- over an honest line what was read is true, with the losses or one more
-pub is_true : (stop : Stop) (first last : Reader) (items : List Item) (machine now : Machine) (lost : ℕ) → IsBelievableAt stop first last items → MayLook first machine → IsHonest machine items lost now
+pub is_true : (stop : LookStop) (first last : Reader) (items : List Item) (machine now : Machine) (lost : ℕ) → IsBelievableAt stop first last items → MayLook first machine → IsHonest machine items lost now
     → (more : ℕ) × IsTrueReading machine.memory last now.memory (keys_of items) (lost + more)
 is_true (Ended end) first last items machine now lost believed may honest = (0, believed machine now lost may honest)
 is_true TurnsOver first last items machine now lost believed may honest = (0, believed machine now lost may honest)

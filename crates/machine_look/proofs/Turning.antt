@@ -6,15 +6,20 @@ use Rattle.host_devices.specs.Turns.{most_turns}
 use Rattle.reading_core.specs.declared.phase.End.{End}
 use Rattle.reading_core.specs.Invariant.{IsReader}
 use Rattle.reading_core.specs.Reader.{Reader, ended}
-use Rattle.reading_engine.specs.declared.stop.Stop.TheVariants.{Ended}
-use Rattle.reading_engine.specs.Inquired.{IsInquired, inquiry}
-use Rattle.reading_engine.proofs.Inquiries.{inquired, no_turns}
-use Rattle.reading_engine.proofs.Stretches.{inquired_ended}
+use Rattle.looking_engine.specs.declared.stop.Stop.TheVariants.{Ended}
+use Rattle.looking_engine.specs.Inquired.{IsInquired, inquiry}
+use Rattle.looking_engine.proofs.Inquiries.{inquired, no_turns}
+use Rattle.looking_engine.specs.Ways.{readings}
+use Rattle.looking_engine.proofs.Sessions.{session_ended}
 
 -- a reader that has an end before its first turn
 pub ended_at_once : (end : End) (reader : Reader) (line : LineTold) → IsReader reader → ended reader.phase ≡ Some end → IsInquired most_turns (inquiry reader reader (Some (Ended end))) line line
-ended_at_once end reader line reads is =
-    inquired most_turns reader reader (Some (Ended end)) line line reads reads (inquired_ended end 0 most_turns reader reader line.said line.said (omega arith) (no_turns reader line reads).turns) is refl tt
+ended_at_once end reader line reads is = inquired most_turns reader reader (Some (Ended end)) line line reads reads record {
+  session = session_ended readings end 0 most_turns reader reader line.said line.said (omega arith) (no_turns reader line reads).turns.session;
+  end = is;
+  counted = refl;
+  named = tt;
+}
 
 -- ---- what is known of an answer
 

@@ -14,9 +14,8 @@ use Rattle.reading_core.specs.Reader.{Reader, begun, ended}
 use Rattle.looking_law.specs.Belief.{IsTrueReading}
 use Rattle.host_devices.specs.Devices.{LineTold}
 use Rattle.request_values.specs.Change.{Change, ◌⇒◌}
-use Rattle.reading_engine.specs.Inquired.{TellsEnd}
-use Rattle.reading_engine.specs.declared.stop.Stop.{Stop}
-use Rattle.reading_engine.specs.declared.stop.Stop.TheVariants.{Ended, LineFailed as LineHasFailed, TurnsOver as TurnsAreOver}
+use Rattle.looking_engine.specs.Stopping.{LookStop, TellsEnd}
+use Rattle.looking_engine.specs.declared.stop.Stop.TheVariants.{Ended, LineFailed as LineHasFailed, TurnsOver as TurnsAreOver}
 use Rattle.machine_look.specs.declared.look_fault.LookFault.{LookFault}
 use Rattle.machine_look.specs.declared.look_fault.LookFault.TheVariants.{Connect, IsThere, Memory, NotOfSave, PartIsThere, WriteOutput, WriteTape}
 use Rattle.machine_look.specs.declared.verify_end.VerifyEnd.{VerifyEnd}
@@ -31,7 +30,7 @@ use Rattle.machine_look.proofs.Found.{none_differ}
 use Rattle.machine_look.proofs.Looks.{all_read, is_true}
 
 -- it ends so only where every word was read and none differs
-same_means : (differ : ℕ) (stop : Stop) → verify_end differ stop ≡ Same → (stop ≡ Ended Complete) × (differ ≡ 0)
+same_means : (differ : ℕ) (stop : LookStop) → verify_end differ stop ≡ Same → (stop ≡ Ended Complete) × (differ ≡ 0)
 same_means differ (Ended Complete) is =
     (refl, elim (eqb differ 0) as (λ t. eqb differ 0 ≡ t → cond t Same Differs ≡ Same → differ ≡ 0) [ true ↦ λ e same. eqb-true _ _ e | false ↦ λ e same. absurd (cc same) ] refl is)
 same_means differ (Ended HostGaveUp) is = absurd (cc is)
@@ -52,7 +51,7 @@ stand_where_read words last before now keys lost are all none heard = record {
       subst (Stands (word_nr words i)) here (Stands-unchanged (word_nr words i) (get_or last.values i 0) (none_differ words last.values all none i low));
 }
 
-pub all_stand : (words : List WordValue) (first last : Reader) (stop : Stop) {lines : Change (Option (List LineTold))} (look : IsLook (first ⇒ last) stop lines) → first.addresses ≡ addresses_of words
+pub all_stand : (words : List WordValue) (first last : Reader) (stop : LookStop) {lines : Change (Option (List LineTold))} (look : IsLook (first ⇒ last) stop lines) → first.addresses ≡ addresses_of words
     → verify_end (length (differences words last.values)) stop ≡ Same → OverHonestLine look (IsSameWith words)
 all_stand words first last stop look are same machine now lost may honest =
     let means = same_means (length (differences words last.values)) stop same in
@@ -62,12 +61,12 @@ all_stand words first last stop look are same machine now lost may honest =
     let heard = is_true stop first last look.inquired.said machine now lost look.believed may honest in
     (heard.1.same, stand_where_read words last machine.memory now.memory _ _ addresses all means.1 heard.1)
   where
-    ended_is : (last : Reader) (stop : Stop) {lines : Change (Option (List LineTold))} → stop ≡ Ended Complete → IsLook (first ⇒ last) stop lines → ended last.phase ≡ Some Complete
-    ended_is last stop is look = subst (λ s. TellsEnd s last) is look.end
+    ended_is : (last : Reader) (stop : LookStop) {lines : Change (Option (List LineTold))} → stop ≡ Ended Complete → IsLook (first ⇒ last) stop lines → ended last.phase ≡ Some Complete
+    ended_is last stop is look = subst (λ s. TellsEnd s (ended last.phase)) is look.end
 
 -- ---- a verification
 
-abbrev pub verified_of : (plan : PlanValue) (patience : ℕ) (before after : ConsoleTold) (first last : Reader) (stop : Stop) (end : VerifyEnd) → first ≡ begun (addresses_of plan.words) [] patience → IsLook (first ⇒ last) stop (before.lines ⇒ after.lines)
+abbrev pub verified_of : (plan : PlanValue) (patience : ℕ) (before after : ConsoleTold) (first last : Reader) (stop : LookStop) (end : VerifyEnd) → first ≡ begun (addresses_of plan.words) [] patience → IsLook (first ⇒ last) stop (before.lines ⇒ after.lines)
     → AsksOnce (ended first.phase) before.call before.asked after.asked → end ≡ verify_end (length (differences plan.words last.values)) stop → IsVerified plan patience (before ⇒ after) end
 verified_of plan patience before after first last stop end is look asks ends =
     let moved : IsLook (begun (addresses_of plan.words) [] patience ⇒ last) stop (before.lines ⇒ after.lines) = subst (λ r. IsLook (r ⇒ last) stop (before.lines ⇒ after.lines)) is look in
@@ -89,7 +88,7 @@ pub differ_is : (words words' : List WordValue) (last : Reader) (numbers : List 
 differ_is words words' last numbers differ w n count = count ∙ (ap (λ list. length (differences list numbers)) w ∙ ap (λ list. length (differences words list)) n)
 
 -- the last lines of a report are those of the words
-pub last_is : (words words' : List WordValue) (last : Reader) (numbers : List ℕ) (differ : ℕ) (stop : Stop) (text : List ℕ) → words' ≡ words → numbers ≡ last.values → last.addresses ≡ addresses_of words → differ ≡ length (differences words' numbers)
+pub last_is : (words words' : List WordValue) (last : Reader) (numbers : List ℕ) (differ : ℕ) (stop : LookStop) (text : List ℕ) → words' ≡ words → numbers ≡ last.values → last.addresses ≡ addresses_of words → differ ≡ length (differences words' numbers)
     → text ≡ last_lines (length last.addresses) last differ stop → text ≡ last_lines (length words) last (length (differences words last.values)) stop
 last_is words words' last numbers differ stop text w n are count is =
     is

@@ -12,13 +12,13 @@ use Rattle.console_lines.specs.Dialling.{asked_once}
 use Rattle.reading_core.specs.Addresses.{AreAddresses, addresses_between, addresses_from, addresses_of}
 use Rattle.reading_core.specs.Bound.{reading_bound}
 use Rattle.reading_core.specs.Invariant.{IsReader}
-use Rattle.reading_core.specs.Reader.{Reader, begun}
+use Rattle.reading_core.specs.Reader.{Reader, begun, ended}
 use Rattle.reading_core.specs.declared.phase.End.TheVariants.{Complete}
 use Rattle.looking_law.specs.Belief.{IsReadyMachine}
-use Rattle.reading_engine.specs.Honest.{IsHonest}
-use Rattle.reading_engine.specs.Inquired.{Inquired, TellsEnd, inquiry}
-use Rattle.reading_engine.specs.declared.stop.Stop.{Stop}
-use Rattle.reading_engine.specs.declared.stop.Stop.TheVariants.{Ended}
+use Rattle.looking_engine.specs.Honest.{IsHonest}
+use Rattle.looking_engine.specs.Inquired.{Inquired, inquiry}
+use Rattle.looking_engine.specs.Stopping.{LookStop, TellsEnd}
+use Rattle.looking_engine.specs.declared.stop.Stop.TheVariants.{Ended}
 use Rattle.request_values.specs.Change.{Change, ◌⇒◌}
 use Rattle.request_values.specs.declared.range.AddressRange.{AddressRange}
 use Rattle.sample_looks.specs.Finding.{IsFound, IsSoIn}
@@ -40,7 +40,7 @@ pub record Saving : Type 0 where
 pub record Reading : Type 0 where
   pub looks : Reader
   pub last : Reader
-  pub stop : Stop
+  pub stop : LookStop
 
 -- the addresses of a range, both ends included
 abbrev pub addresses_in : AddressRange → List ℕ
@@ -62,7 +62,7 @@ pub record AreOfFound (range : AddressRange) (found : List ℕ) (samples : List 
 -- samples were looked at over a line, by a host of this patience, and it came to this
 pub record AreLookedAt (samples : List WordValue) (patience : ℕ) (looked : Looked) (line : Change (Option (List Item))) : Type 0 where
   pub inquired : Inquired most_turns (inquiry (begun (addresses_of samples) [] patience) looked.reader (Some looked.stop)) line.before line.after
-  pub end : TellsEnd looked.stop looked.reader
+  pub end : TellsEnd looked.stop (ended looked.reader.phase)
   pub found : IsFound samples looked.reader.values looked.stop looked.finding
   pub bound : looked.reader.sent ≤ reading_bound (length samples) patience
   pub paid : looked.reader.spent ≤ patience

@@ -2,7 +2,8 @@
 use Rattle.std.specs.Prelude.{◌≡◌, ℕ, ◌+◌, ◌*◌, ◌<◌, ◌≤◌, List, ◌++◌, length, Option, Some, None, ⊤}
 use Rattle.tape_values.specs.Block.{top}
 use Rattle.host_devices.specs.Turns.{most_turns}
-use Rattle.reading_engine.specs.Inquired.{TellsEnd}
+use Rattle.reading_core.specs.Reader.{ended}
+use Rattle.looking_engine.specs.Stopping.{TellsEnd}
 use Rattle.request_values.specs.Change.{◌⇒◌}
 use Rattle.tape_shelf.specs.declared.shelf.ShelfFault.{ShelfFault}
 use Rattle.tape_shelf.specs.declared.shelf.ShelfFault.TheVariants.{Write}
@@ -28,7 +29,7 @@ abbrev pub IsCourse : Saving → SaveAt → SaveAt → Course → Type 0
 IsCourse saving before after (HeldUp looked) =
     IsHeldUp saving (before.console ⇒ after.console) looked × (after.shelf.told ≡ before.shelf.told)
 IsCourse saving before after (Read looks last stop) =
-    IsRead most_turns saving (before.console ⇒ after.console) (record { looks = looks; last = last; stop = stop }) × TellsEnd stop last
+    IsRead most_turns saving (before.console ⇒ after.console) (record { looks = looks; last = last; stop = stop }) × TellsEnd stop (ended last.phase)
     × ((folder : List ℕ) → before.shelf.is_opened_as folder → after.shelf.is_opened_as folder
     × AreDone folder (adds saving.options.range.from (saving.found ++ last.values) (full (saving.found ++ last.values))) before.shelf.told after.shelf.told)
 

@@ -4,25 +4,24 @@ use Rattle.odt_machine.specs.Machine.{Machine}
 use Rattle.host_devices.specs.Told.{Gains}
 use Rattle.host_devices.specs.Failures.{CountsFault, IsLastFault}
 use Rattle.host_devices.specs.Devices.{LineTold}
-use Rattle.reading_engine.specs.Failing.{line_fault}
+use Rattle.looking_engine.specs.Stopping.{LookStop, TellsEnd, line_fault}
+use Rattle.looking_engine.specs.Honest.{IsHonest}
+use Rattle.looking_engine.specs.Belief.{IsBelievableAt}
+use Rattle.looking_engine.specs.Inquired.{Inquired, Inquiry, IsInquired, inquiry}
 use Rattle.host_devices.specs.Turns.{most_turns}
 use Rattle.tape_values.specs.Told.{IsAsTold}
 use Rattle.host_devices.specs.declared.item.Item.{Item}
-use Rattle.reading_engine.specs.Honest.{IsHonest}
 use Rattle.console_lines.specs.Dialling.{Call, LineRequest, asked_once}
 use Rattle.reading_core.specs.Bound.{reading_bound}
 use Rattle.reading_core.specs.Invariant.{IsReader}
 use Rattle.reading_core.specs.Reader.{Reader, ended}
 use Rattle.reading_core.specs.declared.phase.End.{End}
 use Rattle.looking_law.specs.Belief.{MayLook}
-use Rattle.reading_engine.specs.Belief.{IsBelievableAt}
-use Rattle.reading_engine.specs.Inquired.{Inquired, Inquiry, IsInquired, TellsEnd, inquiry}
-use Rattle.reading_engine.specs.declared.stop.Stop.{Stop}
 use Rattle.request_values.specs.Change.{Change}
 
 -- a line on which nothing had been said, and of which no call had failed, told this in the end, with the fault by which a look stopped, if by
 -- any; and then it was given back
-pub record IsGivenBack (stop : Stop) (line : Change (Option (List Item))) (lines : Change (Option (List LineTold))) : Type 0 where
+pub record IsGivenBack (stop : LookStop) (line : Change (Option (List Item))) (lines : Change (Option (List LineTold))) : Type 0 where
   pub fresh : IsAsTold line.before []
   pub last : LineTold
   pub said : last.said ≡ line.after
@@ -31,16 +30,16 @@ pub record IsGivenBack (stop : Stop) (line : Change (Option (List Item))) (lines
   pub given : Gains lines.before lines.after (last ∷ [])
 
 -- the line of a look, which there is only where there is something to look at
-abbrev pub IsLineOf : Option End → Stop → Change (Option (List Item)) → Change (Option (List LineTold)) → Type 0
+abbrev pub IsLineOf : Option End → LookStop → Change (Option (List Item)) → Change (Option (List LineTold)) → Type 0
 IsLineOf (Some end) stop line lines = lines.after ≡ lines.before
 IsLineOf None stop line lines = IsGivenBack stop line lines
 
 -- an engine that had so many turns led the one reader to the other, and stopped so; what was said meanwhile is all that was said on the line
-pub record IsLookOf (turns : ℕ) (reader : Change Reader) (stop : Stop) (lines : Change (Option (List LineTold))) : Type 0 where
+pub record IsLookOf (turns : ℕ) (reader : Change Reader) (stop : LookStop) (lines : Change (Option (List LineTold))) : Type 0 where
   pub line : Change (Option (List Item))
   pub inquired : Inquired turns (inquiry reader.before reader.after (Some stop)) line.before line.after
   pub line_is : IsLineOf (ended reader.before.phase) stop line lines
-  pub end : TellsEnd stop reader.after
+  pub end : TellsEnd stop (ended reader.after.phase)
   -- where what was said is honest, memory is what it was and what was read is what it holds
   pub believed : IsBelievableAt stop reader.before reader.after inquired.said
   pub addresses : reader.after.addresses ≡ reader.before.addresses
@@ -49,7 +48,7 @@ pub record IsLookOf (turns : ℕ) (reader : Change Reader) (stop : Stop) (lines 
   pub kept : IsReader reader.after
 
 -- so it is of one that had the most turns
-abbrev pub IsLook : Change Reader → Stop → Change (Option (List LineTold)) → Type 0
+abbrev pub IsLook : Change Reader → LookStop → Change (Option (List LineTold)) → Type 0
 IsLook = IsLookOf most_turns
 
 -- the line was lent turn by turn: for the most turns, or for fewer where what came of one could not be put away
@@ -58,7 +57,7 @@ IsInquiredWhile put_away inquiry before after =
     (turns : ℕ) × (turns ≤ most_turns) × OnOk put_away (turns ≡ most_turns) × IsInquired turns inquiry before after
 
 -- what holds of memory wherever a look was over an honest line of a machine that runs no program
-abbrev pub OverHonestLine : {turns : ℕ} {reader : Change Reader} {stop : Stop} {lines : Change (Option (List LineTold))} → IsLookOf turns reader stop lines
+abbrev pub OverHonestLine : {turns : ℕ} {reader : Change Reader} {stop : LookStop} {lines : Change (Option (List LineTold))} → IsLookOf turns reader stop lines
     → (Machine → Machine → Type 0) → Type 0
 OverHonestLine {turns} {reader} look holds =
     (machine now : Machine) (lost : ℕ) → MayLook reader.before machine → IsHonest machine look.inquired.said lost now → holds machine now

@@ -7,7 +7,7 @@ use Rattle.host_devices.specs.Turns.{most_turns}
 use Rattle.console_lines.specs.Dialling.{IsAskedInVain}
 use Rattle.reading_core.specs.Addresses.{addresses_of}
 use Rattle.reading_core.specs.Reader.{Reader, begun, ended}
-use Rattle.reading_engine.specs.declared.stop.Stop.{Stop}
+use Rattle.looking_engine.specs.Stopping.{LookStop}
 use Rattle.request_values.specs.Change.{Change, ◌⇒◌}
 use Rattle.request_values.specs.declared.range.AddressRange.{AddressRange}
 use Rattle.machine_look.specs.declared.look_fault.LookFault.{LookFault}
@@ -77,7 +77,7 @@ IsReadFault saving before after Connect =
     (after.shelf.told ≡ before.shelf.told) × IsAskedInVain before.console.call before.console.asked after.console.asked
     × (after.console.lines ≡ before.console.lines)
 IsReadFault saving before after WriteTape =
-    (looks last : Reader) × (stop : Stop) × (turns : ℕ) × (turns ≤ most_turns)
+    (looks last : Reader) × (stop : LookStop) × (turns : ℕ) × (turns ≤ most_turns)
     × IsRead turns saving (before.console ⇒ after.console) (record { looks = looks; last = last; stop = stop })
     × (n : ℕ) × (n < full (saving.found ++ last.values))
     × HasDoneThere (not_all_added saving.options.range.from (saving.found ++ last.values) n) before.shelf after.shelf

@@ -8,9 +8,8 @@ use Rattle.console_lines.specs.declared.reach.Reach.{Ghosts as Reach}
 use Rattle.host_devices.specs.Devices.{LineTold}
 use Rattle.console_lines.specs.Dialling.{Call, LineRequest}
 use Rattle.byte_io.specs.Output.{WritesAllBut}
-use Rattle.reading_core.specs.Reader.{Reader}
-use Rattle.reading_engine.specs.Inquired.{TellsEnd}
-use Rattle.reading_engine.specs.declared.stop.Stop.{Stop}
+use Rattle.reading_core.specs.Reader.{Reader, ended}
+use Rattle.looking_engine.specs.Stopping.{LookStop, TellsEnd}
 use Rattle.request_values.specs.Change.{◌⇒◌}
 use Rattle.request_values.specs.declared.range.AddressRange.{AddressRange}
 use Rattle.sample_looks.specs.declared.looking.Looked.{Looked}
@@ -93,7 +92,7 @@ pub record IsSaveRead (turns : ℕ) (options : SaveOptions) (before after : Save
   pub taken_up : TakesUp options.range found taking
   pub looks : Reader
   pub last : Reader
-  pub stop : Stop
+  pub stop : LookStop
   pub read : IsRead turns (record { options = options; found = found }) (console_of before ⇒ console_of after)
       (record { looks = looks; last = last; stop = stop })
 
@@ -104,7 +103,7 @@ numbers_of read = read.found ++ read.last.values
 -- what was found and what was read was put where the tape goes
 pub record IsShelved (options : SaveOptions) (before after : SaveTold) : Type 0 where
   pub read : IsSaveRead most_turns options before after
-  pub end : TellsEnd read.stop read.last
+  pub end : TellsEnd read.stop (ended read.last.phase)
   pub tape : IsTapeOf options (numbers_of read)
   pub is_put : HasDone (read.taking ++ puts options.range.from (numbers_of read) options.start) before.shelf after.shelf
 

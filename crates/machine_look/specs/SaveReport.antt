@@ -3,8 +3,8 @@ use Rattle.std.specs.Prelude.{ℕ, List, ◌++◌, codes, decimal}
 use Rattle.octal.specs.Octal.{octal_text}
 use Rattle.byte_io.specs.Text.{line}
 use Rattle.reading_core.specs.declared.phase.End.TheVariants.{Complete, GaveUp as HostGaveUp, NoWord as HostFoundNoWord}
-use Rattle.reading_engine.specs.declared.stop.Stop.{Stop}
-use Rattle.reading_engine.specs.declared.stop.Stop.TheVariants.{Ended, LineFailed as LineHasFailed, TurnsOver as TurnsAreOver}
+use Rattle.looking_engine.specs.Stopping.{LookStop}
+use Rattle.looking_engine.specs.declared.stop.Stop.TheVariants.{Ended, LineFailed as LineHasFailed, TurnsOver as TurnsAreOver}
 use Rattle.sample_looks.specs.declared.finding.Finding.{Finding}
 use Rattle.sample_looks.specs.declared.finding.Finding.TheVariants.{AllStand, Stale as HasStaleWord, Unfinished}
 use Rattle.machine_look.specs.declared.save_end.SaveEnd.{SaveEnd}
@@ -12,7 +12,7 @@ use Rattle.machine_look.specs.declared.save_end.SaveEnd.TheVariants.{Saved, NoWo
 use Rattle.machine_look.specs.declared.save_report.SaveCounts.{SaveCounts}
 
 -- how it ends, by how the reading stopped: memory is saved only where every word was read
-abbrev pub save_end : Stop → SaveEnd
+abbrev pub save_end : LookStop → SaveEnd
 save_end (Ended Complete) = Saved
 save_end (Ended HostGaveUp) = GaveUp
 save_end (Ended (HostFoundNoWord address)) = NoWord address
@@ -20,7 +20,7 @@ save_end (LineHasFailed fault) = LineFailed fault
 save_end TurnsAreOver = TurnsOver
 
 -- how it ends that its looks held up, by what they found and how they stopped
-abbrev pub held_end : Finding → Stop → SaveEnd
+abbrev pub held_end : Finding → LookStop → SaveEnd
 held_end (HasStaleWord address) stop = Stale address
 held_end AllStand stop = save_end stop
 held_end Unfinished stop = save_end stop

@@ -9,7 +9,7 @@ use Rattle.byte_io.specs.Output.{WritesAllBut}
 use Rattle.host_devices.specs.Turns.{most_turns}
 use Rattle.reading_core.specs.Addresses.{addresses_of}
 use Rattle.reading_core.specs.Reader.{Reader, begun, ended}
-use Rattle.reading_engine.specs.declared.stop.Stop.{Stop}
+use Rattle.looking_engine.specs.Stopping.{LookStop}
 use Rattle.request_values.specs.Change.{Change, ◌⇒◌}
 use Rattle.machine_look.specs.declared.verify_end.VerifyEnd.{VerifyEnd}
 use Rattle.machine_look.specs.declared.verify_end.VerifyEnd.TheVariants.{Same}
@@ -25,7 +25,7 @@ IsSameWith words before now = (now.memory ≡ before.memory) × FirstStand words
 -- a plan's words were looked at, and so it ended; where it ends as `Same` over an honest line, every word stands
 pub record IsVerified (plan : PlanValue) (patience : ℕ) (console : Change ConsoleTold) (end : VerifyEnd) : Type 0 where
   pub last : Reader
-  pub stop : Stop
+  pub stop : LookStop
   pub look : IsLook (begun (addresses_of plan.words) [] patience ⇒ last) stop (console.before.lines ⇒ console.after.lines)
   pub asked : AsksOnce (ended (begun (addresses_of plan.words) [] patience).phase) console.before.call console.before.asked console.after.asked
   pub end_is : end ≡ verify_end (length (differences plan.words last.values)) stop
@@ -41,7 +41,7 @@ pub record IsCutShort (words : List WordValue) (first : Reader) (console : Chang
   pub turns : ℕ
   pub few : turns ≤ most_turns
   pub last : Reader
-  pub stop : Stop
+  pub stop : LookStop
   pub look : IsLookOf turns (first ⇒ last) stop (console.before.lines ⇒ console.after.lines)
   pub asked : AsksOnce (ended first.phase) console.before.call console.before.asked console.after.asked
   pub missing : List ℕ

@@ -6,15 +6,15 @@ use Rattle.tape_image.specs.Word.{WordValue, word_fields}
 use Rattle.byte_io.specs.Text.{line}
 use Rattle.reading_core.specs.declared.phase.End.TheVariants.{Complete, GaveUp as HostGaveUp, NoWord as HostFoundNoWord}
 use Rattle.reading_core.specs.Reader.{Reader}
-use Rattle.reading_engine.specs.declared.stop.Stop.{Stop}
-use Rattle.reading_engine.specs.declared.stop.Stop.TheVariants.{Ended, LineFailed as LineHasFailed, TurnsOver as TurnsAreOver}
+use Rattle.looking_engine.specs.Stopping.{LookStop}
+use Rattle.looking_engine.specs.declared.stop.Stop.TheVariants.{Ended, LineFailed as LineHasFailed, TurnsOver as TurnsAreOver}
 use Rattle.machine_look.specs.declared.difference.Difference.{Difference}
 use Rattle.machine_look.specs.declared.verify_end.VerifyEnd.{VerifyEnd}
 use Rattle.machine_look.specs.declared.verify_end.VerifyEnd.TheVariants.{Same, Differs, NoWord, GaveUp, TurnsOver, LineFailed}
 use Rattle.machine_look.specs.Differences.{differences}
 
 -- how it ends, by how many words differ and how the reading stopped: memory is the same only where every word was read
-abbrev pub verify_end : ℕ → Stop → VerifyEnd
+abbrev pub verify_end : ℕ → LookStop → VerifyEnd
 verify_end differ (Ended Complete) = if differ == 0 then Same else Differs
 verify_end differ (Ended HostGaveUp) = GaveUp
 verify_end differ (Ended (HostFoundNoWord address)) = NoWord address
@@ -52,11 +52,11 @@ abbrev pub difference_lines : List WordValue → List ℕ → List ℕ
 difference_lines words numbers = lines_of (differences words numbers)
 
 -- the counts, and the end
-abbrev pub last_lines : ℕ → Reader → ℕ → Stop → List ℕ
+abbrev pub last_lines : ℕ → Reader → ℕ → LookStop → List ℕ
 last_lines words reader differ stop =
     line (verify_counts_text words reader differ) ++ line (codes "end " ++ verify_end_name (verify_end differ stop))
 
 -- what `verify` prints of a reading of words
-abbrev pub verify_report : List WordValue → Reader → Stop → List ℕ
+abbrev pub verify_report : List WordValue → Reader → LookStop → List ℕ
 verify_report words reader stop =
     difference_lines words reader.values ++ last_lines (length words) reader (length (differences words reader.values)) stop

@@ -7,7 +7,7 @@ ghost use Rattle.host_devices.specs.Devices.{line_told};
 ghost use Rattle.reading_core.specs.Addresses.{addresses_of};
 ghost use Rattle.reading_core.specs.Invariant.{IsReader};
 ghost use Rattle.reading_core.specs.Reader.{ended};
-ghost use Rattle.reading_engine.specs.Inquired.{IsInquired, inquiry};
+ghost use Rattle.looking_engine.specs.Inquired.{IsInquired, inquiry};
 ghost use Rattle.request_values.specs.Change.{◌⇒◌};
 ghost use Rattle.machine_look.specs.Look.{AsksOnce, IsInquiredWhile, IsLook};
 ghost use Rattle.machine_look.specs.LookFault.{IsCompareFault};
@@ -19,8 +19,8 @@ use crate::look_fault::LookFault;
 use byte_io::WriteFault;
 use console_lines::Reach;
 use host_devices::{Line, MOST_TURNS, Onlooker};
-use reading_core::ReadingCore;
-use reading_engine::{Stop, inquire};
+use looking_engine::{Stop, inquire};
+use reading_core::{End, ReadingCore};
 use std::io::Write;
 use tape_image::Word;
 
@@ -28,7 +28,7 @@ use tape_image::Word;
 #[derive(Drop)]
 struct Compared {
     core: ReadingCore,
-    stop: Stop,
+    stop: Stop<End>,
     shown: Result<(), WriteFault>,
 }
 
@@ -43,7 +43,7 @@ pub(crate) fn compare_over<R: Reach, W: Write, O: Onlooker>(
     console: &mut R,
     out: &mut W,
     onlooker: &O,
-) -> Result<(ReadingCore, Stop), LookFault>
+) -> Result<(ReadingCore, Stop<End>), LookFault>
     requires of_words { core.addresses ≡ addresses_of words.now }
     requires fresh { core.values ≡ [] }
     ensures look { IfOk result (λ looked. IsLook (core ⇒ looked.0) looked.1 (R.lines console.old ⇒ R.lines console.new)) }

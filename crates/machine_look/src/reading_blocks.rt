@@ -4,7 +4,7 @@ ghost use Rattle.tape_values.specs.Block.{top};
 ghost use Rattle.host_devices.specs.Devices.{line_told};
 ghost use Rattle.reading_core.specs.Invariant.{IsReader};
 ghost use Rattle.reading_core.specs.Reader.{ended};
-ghost use Rattle.reading_engine.specs.Inquired.{IsInquired, inquiry};
+ghost use Rattle.looking_engine.specs.Inquired.{IsInquired, inquiry};
 ghost use Rattle.machine_look.specs.Course.{IsCourse, IsNotAllAdded};
 ghost use Rattle.tape_shelf.specs.FoundPart.{FillBlocks};
 ghost use Rattle.machine_look.specs.Hosts.{AreHosts};
@@ -20,8 +20,8 @@ use crate::look_fault::LookFault;
 use crate::saving::SaveOptions;
 use console_lines::Reach;
 use host_devices::{Line, MOST_TURNS, Onlooker, Unwatched};
-use reading_core::ReadingCore;
-use reading_engine::{Stop, inquire};
+use looking_engine::{Stop, inquire};
+use reading_core::{End, ReadingCore};
 use sample_looks::{Finding, Looked, look_at_samples};
 use tape_shelf::{BLOCK_WORDS, Shelf, ShelfFault, block_text, words_of};
 
@@ -32,14 +32,14 @@ pub(crate) enum Course {
     HeldUp(Looked),
 
     /// What was found stands, as far as this host looked, and this one read behind it, and stopped so.
-    Read(ReadingCore, ReadingCore, Stop),
+    Read(ReadingCore, ReadingCore, Stop<End>),
 }
 
 // What a reading came to, and whether the blocks of what was read are on the shelf.
 #[derive(Drop)]
 struct Read {
     core: ReadingCore,
-    stop: Stop,
+    stop: Stop<End>,
     added: Result<(), ShelfFault>,
 }
 

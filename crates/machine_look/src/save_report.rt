@@ -8,8 +8,8 @@ ghost use Rattle.machine_look.specs.SaveReport.{held_end, save_counts_text, save
 use crate::save_end::SaveEnd;
 use crate::verify_report::{LastLines, push_no_word};
 use byte_io::{push_bytes, push_decimal, push_octal};
+use looking_engine::Stop;
 use reading_core::End;
-use reading_engine::Stop;
 use sample_looks::Finding;
 
 /// What a save counts.
@@ -39,7 +39,7 @@ pub(crate) fn save_report(counts: SaveCounts, end: SaveEnd) -> LastLines
 }
 
 /// How a reading ends whose words are saved.
-pub(crate) fn save_end(stop: Stop) -> SaveEnd
+pub(crate) fn save_end(stop: Stop<End>) -> SaveEnd
     ensures { result ≡ save_end stop }
 {
     match stop {
@@ -52,7 +52,7 @@ pub(crate) fn save_end(stop: Stop) -> SaveEnd
 }
 
 /// How a save ends that its looks held up.
-pub(crate) fn held_end(finding: Finding, stop: Stop) -> SaveEnd
+pub(crate) fn held_end(finding: Finding, stop: Stop<End>) -> SaveEnd
     ensures { result ≡ held_end finding stop }
 {
     match finding {

@@ -9,8 +9,8 @@ use crate::difference::Difference;
 use crate::verify_end::VerifyEnd;
 use arrayvec::ArrayVec;
 use byte_io::{push_bytes, push_decimal, push_octal};
+use looking_engine::Stop;
 use reading_core::{End, ReadingCore};
-use reading_engine::Stop;
 
 // Room for the line of a difference: four words of six digits, what stands between them, and its end.
 const LINE_ROOM: usize = 36;
@@ -22,7 +22,7 @@ const LAST_ROOM: usize = 151;
 pub(crate) type LastLines = ArrayVec<u8, LAST_ROOM>;
 
 /// How a reading ends with which so many words differ.
-pub(crate) fn verify_end(differ: usize, stop: Stop) -> VerifyEnd
+pub(crate) fn verify_end(differ: usize, stop: Stop<End>) -> VerifyEnd
     ensures { result ≡ verify_end differ stop }
 {
     match stop {
@@ -54,7 +54,7 @@ pub(crate) fn difference_line(difference: Difference) -> ArrayVec<u8, LINE_ROOM>
 }
 
 /// The last lines of a report: the counts of the host's life, with so many words that differ, and how it ended.
-pub(crate) fn last_lines(core: &ReadingCore, differ: usize, stop: Stop) -> LastLines
+pub(crate) fn last_lines(core: &ReadingCore, differ: usize, stop: Stop<End>) -> LastLines
     ensures { result.items ≡ last_lines (length core.now.addresses) core.now differ stop }
 {
     let mut text = LastLines::new();

@@ -25,12 +25,9 @@ use Rattle.reading_core.specs.Laws.{led}
 use Rattle.reading_core.specs.Reader.{Reader}
 use Rattle.reading_core.proofs.Lives.{led_addresses}
 use Rattle.looking_law.specs.Belief.{IsReadyMachine}
-use Rattle.reading_engine.specs.declared.stop.Stop.{Stop as LookStop}
-use Rattle.reading_engine.specs.declared.stop.Stop.TheVariants.{Ended, LineFailed, TurnsOver}
-use Rattle.reading_engine.specs.Inquired.{IsSaid}
-use Rattle.trial_engine.specs.declared.stop.Stop.{Stop as TrialStop}
-use Rattle.trial_engine.specs.declared.stop.Stop.TheVariants as stopped
-use Rattle.trial_engine.specs.Conducted.{IsSaid as IsSaidOfTrial}
+use Rattle.looking_engine.specs.Stopping.{LookStop, TrialStop}
+use Rattle.looking_engine.specs.declared.stop.Stop.TheVariants.{Ended, LineFailed, TurnsOver}
+use Rattle.looking_engine.specs.Session.{IsSaid}
 use Rattle.looking_law.specs.Again.{looker}
 use Rattle.looking_law.specs.Runs.{Look, Run, Try, dialogue_of}
 use Rattle.looking_law.specs.Trying.{IsToldOf}
@@ -50,11 +47,11 @@ told_look TurnsOver left all said is = inl is.0
 told_look (LineFailed fault) left all said (inl whole) = inl whole.0
 told_look (LineFailed fault) left all said (inr lacks) = inr lacks
 
-pub told_trial : (stop : TrialStop) (left : ℕ) (all said : List Item) → IsSaidOfTrial (Some stop) left all said → IsToldOf all said
-told_trial (stopped.Ended end) left all said is = inl is
-told_trial stopped.TurnsOver left all said is = inl is.0
-told_trial (stopped.LineFailed fault) left all said (inl whole) = inl whole.0
-told_trial (stopped.LineFailed fault) left all said (inr lacks) = inr lacks
+pub told_trial : (stop : TrialStop) (left : ℕ) (all said : List Item) → IsSaid (Some stop) left all said → IsToldOf all said
+told_trial (Ended end) left all said is = inl is
+told_trial TurnsOver left all said is = inl is.0
+told_trial (LineFailed fault) left all said (inl whole) = inl whole.0
+told_trial (LineFailed fault) left all said (inr lacks) = inr lacks
 
 -- ---- one run
 
@@ -89,7 +86,7 @@ look_right options sighting said machine now lost address long l ready honest =
       record { ready = h.ready; memory = h.memory },
       λ number is.
           let first = is_first l.stop l.last.values number (sym is ∙ l.sighting_is) in
-          let values : l.last.values ≡ (led (looker options.address options.patience) s.heard).values = ap (λ (r : Reader). r.values) s.reader in
+          let values : l.last.values ≡ (led (looker options.address options.patience) s.heard).values = ap (λ (r : Reader). r.values) s.host in
           let holds = h.learned.read.holds 0 (subst (λ (list : List ℕ). 0 < length list) values first.0) in
           sym first.1 ∙ ap (λ (list : List ℕ). get_or list 0 0) values ∙ holds ∙ ap (λ (list : List ℕ). word_at machine.memory (get_or list 0 0)) (led_addresses (looker options.address options.patience) s.heard),
     )

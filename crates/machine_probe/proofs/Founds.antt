@@ -10,9 +10,8 @@ use Rattle.reading_core.specs.declared.phase.Phase.TheVariants.{Settle, Sync, Ad
 use Rattle.reading_core.specs.Invariant.{Basis, EndFits, PhaseFits, IsReader, basis_of}
 use Rattle.reading_core.specs.Reader.{Reader, address_nr, ended}
 use Rattle.looking_law.specs.Harmless.{HasCause, EndIsPaid, HoldsRead}
-use Rattle.reading_engine.specs.declared.stop.Stop.{Stop}
-use Rattle.reading_engine.specs.declared.stop.Stop.TheVariants.{Ended, LineFailed, TurnsOver}
-use Rattle.reading_engine.specs.Inquired.{TellsEnd}
+use Rattle.looking_engine.specs.Stopping.{LookStop, TellsEnd}
+use Rattle.looking_engine.specs.declared.stop.Stop.TheVariants.{Ended, LineFailed, TurnsOver}
 use Rattle.machine_probe.specs.declared.pieces.Pieces.{Pieces}
 use Rattle.machine_probe.specs.Passes.{ArePieces, last_words, found}
 use Rattle.machine_probe.specs.Passes.{passed}
@@ -92,7 +91,7 @@ lies_within from address pieces last are is lacks = (
   omega (arith, next_end pieces.bytes (length last.values) pieces.count (one_lacks from address pieces last is lacks)),
 )
 
-pub passed_within : (from : ℕ) (pieces : Pieces) (stop : Stop) (last : Reader) → ArePieces from pieces → IsOver from pieces last → TellsEnd stop last → LiesWithin from pieces (passed stop (found from pieces last))
+pub passed_within : (from : ℕ) (pieces : Pieces) (stop : LookStop) (last : Reader) → ArePieces from pieces → IsOver from pieces last → TellsEnd stop (ended last.phase) → LiesWithin from pieces (passed stop (found from pieces last))
 passed_within from pieces (Ended (NoWord address)) last are is lacks = lies_within from address pieces last are is lacks
 passed_within from pieces (Ended Complete) last are is ends = tt
 passed_within from pieces (Ended GaveUp) last are is ends = tt

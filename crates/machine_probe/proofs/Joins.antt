@@ -12,13 +12,12 @@ use Rattle.probe_report.specs.declared.judging.Verdict.{Verdict}
 use Rattle.probe_report.specs.declared.judging.Verdict.TheVariants.{Forgets, Stores, Unknown}
 use Rattle.probe_report.specs.Judging.{on_looks, verdict_of}
 use Rattle.reading_core.specs.Addresses.{addresses_between, addresses_from}
-use Rattle.reading_core.specs.Reader.{Reader}
-use Rattle.reading_engine.specs.declared.stop.Stop.{Stop as LookStop}
-use Rattle.reading_engine.specs.Inquired.{Inquired, TellsEnd, inquiry}
+use Rattle.reading_core.specs.Reader.{Reader, ended}
+use Rattle.looking_engine.specs.Stopping.{LookStop, TellsEnd, TrialStop}
+use Rattle.looking_engine.specs.Inquired.{Inquired, inquiry}
+use Rattle.looking_engine.specs.Conducted.{Conducted, trying}
 use Rattle.trial_core.specs.declared.trial.Trial.{Trial}
-use Rattle.trial_core.specs.Trial.{begun_trial}
-use Rattle.trial_engine.specs.declared.stop.Stop.{Stop as TrialStop}
-use Rattle.trial_engine.specs.Conducted.{Conducted, TellsEnd as TellsEndOfTrial, trying}
+use Rattle.trial_core.specs.Trial.{begun_trial, ended as trial_ended}
 use Rattle.looking_law.specs.Again.{looker}
 use Rattle.machine_probe.specs.declared.probe_options.ProbeOptions.{ProbeOptions}
 use Rattle.machine_probe.specs.declared.putting_back.Deposit.{Deposit}
@@ -53,7 +52,7 @@ one run line line' said is gains = record { parts = said ∷ []; are = is; on_li
 
 -- what the engine of the looks answers is a look
 pub look_is : (options : ProbeOptions) (core last : Reader) (stop : LookStop) (turns : ℕ) (number : Option ℕ) (sighting : Sighting) (line line' : Option (List Item)) →
-    core ≡ looker options.address options.patience → turns ≡ turns_of options.patience → Inquired turns (inquiry core last (Some stop)) line line' → TellsEnd stop last →
+    core ≡ looker options.address options.patience → turns ≡ turns_of options.patience → Inquired turns (inquiry core last (Some stop)) line line' → TellsEnd stop (ended last.phase) →
     number ≡ first_of last.values → sighting ≡ sighting_of stop number → OnLine (One (LooksAt options sighting)) line line'
 look_is options core last stop turns number sighting line line' begins limit s end is came =
     one (LooksAt options sighting) line line' s.said (record {
@@ -62,7 +61,7 @@ look_is options core last stop turns number sighting line line' begins limit s e
       inquired = subst (λ (n : ℕ). Inquired n (inquiry (looker options.address options.patience) last (Some stop)) (Some []) (Some s.said)) limit (subst (λ (r : Reader). Inquired turns (inquiry r last (Some stop)) (Some []) (Some s.said)) begins (record {
         heard = s.heard;
         said = s.said;
-        reader = s.reader;
+        host = s.host;
         goes_on = s.goes_on;
         within = s.within;
         items = s.items;
@@ -74,7 +73,7 @@ look_is options core last stop turns number sighting line line' begins limit s e
 
 -- what the engine of the trial answers is a trial
 pub trial_is : (options : ProbeOptions) (old : ℕ) (first last : Trial) (stop : TrialStop) (turns : ℕ) (attempt : Attempt) (line line' : Option (List Item)) →
-    first ≡ begun_trial options.address old options.patience → turns ≡ turns_of options.patience → Conducted turns (trying first last (Some stop)) line line' → TellsEndOfTrial stop last →
+    first ≡ begun_trial options.address old options.patience → turns ≡ turns_of options.patience → Conducted turns (trying first last (Some stop)) line line' → TellsEnd stop (trial_ended last.phase) →
     attempt ≡ attempt_of last stop → OnLine (One (IsTrialOf options old attempt)) line line'
 trial_is options old first last stop turns attempt line line' begins limit s end came =
     one (IsTrialOf options old attempt) line line' s.said (record {
@@ -83,7 +82,7 @@ trial_is options old first last stop turns attempt line line' begins limit s end
       conducted = subst (λ (n : ℕ). Conducted n (trying (begun_trial options.address old options.patience) last (Some stop)) (Some []) (Some s.said)) limit (subst (λ (t : Trial). Conducted turns (trying t last (Some stop)) (Some []) (Some s.said)) begins (record {
         heard = s.heard;
         said = s.said;
-        trial = s.trial;
+        host = s.host;
         goes_on = s.goes_on;
         within = s.within;
         items = s.items;

@@ -33,8 +33,8 @@ use Rattle.reading_core.specs.Reader.{Reader, begun}
 use Rattle.reading_core.proofs.Lives.{led_addresses, led_kept}
 use Rattle.reading_core.proofs.Turns.{fresh_kept}
 use Rattle.looking_law.specs.Belief.{IsReadyMachine}
-use Rattle.reading_engine.specs.declared.stop.Stop.{Stop as LookStop}
-use Rattle.reading_engine.specs.declared.stop.Stop.TheVariants.{Ended, LineFailed, TurnsOver}
+use Rattle.looking_engine.specs.Stopping.{LookStop}
+use Rattle.looking_engine.specs.declared.stop.Stop.TheVariants.{Ended, LineFailed, TurnsOver}
 use Rattle.looking_law.specs.Parts.{LeavesReady}
 use Rattle.looking_law.specs.Runs.{Look, Run, Try, dialogue_of}
 use Rattle.looking_law.specs.Splitting.{BeginsByListening, PartsAt}
@@ -163,8 +163,8 @@ next_at limits from address pieces last said long are p =
     let s = p.inquired in
     let first : Reader = begun (last_words from pieces.bytes pieces.count) [] limits.patience in
     let over : IsOver from pieces last = record {
-      addresses = ap (λ (r : Reader). r.addresses) s.reader ∙ led_addresses first s.heard;
-      kept = subst IsReader (sym s.reader) (led_kept first s.heard (fresh_kept (last_words from pieces.bytes pieces.count) limits.patience (last_asked from pieces are) long));
+      addresses = ap (λ (r : Reader). r.addresses) s.host ∙ led_addresses first s.heard;
+      kept = subst IsReader (sym s.host) (led_kept first s.heard (fresh_kept (last_words from pieces.bytes pieces.count) limits.patience (last_asked from pieces are) long));
     } in
     let w = passed_within from pieces (Ended (NoWord address)) last are over p.end in
     record { even = w.0; within = w.1 }

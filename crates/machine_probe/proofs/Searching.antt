@@ -8,7 +8,11 @@ use Rattle.host_devices.specs.Dialogue.{keys_of}
 use Rattle.host_devices.specs.Failures.{CountsFault, IsLastFault}
 use Rattle.host_devices.specs.Told.{Gains}
 use Rattle.host_devices.proofs.Told.{gains_none, gains_join}
-use Rattle.reading_engine.specs.Honest.{IsHonest}
+use Rattle.looking_engine.specs.Honest.{IsHonest}
+use Rattle.looking_engine.specs.Stopping.{LookStop, line_fault}
+use Rattle.looking_engine.specs.declared.stop.Stop.TheVariants.{Ended, LineFailed, TurnsOver}
+use Rattle.looking_engine.specs.Belief.{IsBelievableAt}
+use Rattle.looking_engine.proofs.Beliefs.{inquired_believable}
 use Rattle.reading_core.specs.declared.phase.End.{End}
 use Rattle.reading_core.specs.declared.phase.End.TheVariants.{Complete, GaveUp, NoWord}
 use Rattle.reading_core.specs.Invariant.{IsReader}
@@ -17,11 +21,6 @@ use Rattle.reading_core.proofs.Lives.{led_addresses, led_kept, led_patience}
 use Rattle.looking_law.specs.Belief.{IsReadyMachine, IsTrueReading, MayLook, dialogue}
 use Rattle.looking_law.specs.Harmless.{HoldsRead}
 use Rattle.looking_law.proofs.Believed.{leave_ready}
-use Rattle.reading_engine.specs.declared.stop.Stop.{Stop}
-use Rattle.reading_engine.specs.declared.stop.Stop.TheVariants.{Ended, LineFailed, TurnsOver}
-use Rattle.reading_engine.specs.Belief.{IsBelievableAt}
-use Rattle.reading_engine.specs.Failing.{line_fault}
-use Rattle.reading_engine.proofs.Beliefs.{inquired_believable}
 use Rattle.machine_probe.specs.declared.memory_end.Limits.{Limits}
 use Rattle.machine_probe.specs.declared.memory_end.PassEnd.{PassEnd}
 use Rattle.machine_probe.specs.declared.memory_end.PassEnd.TheVariants.{Lacking, Over}
@@ -48,16 +47,16 @@ may_look addresses patience machine ready = record {
 abbrev first : (patience from : ℕ) (pieces : Pieces) → Reader
 first patience from pieces = begun (last_words from pieces.bytes pieces.count) [] patience
 
-is_over : (limits : Limits) (from : ℕ) (pieces : Pieces) (stop : Stop) (last : Reader) (said : List Item) → IsReader (first limits.patience from pieces) → IsPass (pass_over limits from pieces) stop last said → IsOver from pieces last
+is_over : (limits : Limits) (from : ℕ) (pieces : Pieces) (stop : LookStop) (last : Reader) (said : List Item) → IsReader (first limits.patience from pieces) → IsPass (pass_over limits from pieces) stop last said → IsOver from pieces last
 is_over limits from pieces stop last said reads pass = let s = pass.inquired in record {
-  addresses = ap (λ (r : Reader). r.addresses) s.reader ∙ led_addresses (first limits.patience from pieces) s.heard;
-  kept = subst IsReader (sym s.reader) (led_kept (first limits.patience from pieces) s.heard reads);
+  addresses = ap (λ (r : Reader). r.addresses) s.host ∙ led_addresses (first limits.patience from pieces) s.heard;
+  kept = subst IsReader (sym s.host) (led_kept (first limits.patience from pieces) s.heard reads);
 }
 
-same_patience : (limits : Limits) (from : ℕ) (pieces : Pieces) (stop : Stop) (last : Reader) (said : List Item) → IsPass (pass_over limits from pieces) stop last said → last.patience ≡ limits.patience
-same_patience limits from pieces stop last said pass = let s = pass.inquired in ap (λ (r : Reader). r.patience) s.reader ∙ led_patience (first limits.patience from pieces) s.heard
+same_patience : (limits : Limits) (from : ℕ) (pieces : Pieces) (stop : LookStop) (last : Reader) (said : List Item) → IsPass (pass_over limits from pieces) stop last said → last.patience ≡ limits.patience
+same_patience limits from pieces stop last said pass = let s = pass.inquired in ap (λ (r : Reader). r.patience) s.host ∙ led_patience (first limits.patience from pieces) s.heard
 
-believed : (limits : Limits) (from : ℕ) (pieces : Pieces) (stop : Stop) (last : Reader) (said : List Item) → IsReader (first limits.patience from pieces) → IsPass (pass_over limits from pieces) stop last said →
+believed : (limits : Limits) (from : ℕ) (pieces : Pieces) (stop : LookStop) (last : Reader) (said : List Item) → IsReader (first limits.patience from pieces) → IsPass (pass_over limits from pieces) stop last said →
     IsBelievableAt stop (first limits.patience from pieces) last said
 believed limits from pieces stop last said reads pass =
     inquired_believable limits.turns stop (first limits.patience from pieces) last (Some []) (Some said) reads pass.inquired said ([], refl, refl)
@@ -109,7 +108,7 @@ run_none limits from line = record {
 -- ---- the last pass
 
 -- what is right of a pass that ended the search
-over_right : (limits : Limits) (from : ℕ) (pieces : Pieces) (stop : Stop) (last : Reader) (said : List Item) (search : Search) → ArePieces from pieces → IsReader (first limits.patience from pieces) → IsPass (pass_over limits from pieces) stop last said →
+over_right : (limits : Limits) (from : ℕ) (pieces : Pieces) (stop : LookStop) (last : Reader) (said : List Item) (search : Search) → ArePieces from pieces → IsReader (first limits.patience from pieces) → IsPass (pass_over limits from pieces) stop last said →
     Over search ≡ passed stop (found from pieces last) → FindsFrom from (from + pieces.bytes * pieces.count) limits.patience search (said ∷ [])
 over_right limits from pieces (Ended Complete) last said search are reads pass is machine now lost ready reaches within (between, lost_first, lost_later, honest, (same, none), all) =
     let t = true_at limits from pieces Complete last said machine between lost_first reads pass ready honest in
@@ -160,7 +159,7 @@ run_over pieces passes limits from search line line' are s = record {
 
 -- ---- a pass, and those that follow it
 
-more_right : (limits : Limits) (from limit next : ℕ) (pieces : Pieces) (stop : Stop) (last : Reader) (said : List Item) (search : Search) (parts : List (List Item)) → ArePieces from pieces → IsReader (first limits.patience from pieces) →
+more_right : (limits : Limits) (from limit next : ℕ) (pieces : Pieces) (stop : LookStop) (last : Reader) (said : List Item) (search : Search) (parts : List (List Item)) → ArePieces from pieces → IsReader (first limits.patience from pieces) →
     IsPass (pass_over limits from pieces) stop last said → Lacking next ≡ passed stop (found from pieces last) → next + pieces.bytes ≤ limit + 2 → FindsFrom next limit limits.patience search parts →
     FindsFrom from (from + pieces.bytes * pieces.count) limits.patience search (said ∷ parts)
 more_right limits from limit next pieces (Ended (NoWord a)) last said search parts are reads pass is fits finds machine now lost ready reaches within (between, lost_first, lost_later, honest, rest, all) =

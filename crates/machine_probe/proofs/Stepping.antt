@@ -5,10 +5,9 @@ use Rattle.host_devices.specs.Failures.{CountsFault, IsLastFault}
 use Rattle.reading_core.specs.declared.phase.End.TheVariants.{Complete, GaveUp, NoWord}
 use Rattle.reading_core.specs.Invariant.{IsReader}
 use Rattle.reading_core.specs.Reader.{Reader}
-use Rattle.reading_engine.specs.declared.stop.Stop.{Stop}
-use Rattle.reading_engine.specs.declared.stop.Stop.TheVariants.{Ended, LineFailed, TurnsOver}
-use Rattle.reading_engine.specs.Failing.{line_fault}
-use Rattle.reading_engine.specs.Inquired.{Inquired, IsInquired, inquiry}
+use Rattle.looking_engine.specs.Stopping.{LookStop, line_fault}
+use Rattle.looking_engine.specs.declared.stop.Stop.TheVariants.{Ended, LineFailed, TurnsOver}
+use Rattle.looking_engine.specs.Inquired.{Inquired, IsInquired, inquiry}
 use Rattle.machine_probe.specs.declared.memory_end.Limits.{Limits}
 use Rattle.machine_probe.specs.declared.pieces.Pieces.{Pieces}
 use Rattle.machine_probe.specs.Passes.{ArePieces, found, pass_over, reader_of}
@@ -17,29 +16,29 @@ use Rattle.machine_probe.specs.Steps.{Stepped, stop_in}
 use Rattle.machine_probe.proofs.Founds.{passed_within}
 
 -- the fault that stopped a pass is the one that is answered
-same_fault : (stop : Stop) (end : ℕ) → line_fault (Some stop) ≡ line_fault (stop_in (passed stop end))
+same_fault : (stop : LookStop) (end : ℕ) → line_fault (Some stop) ≡ line_fault (stop_in (passed stop end))
 same_fault (Ended Complete) end = refl
 same_fault (Ended GaveUp) end = refl
 same_fault (Ended (NoWord address)) end = refl
 same_fault (LineFailed fault) end = refl
 same_fault TurnsOver end = refl
 
-pub stepped : (limits : Limits) (from : ℕ) (pieces : Pieces) (core last : Reader) (stop : Stop) (before after : LineTold) → ArePieces from pieces → core ≡ reader_of (pass_over limits from pieces) → IsReader core
+pub stepped : (limits : Limits) (from : ℕ) (pieces : Pieces) (core last : Reader) (stop : LookStop) (before after : LineTold) → ArePieces from pieces → core ≡ reader_of (pass_over limits from pieces) → IsReader core
     → IsInquired limits.turns (inquiry core last (Some stop)) before after → Stepped (pass_over limits from pieces) (passed stop (found from pieces last)) before after
 stepped limits from pieces core last stop before after are begins reads i =
-    let s = i.turns in record {
+    let s = i.turns.session in record {
       stop = stop;
       last = last;
       said = s.said;
       is_pass = record {
         inquired = subst (λ (r : Reader). Inquired limits.turns (inquiry r last (Some stop)) (Some []) (Some s.said)) begins
-            (record { heard = s.heard; said = s.said; reader = s.reader; goes_on = s.goes_on; within = s.within; items = s.items; on_line = refl });
-        end = i.end;
+            (record { heard = s.heard; said = s.said; host = s.host; goes_on = s.goes_on; within = s.within; items = s.items; on_line = refl });
+        end = i.turns.end;
       };
       reads = subst IsReader begins reads;
       result_is = refl;
-      within = passed_within from pieces stop last are (record { addresses = i.same_addresses ∙ ap (λ (r : Reader). r.addresses) begins; kept = i.kept }) i.end;
+      within = passed_within from pieces stop last are (record { addresses = i.same_addresses ∙ ap (λ (r : Reader). r.addresses) begins; kept = i.kept }) i.turns.end;
       on_line = s.on_line;
-      counted = subst (λ fault. CountsFault fault before.failures after.failures) (same_fault stop (found from pieces last)) i.counted;
-      named = subst (λ fault. IsLastFault fault after.fault) (same_fault stop (found from pieces last)) i.named;
+      counted = subst (λ fault. CountsFault fault before.failures after.failures) (same_fault stop (found from pieces last)) i.turns.counted;
+      named = subst (λ fault. IsLastFault fault after.fault) (same_fault stop (found from pieces last)) i.turns.named;
     }

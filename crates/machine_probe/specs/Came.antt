@@ -10,12 +10,10 @@ use Rattle.probe_report.specs.declared.findings.Sighting.TheVariants as look
 use Rattle.probe_report.specs.declared.findings.TrialEnd.{TrialEnd}
 use Rattle.probe_report.specs.declared.findings.TrialEnd.TheVariants as trial
 use Rattle.reading_core.specs.declared.phase.End.TheVariants.{Complete, GaveUp, NoWord}
-use Rattle.reading_engine.specs.declared.stop.Stop.{Stop as LookStop}
-use Rattle.reading_engine.specs.declared.stop.Stop.TheVariants.{Ended, LineFailed, TurnsOver}
+use Rattle.looking_engine.specs.Stopping.{LookStop, TrialStop}
+use Rattle.looking_engine.specs.declared.stop.Stop.TheVariants.{Ended, LineFailed, TurnsOver}
 use Rattle.trial_core.specs.declared.phase.End.TheVariants as last
 use Rattle.trial_core.specs.declared.trial.Trial.{Trial}
-use Rattle.trial_engine.specs.declared.stop.Stop.{Stop as TrialStop}
-use Rattle.trial_engine.specs.declared.stop.Stop.TheVariants as stopped
 
 -- the first of the numbers that were read
 abbrev pub first_of : List ℕ → Option ℕ
@@ -33,11 +31,11 @@ sighting_of (LineFailed fault) number = look.LineFailed fault
 
 -- how a trial ended that stopped so
 abbrev pub trial_end_of : TrialStop → TrialEnd
-trial_end_of (stopped.Ended last.Tried) = trial.Tried
-trial_end_of (stopped.Ended last.GaveUp) = trial.GaveUp
-trial_end_of (stopped.Ended last.NoWord) = trial.NoWord
-trial_end_of stopped.TurnsOver = trial.TurnsOver
-trial_end_of (stopped.LineFailed fault) = trial.LineFailed fault
+trial_end_of (Ended last.Tried) = trial.Tried
+trial_end_of (Ended last.GaveUp) = trial.GaveUp
+trial_end_of (Ended last.NoWord) = trial.NoWord
+trial_end_of TurnsOver = trial.TurnsOver
+trial_end_of (LineFailed fault) = trial.LineFailed fault
 
 -- what a trial gave that stopped so: its end, what it saw, and whether it had a mishap
 abbrev pub attempt_of : Trial → TrialStop → Attempt

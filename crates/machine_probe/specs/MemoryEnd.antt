@@ -7,9 +7,8 @@ use Rattle.host_devices.specs.Devices.{LineTold}
 use Rattle.host_devices.specs.Failures.{CountsFault, IsLastFault}
 use Rattle.host_devices.specs.Told.{Gains}
 use Rattle.reading_core.specs.declared.phase.End.TheVariants.{GaveUp}
-use Rattle.reading_engine.specs.declared.stop.Stop.{Stop}
-use Rattle.reading_engine.specs.declared.stop.Stop.TheVariants.{Ended}
-use Rattle.reading_engine.specs.Failing.{line_fault}
+use Rattle.looking_engine.specs.Stopping.{LookStop, line_fault}
+use Rattle.looking_engine.specs.declared.stop.Stop.TheVariants.{Ended}
 use Rattle.machine_probe.specs.declared.memory_end.Limits.{Limits}
 use Rattle.machine_probe.specs.declared.search.Search.{Search}
 use Rattle.machine_probe.specs.declared.search.Search.TheVariants.{Ends, Stopped}
@@ -18,7 +17,7 @@ use Rattle.looking_law.specs.Belief.{IsReadyMachine}
 use Rattle.looking_law.specs.Rows.{AreHonest, in_a_row}
 
 -- the stop that ended the search, if one did
-abbrev pub stop_of : Search → Option Stop
+abbrev pub stop_of : Search → Option LookStop
 stop_of (Ends top) = None
 stop_of (Stopped stop) = Some stop
 

@@ -3,10 +3,10 @@ use Rattle.std.specs.Prelude.{◌≡◌, ℕ, zero, suc, ◌+◌, ◌-◌, ◌*�
 use Rattle.tape_values.specs.Block.{top}
 use Rattle.host_devices.specs.declared.item.Item.{Item}
 use Rattle.reading_core.specs.declared.phase.End.TheVariants.{Complete, NoWord}
-use Rattle.reading_core.specs.Reader.{Reader, begun}
-use Rattle.reading_engine.specs.declared.stop.Stop.{Stop}
-use Rattle.reading_engine.specs.declared.stop.Stop.TheVariants.{Ended}
-use Rattle.reading_engine.specs.Inquired.{Inquired, TellsEnd, inquiry}
+use Rattle.reading_core.specs.Reader.{Reader, begun, ended}
+use Rattle.looking_engine.specs.Stopping.{LookStop, TellsEnd}
+use Rattle.looking_engine.specs.declared.stop.Stop.TheVariants.{Ended}
+use Rattle.looking_engine.specs.Inquired.{Inquired, inquiry}
 use Rattle.machine_probe.specs.declared.memory_end.Limits.{Limits}
 use Rattle.machine_probe.specs.declared.memory_end.PassEnd.{PassEnd}
 use Rattle.machine_probe.specs.declared.memory_end.PassEnd.TheVariants.{Lacking, Over}
@@ -56,16 +56,16 @@ abbrev pub reader_of : Pass → Reader
 reader_of pass = begun (last_words pass.from pass.pieces.bytes pass.pieces.count) [] pass.limits.patience
 
 -- a pass is a reading, from its beginning to where it stopped, with what was said of it
-pub record IsPass (pass : Pass) (stop : Stop) (last : Reader) (said : List Item) : Type 0 where
+pub record IsPass (pass : Pass) (stop : LookStop) (last : Reader) (said : List Item) : Type 0 where
   pub inquired : Inquired pass.limits.turns (inquiry (reader_of pass) last (Some stop)) (Some []) (Some said)
-  pub end : TellsEnd stop last
+  pub end : TellsEnd stop (ended last.phase)
 
 -- behind the last piece whose last word was read
 abbrev pub found : ℕ → Pieces → Reader → ℕ
 found from pieces last = from + pieces.bytes * length last.values
 
 -- what a pass that stopped so and found memory up to an address comes to
-abbrev pub passed : Stop → ℕ → PassEnd
+abbrev pub passed : LookStop → ℕ → PassEnd
 passed (Ended (NoWord address)) found = Lacking found
 passed (Ended Complete) found = Over (Ends found)
 passed stop found = Over (Stopped stop)
@@ -89,5 +89,5 @@ abbrev pub Searches : List Pieces → Ahead → Search → List (List Item) → 
 Searches [] at search parts = (search ≡ Ends at.from) × (parts ≡ [])
 Searches (pieces ∷ passes) at search [] = ⊥
 Searches (pieces ∷ passes) at search (said ∷ parts) =
-    (stop : Stop) × (last : Reader) × IsPass (pass_over at.limits at.from pieces) stop last said
+    (stop : LookStop) × (last : Reader) × IsPass (pass_over at.limits at.from pieces) stop last said
     × SearchGoesOn (passed stop (found at.from pieces last)) (λ from. Searches passes (ahead at.limits from)) search parts

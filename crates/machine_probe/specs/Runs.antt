@@ -9,13 +9,12 @@ use Rattle.looking_law.specs.Rows.{in_a_row}
 use Rattle.probe_report.specs.declared.findings.Attempt.{Attempt}
 use Rattle.probe_report.specs.declared.findings.Extent.{Extent}
 use Rattle.probe_report.specs.declared.findings.Sighting.{Sighting}
-use Rattle.reading_core.specs.Reader.{Reader}
-use Rattle.reading_engine.specs.declared.stop.Stop.{Stop as LookStop}
-use Rattle.reading_engine.specs.Inquired.{Inquired, TellsEnd, inquiry}
+use Rattle.reading_core.specs.Reader.{Reader, ended}
+use Rattle.looking_engine.specs.Stopping.{LookStop, TellsEnd, TrialStop}
+use Rattle.looking_engine.specs.Inquired.{Inquired, inquiry}
+use Rattle.looking_engine.specs.Conducted.{Conducted, trying}
 use Rattle.trial_core.specs.declared.trial.Trial.{Trial}
-use Rattle.trial_core.specs.Trial.{begun_trial}
-use Rattle.trial_engine.specs.declared.stop.Stop.{Stop as TrialStop}
-use Rattle.trial_engine.specs.Conducted.{Conducted, TellsEnd as TellsEndOfTrial, trying}
+use Rattle.trial_core.specs.Trial.{begun_trial, ended as trial_ended}
 use Rattle.looking_law.specs.Again.{looker}
 use Rattle.machine_probe.specs.declared.probe_options.ProbeOptions.{ProbeOptions}
 use Rattle.machine_probe.specs.Came.{attempt_of, extent_of, first_of, sighting_of}
@@ -26,7 +25,7 @@ pub record LooksAt (options : ProbeOptions) (sighting : Sighting) (said : List I
   pub stop : LookStop
   pub last : Reader
   pub inquired : Inquired (turns_of options.patience) (inquiry (looker options.address options.patience) last (Some stop)) (Some []) (Some said)
-  pub end : TellsEnd stop last
+  pub end : TellsEnd stop (ended last.phase)
   pub sighting_is : sighting ≡ sighting_of stop (first_of last.values)
 
 -- a trial of the word, which holds this number, gave this, with what was said
@@ -34,7 +33,7 @@ pub record IsTrialOf (options : ProbeOptions) (old : ℕ) (attempt : Attempt) (s
   pub stop : TrialStop
   pub last : Trial
   pub conducted : Conducted (turns_of options.patience) (trying (begun_trial options.address old options.patience) last (Some stop)) (Some []) (Some said)
-  pub end : TellsEndOfTrial stop last
+  pub end : TellsEnd stop (trial_ended last.phase)
   pub attempt_is : attempt ≡ attempt_of last stop
 
 -- a search of memory's end gave this, with what was said in each of its passes

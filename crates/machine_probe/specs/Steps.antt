@@ -6,8 +6,7 @@ use Rattle.host_devices.specs.Failures.{CountsFault, IsLastFault}
 use Rattle.host_devices.specs.Told.{Gains}
 use Rattle.reading_core.specs.Invariant.{IsReader}
 use Rattle.reading_core.specs.Reader.{Reader}
-use Rattle.reading_engine.specs.Failing.{line_fault}
-use Rattle.reading_engine.specs.declared.stop.Stop.{Stop}
+use Rattle.looking_engine.specs.Stopping.{LookStop, line_fault}
 use Rattle.machine_probe.specs.declared.memory_end.PassEnd.{PassEnd}
 use Rattle.machine_probe.specs.declared.memory_end.PassEnd.TheVariants.{Lacking, Over}
 use Rattle.machine_probe.specs.declared.pieces.Pieces.{Pieces}
@@ -20,13 +19,13 @@ LiesWithin from pieces (Lacking next) = (next % 2 ≡ 0) × (next + pieces.bytes
 LiesWithin from pieces (Over search) = ⊤
 
 -- the stop that ended the search in this pass, if one did
-abbrev pub stop_in : PassEnd → Option Stop
+abbrev pub stop_in : PassEnd → Option LookStop
 stop_in (Lacking next) = None
 stop_in (Over search) = stop_of search
 
 -- a pass came to this, with what the line told before and tells after
 pub record Stepped (pass : Pass) (result : PassEnd) (before after : LineTold) : Type 0 where
-  pub stop : Stop
+  pub stop : LookStop
   pub last : Reader
   pub said : List Item
   pub is_pass : IsPass pass stop last said

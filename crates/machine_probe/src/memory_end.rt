@@ -9,8 +9,8 @@ use crate::pieces::{LARGE, Pieces, SMALL, WORDS};
 use crate::room::Room;
 use crate::search::Search;
 use host_devices::{Line, Unwatched};
+use looking_engine::{Stop, inquire};
 use reading_core::End;
-use reading_engine::{Stop, inquire};
 use std::alloc::{AllocError, Global};
 
 // How many mishaps the host survives in a pass, and the most turns of it.
@@ -76,7 +76,7 @@ fn pass<L: Line>(room: Room, from: u16, pieces: Pieces, limits: Limits, line: &m
 }
 
 // What a pass comes to that stopped so and found memory up to an address.
-fn passed(stop: Stop, found: u16) -> PassEnd
+fn passed(stop: Stop<End>, found: u16) -> PassEnd
     ensures { result ≡ passed stop found }
 {
     match stop {

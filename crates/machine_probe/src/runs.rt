@@ -16,12 +16,11 @@ use crate::probe_options::ProbeOptions;
 use crate::putting_back::{Deposit, put_back};
 use crate::search::Search;
 use host_devices::{Line, Unwatched};
+use looking_engine::{Stop, conduct, inquire};
 use probe_report::{Attempt, Extent, Findings, Sighting, TrialEnd, Verdict, judge};
 use reading_core::{End, ReadingCore};
-use reading_engine::{Stop, inquire};
 use std::alloc::{AllocError, Global};
 use trial_core::{End as LastOfTrial, Trial};
-use trial_engine::{Stop as TrialStop, conduct};
 
 /// The hosts of the two looks.
 #[derive(Drop)]
@@ -113,7 +112,7 @@ fn first_of(numbers: &[u16]) -> Option<u16>
 }
 
 // What a look gave that stopped so and read this number.
-fn sighting_of(stop: Stop, number: Option<u16>) -> Sighting
+fn sighting_of(stop: Stop<End>, number: Option<u16>) -> Sighting
     ensures { result ≡ sighting_of stop number }
 {
     match (stop, number) {
@@ -166,7 +165,7 @@ fn try_number<L: Line>(old: u16, options: ProbeOptions, line: &mut L) -> Attempt
 }
 
 // What a trial gave that stopped so.
-fn attempt_of(trial: Trial, stop: TrialStop) -> Attempt
+fn attempt_of(trial: Trial, stop: Stop<LastOfTrial>) -> Attempt
     ensures { result ≡ attempt_of trial stop }
 {
     Attempt {
@@ -177,15 +176,15 @@ fn attempt_of(trial: Trial, stop: TrialStop) -> Attempt
 }
 
 // How a trial ended that stopped so.
-fn trial_end_of(stop: TrialStop) -> TrialEnd
+fn trial_end_of(stop: Stop<LastOfTrial>) -> TrialEnd
     ensures { result ≡ trial_end_of stop }
 {
     match stop {
-        TrialStop::Ended(LastOfTrial::Tried) => TrialEnd::Tried,
-        TrialStop::Ended(LastOfTrial::GaveUp) => TrialEnd::GaveUp,
-        TrialStop::Ended(LastOfTrial::NoWord) => TrialEnd::NoWord,
-        TrialStop::TurnsOver => TrialEnd::TurnsOver,
-        TrialStop::LineFailed(fault) => TrialEnd::LineFailed(fault),
+        Stop::Ended(LastOfTrial::Tried) => TrialEnd::Tried,
+        Stop::Ended(LastOfTrial::GaveUp) => TrialEnd::GaveUp,
+        Stop::Ended(LastOfTrial::NoWord) => TrialEnd::NoWord,
+        Stop::TurnsOver => TrialEnd::TurnsOver,
+        Stop::LineFailed(fault) => TrialEnd::LineFailed(fault),
     }
 }
 

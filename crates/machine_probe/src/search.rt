@@ -1,4 +1,5 @@
-use reading_engine::Stop;
+use looking_engine::Stop;
+use reading_core::End;
 
 /// How a search for the end of memory came out.
 #[derive(Clone, Copy, Debug, PartialEq, Eq)]
@@ -8,5 +9,5 @@ pub enum Search {
     Ends(u16),
 
     /// A pass was not brought to its end: the host gave up, the line failed, or the turns were over.
-    Stopped(Stop),
+    Stopped(Stop<End>),
 }

@@ -8,9 +8,9 @@ use Rattle.host_devices.specs.declared.item.Item.{Item}
 use Rattle.reading_core.specs.Addresses.{addresses_of}
 use Rattle.looking_law.specs.Trying.{IsToldOf}
 use Rattle.load_lives.specs.Stops.{WentOut}
-use Rattle.reading_engine.specs.Inquired.{IsSaid}
-use Rattle.reading_engine.specs.declared.stop.Stop.{Stop}
-use Rattle.reading_engine.specs.declared.stop.Stop.TheVariants.{Ended, LineFailed, TurnsOver}
+use Rattle.looking_engine.specs.Session.{IsSaid}
+use Rattle.looking_engine.specs.Stopping.{LookStop}
+use Rattle.looking_engine.specs.declared.stop.Stop.TheVariants.{Ended, LineFailed, TurnsOver}
 use Rattle.sample_looks.specs.LooksFirst.{SamplesAreOfTheRecord}
 use Rattle.sample_looks.specs.Samples.{AreSamples, AreSpread}
 
@@ -62,7 +62,7 @@ of_record words count samples (places, spread, are) = subst (λ list. All (OneOf
 
 -- ---- what was said
 
-said_told : (stop : Stop) (left : ℕ) (all said : List Item) → IsSaid (Some stop) left all said → IsToldOf all said
+said_told : (stop : LookStop) (left : ℕ) (all said : List Item) → IsSaid (Some stop) left all said → IsToldOf all said
 said_told (Ended end) left all said s = inl s
 said_told TurnsOver left all said s = inl s.0
 said_told (LineFailed fault) left all said (inl s) = inl s.0

@@ -15,18 +15,17 @@ use Rattle.reading_core.specs.Invariant.{Basis, IsReader, PhaseFits}
 use Rattle.reading_core.specs.Reader.{Reader, begun, ended}
 use Rattle.looking_law.specs.Belief.{IsTrueReading, MayLook}
 use Rattle.looking_law.proofs.Runs.{may_begin}
-use Rattle.reading_engine.specs.Belief.{IsBelievableAt, IsBelievableOver}
-use Rattle.reading_engine.specs.Honest.{IsHonest}
-use Rattle.reading_engine.specs.Inquired.{TellsEnd}
-use Rattle.reading_engine.specs.declared.stop.Stop.{Stop}
-use Rattle.reading_engine.specs.declared.stop.Stop.TheVariants.{Ended, LineFailed, TurnsOver}
+use Rattle.looking_engine.specs.Belief.{IsBelievableAt, IsBelievableOver}
+use Rattle.looking_engine.specs.Honest.{IsHonest}
+use Rattle.looking_engine.specs.Stopping.{LookStop, TellsEnd}
+use Rattle.looking_engine.specs.declared.stop.Stop.TheVariants.{Ended, LineFailed, TurnsOver}
 use Rattle.sample_looks.specs.declared.finding.Finding.{Finding}
 use Rattle.sample_looks.specs.declared.finding.Finding.TheVariants.{AllStand, Stale, Unfinished}
 use Rattle.sample_looks.specs.Finding.{IsFound, IsSoIn}
 use Rattle.sample_looks.specs.Looked.{IsSoOver}
 
 -- over an honest line what was read is true, with the losses or one more
-is_true : (stop : Stop) (first last : Reader) (items : List Item) (machine now : Machine) (lost : ℕ) → IsBelievableAt stop first last items → MayLook first machine → IsHonest machine items lost now
+is_true : (stop : LookStop) (first last : Reader) (items : List Item) (machine now : Machine) (lost : ℕ) → IsBelievableAt stop first last items → MayLook first machine → IsHonest machine items lost now
     → (more : ℕ) × IsTrueReading machine.memory last now.memory (keys_of items) (lost + more)
 is_true (Ended end) first last items machine now lost believed may honest = (0, believed machine now lost may honest)
 is_true TurnsOver first last items machine now lost believed may honest = (0, believed machine now lost may honest)
@@ -62,10 +61,10 @@ was_read samples last before now keys lost i kept are heard low =
     let here = address_is samples last i are inside in
     record { lies = subst (λ a. is_word now a ≡ true) here (heard.read.lies i low); holds = heard.read.holds i low ∙ ap (word_at now) here }
 
-so_in : (samples : List WordValue) (last : Reader) (stop : Stop) (finding : Finding) (before now keys : List ℕ) (lost : ℕ) → IsReader last → last.addresses ≡ addresses_of samples → TellsEnd stop last →
+so_in : (samples : List WordValue) (last : Reader) (stop : LookStop) (finding : Finding) (before now keys : List ℕ) (lost : ℕ) → IsReader last → last.addresses ≡ addresses_of samples → TellsEnd stop (ended last.phase) →
     IsFound samples last.values stop finding → IsTrueReading before last now keys lost → IsSoIn now samples finding
 so_in samples last stop AllStand before now keys lost kept are tells found heard =
-    let all : length last.values ≡ length samples = all_in last.phase _ kept.fits (subst (λ s. TellsEnd s last) found.0 tells) ∙ count_is samples last are in
+    let all : length last.values ≡ length samples = all_in last.phase _ kept.fits (subst (λ s. TellsEnd s (ended last.phase)) found.0 tells) ∙ count_is samples last are in
     record {
       lies = λ i low. (was_read samples last before now keys lost i kept are heard (subst (λ n. i < n) (sym all) low)).lies;
       stands = λ i low.
@@ -82,8 +81,8 @@ so_in samples last stop (Stale address) before now keys lost kept are tells (i, 
     )
 so_in samples last stop Unfinished before now keys lost kept are tells found heard = tt
 
-pub so_over : (samples : List WordValue) (first last : Reader) (stop : Stop) (finding : Finding) (line line' : Option (List Item)) → first ≡ begun (addresses_of samples) [] first.patience → IsReader last →
-    last.addresses ≡ first.addresses → TellsEnd stop last → IsFound samples last.values stop finding → IsBelievableOver stop first last line line' → IsSoOver samples finding line line'
+pub so_over : (samples : List WordValue) (first last : Reader) (stop : LookStop) (finding : Finding) (line line' : Option (List Item)) → first ≡ begun (addresses_of samples) [] first.patience → IsReader last →
+    last.addresses ≡ first.addresses → TellsEnd stop (ended last.phase) → IsFound samples last.values stop finding → IsBelievableOver stop first last line line' → IsSoOver samples finding line line'
 so_over samples first last stop finding line line' is kept same tells found believed said gained machine now lost ready honest =
     let may : MayLook first machine = subst (λ r. MayLook r machine) (sym is) (may_begin (addresses_of samples) first.patience machine ready) in
     let heard = is_true stop first last said machine now lost (believed said gained) may honest in

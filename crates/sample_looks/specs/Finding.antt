@@ -5,8 +5,8 @@ use Rattle.host_core.specs.Core.{word_nr}
 use Rattle.odt_machine.specs.Machine.{is_word, word_at}
 use Rattle.line_world.specs.Safe.{FirstStand}
 use Rattle.reading_core.specs.declared.phase.End.TheVariants.{Complete, GaveUp, NoWord}
-use Rattle.reading_engine.specs.declared.stop.Stop.{Stop}
-use Rattle.reading_engine.specs.declared.stop.Stop.TheVariants.{Ended, LineFailed, TurnsOver}
+use Rattle.looking_engine.specs.Stopping.{LookStop}
+use Rattle.looking_engine.specs.declared.stop.Stop.TheVariants.{Ended, LineFailed, TurnsOver}
 use Rattle.sample_looks.specs.declared.finding.Finding.{Finding}
 use Rattle.sample_looks.specs.declared.finding.Finding.TheVariants.{AllStand, Stale, Unfinished}
 
@@ -21,7 +21,7 @@ IsFirstToDiffer samples numbers address =
     × (Stands (word_nr samples i) (get_or numbers i 0) → ⊥) × (address ≡ (word_nr samples i).address)
 
 -- where none differs, by how the reading stopped
-abbrev pub unless_stopped_at : Stop → Finding
+abbrev pub unless_stopped_at : LookStop → Finding
 unless_stopped_at (Ended Complete) = AllStand
 unless_stopped_at (Ended GaveUp) = Unfinished
 unless_stopped_at (Ended (NoWord address)) = Unfinished
@@ -29,7 +29,7 @@ unless_stopped_at (LineFailed fault) = Unfinished
 unless_stopped_at TurnsOver = Unfinished
 
 -- what is found where these numbers were read and the reading stopped so
-abbrev pub IsFound : List WordValue → List ℕ → Stop → Finding → Type 0
+abbrev pub IsFound : List WordValue → List ℕ → LookStop → Finding → Type 0
 IsFound samples numbers stop AllStand = (stop ≡ Ended Complete) × StandAsRead samples numbers (length numbers)
 IsFound samples numbers stop (Stale address) = IsFirstToDiffer samples numbers address
 IsFound samples numbers stop Unfinished = (stop ≡ Ended Complete → ⊥) × StandAsRead samples numbers (length numbers)

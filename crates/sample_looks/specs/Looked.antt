@@ -5,7 +5,7 @@ use Rattle.odt_machine.specs.Machine.{Machine}
 use Rattle.host_devices.specs.declared.item.Item.{Item}
 use Rattle.load_engine.specs.Session.{HasGained}
 use Rattle.looking_law.specs.Belief.{IsReadyMachine}
-use Rattle.reading_engine.specs.Honest.{IsHonest}
+use Rattle.looking_engine.specs.Honest.{IsHonest}
 use Rattle.sample_looks.specs.declared.finding.Finding.{Finding}
 use Rattle.sample_looks.specs.Finding.{IsSoIn}
 

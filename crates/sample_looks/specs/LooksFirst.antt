@@ -21,8 +21,8 @@ use Rattle.reading_core.specs.Reader.{Reader, begun as reader_begun}
 use Rattle.looking_law.specs.Belief.{dialogue as looks_of}
 use Rattle.looking_law.specs.RecordLook.{HasLooked}
 use Rattle.looking_law.specs.Splitting.{BeginsByListening}
-use Rattle.reading_engine.specs.declared.stop.Stop.{Stop}
-use Rattle.reading_engine.specs.Inquired.{Inquired, inquiry}
+use Rattle.looking_engine.specs.Stopping.{LookStop}
+use Rattle.looking_engine.specs.Inquired.{Inquired, inquiry}
 use Rattle.sample_looks.specs.Samples.{AreSamples}
 
 -- a life, and what was said before it on its line, where it looked
@@ -103,7 +103,7 @@ LoadsMayFollow =
 -- what `look_at_samples` says, where it looks at a record's samples, is such a look; so it is where the call that failed sent its key after all
 abbrev pub SamplesAreOfTheRecord : Type 0
 SamplesAreOfTheRecord =
-    (plan : PlanValue) (recorded : Progress) (samples : List WordValue) (patience turns : ℕ) (stop : Stop) (last : Reader)
+    (plan : PlanValue) (recorded : Progress) (samples : List WordValue) (patience turns : ℕ) (stop : LookStop) (last : Reader)
     (line line' : Option (List Item)) (looks : List Item) →
     recorded.going ≡ false → AreSamples plan.words recorded.verified samples → AreAddresses (addresses_of samples) → patience < 2 ^ 32 →
     (s : Inquired turns (inquiry (reader_begun (addresses_of samples) [] patience) last (Some stop)) line line') →

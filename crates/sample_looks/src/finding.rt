@@ -2,8 +2,8 @@
 ghost use Rattle.std.specs.Prelude.{◌≡◌, ◌≤◌, length, MatchOption};
 ghost use Rattle.sample_looks.specs.Finding.{IsFirstToDiffer, IsFound, StandAsRead, unless_stopped_at};
 
+use looking_engine::Stop;
 use reading_core::End;
-use reading_engine::Stop;
 use tape_image::{Word, stands};
 
 /// What looks at some words of a plan found.
@@ -20,7 +20,7 @@ pub enum Finding {
 }
 
 // What the numbers say that were read at the first of the words before the reading stopped so.
-pub(crate) fn found(samples: &[Word], numbers: &[u16], stop: Stop) -> Finding
+pub(crate) fn found(samples: &[Word], numbers: &[u16], stop: Stop<End>) -> Finding
     requires { length numbers.now ≤ length samples.now }
     ensures { IsFound samples.now numbers.now stop result }
 {
@@ -31,7 +31,7 @@ pub(crate) fn found(samples: &[Word], numbers: &[u16], stop: Stop) -> Finding
 }
 
 // What it comes to where no word differs.
-fn unless_stopped(stop: Stop) -> Finding
+fn unless_stopped(stop: Stop<End>) -> Finding
     ensures { result ≡ unless_stopped_at stop }
 {
     match stop {

@@ -6,14 +6,14 @@ ghost use Rattle.reading_core.specs.Addresses.{AreAddresses, addresses_of};
 ghost use Rattle.reading_core.specs.Bound.{reading_bound};
 ghost use Rattle.reading_core.specs.Invariant.{IsReader};
 ghost use Rattle.reading_core.specs.Reader.{begun};
-ghost use Rattle.reading_engine.specs.Inquired.{IsInquired, inquiry};
+ghost use Rattle.looking_engine.specs.Inquired.{IsInquired, inquiry};
 ghost use Rattle.sample_looks.specs.Finding.{IsFound};
 ghost use Rattle.sample_looks.specs.Looked.{IsSoOver};
 
 use crate::finding::{Finding, found};
 use host_devices::{Line, MOST_TURNS, Onlooker};
-use reading_core::ReadingCore;
-use reading_engine::{Stop, inquire};
+use looking_engine::{Stop, inquire};
+use reading_core::{End, ReadingCore};
 use std::alloc::{AllocError, Global};
 use tape_image::Word;
 
@@ -24,7 +24,7 @@ pub struct Looked {
     pub reader: ReadingCore,
 
     /// Why the reading stopped.
-    pub stop: Stop,
+    pub stop: Stop<End>,
 
     /// What it found.
     pub finding: Finding,

@@ -6,9 +6,9 @@ use crate::assertion::check_that;
 use crate::counting_onlooker::Watch;
 use honest_line::{Loss, MemoryLine};
 use host_devices::{Item, Line, LineFault, Onlooker, Unwatched};
+use looking_engine::{Stop, inquire, inquire_in_memory};
 use odt_machine::{Odt, Style};
 use reading_core::{End, ReadingCore};
-use reading_engine::{Stop, inquire, inquire_in_memory};
 use std::alloc::Global;
 use std::process::Abort;
 use tape_blocks::read_tape;
@@ -40,7 +40,7 @@ const AMPLE: Setting = Setting {
 // mishaps.
 #[derive(Clone, Copy)]
 struct Course {
-    stop: Stop,
+    stop: Stop<End>,
     keys: usize,
     heard: usize,
     read: usize,
@@ -170,7 +170,7 @@ fn inquire_on<L: Line, O: Onlooker>(
     line: &mut L,
     turns: u64,
     onlooker: &O,
-) -> (ReadingCore, Stop) {
+) -> (ReadingCore, Stop<End>) {
     inquire(core, line, turns, onlooker)
 }
 
@@ -179,14 +179,14 @@ fn inquire_by_lending(
     core: ReadingCore,
     line: MemoryLine,
     turns: u64,
-) -> ((ReadingCore, Stop), MemoryLine) {
+) -> ((ReadingCore, Stop<End>), MemoryLine) {
     inquire_in_memory(core, line, turns)
 }
 
 // The reading came to this.
 fn comes_to(
     rt: &impl Abort,
-    (core, stop): &(ReadingCore, Stop),
+    (core, stop): &(ReadingCore, Stop<End>),
     line: &MemoryLine,
     (course, reason): (&Course, &str),
 ) {
@@ -200,7 +200,7 @@ fn comes_to(
 }
 
 // What a reading in this setting comes to; nothing where memory for it is refused.
-fn read(alloc: Global, setting: &Setting) -> Option<((ReadingCore, Stop), MemoryLine)> {
+fn read(alloc: Global, setting: &Setting) -> Option<((ReadingCore, Stop<End>), MemoryLine)> {
     let core = ReadingCore::of_range(alloc, 0o1000, 0o1004, setting.patience).ok()?;
     let line = line_of(alloc, setting)?;
     Some(inquire_by_lending(core, line, setting.turns))
@@ -241,7 +241,7 @@ fn each_step_is_told(rt: HostRuntime) {
 }
 
 // A life that is stopped right after its first CR, and a new one that keeps so many numbers.
-fn read_twice(alloc: Global, kept: u32) -> Option<((ReadingCore, Stop), MemoryLine)> {
+fn read_twice(alloc: Global, kept: u32) -> Option<((ReadingCore, Stop<End>), MemoryLine)> {
     let ((mut core, _), mut line) = read(alloc, &Setting { turns: 22, ..AMPLE })?;
     core.restart(kept);
     let answer = inquire_on(core, &mut line, 1000, &Unwatched);

@@ -4,10 +4,10 @@
 use crate::assertion::check_that;
 use honest_line::{Loss, MemoryLine};
 use host_devices::Item;
+use looking_engine::Stop;
 use machine_probe::{Search, find_end};
 use odt_machine::{Odt, PLAIN_STYLE};
 use reading_core::End;
-use reading_engine::Stop;
 use std::alloc::Global;
 
 // The words of the machine, the answer character that is lost, and the patience.

@@ -2,10 +2,10 @@ use Rattle.std.proofs.Common.{◌≡◌, ◌+◌, None, Some, refl, subst, sym, 
 use Rattle.std.specs.Io.KnownBytes.{Appends}
 use Rattle.host_devices.specs.Devices.{line_told}
 use Rattle.host_devices.specs.Turns.{most_turns}
-use Rattle.reading_engine.specs.declared.stop.Stop.{Stop}
-use Rattle.reading_engine.specs.declared.stop.Stop.TheVariants.{TurnsOver}
-use Rattle.reading_engine.specs.Inquired.{IsInquired, inquiry}
-use Rattle.reading_engine.proofs.Inquiries.{no_turns, turns_are_over, turns_go_on, turns_join, turns_to_spare}
+use Rattle.looking_engine.specs.Stopping.{LookStop}
+use Rattle.looking_engine.specs.declared.stop.Stop.TheVariants.{TurnsOver}
+use Rattle.looking_engine.specs.Inquired.{IsInquired, inquiry}
+use Rattle.looking_engine.proofs.Inquiries.{no_turns, turns_are_over, turns_go_on, turns_join, turns_to_spare}
 use Rattle.tape_shelf.proofs.OnShelf.{done}
 use Rattle.machine_look.proofs.Shown.{no_lines, on_fault}
 use Rattle.machine_look.proofs.Steps.{on_ok}
@@ -62,9 +62,9 @@ loop-preserved g c =
     let between = line_told g.L.Line c.loop.line in
     let after = line_told g.L.Line c.turn-next.new.line in
     let over : c.turn-next.result.stop ≡ TurnsOver = c.in-TurnsOver.is in
-    let one : IsInquired 1 (inquiry c.loop.core next (Some TurnsOver)) between after = subst (λ (s : Stop). IsInquired 1 (inquiry c.loop.core next (Some s)) between after) over turn.inquired in record {
+    let one : IsInquired 1 (inquiry c.loop.core next (Some TurnsOver)) between after = subst (λ (s : LookStop). IsInquired 1 (inquiry c.loop.core next (Some s)) between after) over turn.inquired in record {
       inquired = turns_join c.loop.counter 1 c.args.core c.loop.core next None (line_told g.L.Line c.args.line.now) between after c.requires.kept inv.inquired (turns_go_on 1 c.loop.core next between after one);
-      goes_on = one.end;
+      goes_on = one.turns.end;
       shown = λ first had. done _ c.turn-next.result.shown c.if-is_err.ensures.value turn.shown first (inv.shown first had);
     }
 

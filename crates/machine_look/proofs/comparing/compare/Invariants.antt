@@ -2,7 +2,7 @@
 use Rattle.std.proofs.Common.{◌≡◌, [], None}
 use Rattle.host_devices.specs.Devices.{line_told}
 use Rattle.reading_core.specs.Reader.{ended}
-use Rattle.reading_engine.specs.Inquired.{IsInquired, inquiry}
+use Rattle.looking_engine.specs.Inquired.{IsInquired, inquiry}
 use Rattle.machine_look.specs.Shown.{ShowsTo}
 use Rattle.machine_look.specs.VerifyReport.{difference_lines}
 use Rattle.machine_look.proofs.comparing.compare.Given as goal

@@ -7,8 +7,8 @@ use Rattle.host_devices.specs.Devices.{line_told}
 use Rattle.host_devices.specs.Failures.{CountsFault}
 use Rattle.host_devices.specs.Told.{Gains}
 use Rattle.host_devices.specs.Turns.{most_turns}
-use Rattle.reading_engine.specs.Failing.{line_fault}
-use Rattle.reading_engine.specs.Inquired.{Inquired, inquiry}
+use Rattle.looking_engine.specs.Stopping.{line_fault}
+use Rattle.looking_engine.specs.Inquired.{Inquired, inquiry}
 use Rattle.request_values.specs.Change.{◌⇒◌}
 use Rattle.machine_look.specs.Differences.{differences}
 use Rattle.machine_look.specs.Look.{AsksOnce, IsLineOf}
@@ -34,16 +34,16 @@ returns-in-Ok-clause-look g c =
     let lines' = g.R.Reach.lines c.let_go.new.self in
     let all : read.inquired.0 ≡ most_turns = done_known _ c.compare-core.result.shown _ c.in-Ok.is read.inquired.2 in
     is_look_of most_turns _ _ _ (told c.in_ok-line.line).said (told c.compare-core.new.line).said (g.R.Reach.lines c.args.console.now) lines' c.end.ensures.kept
-    (subst (λ n. Inquired n (inquiry c.args.core c.compare-core.result.core (Some stop)) (told c.in_ok-line.line).said (told c.compare-core.new.line).said) all i.turns)
+    (subst (λ n. Inquired n (inquiry c.args.core c.compare-core.result.core (Some stop)) (told c.in_ok-line.line).said (told c.compare-core.new.line).said) all i.turns.session)
     (subst (λ over. IsLineOf over stop ((told c.in_ok-line.line).said ⇒ (told c.compare-core.new.line).said) (g.R.Reach.lines c.args.console.now ⇒ lines')) c.in_default.ensures.value (record {
       fresh = c.in_ok-line.ensures.fresh.nothing_said;
       last = told c.compare-core.new.line;
       said = refl;
-      counted = subst (λ n. CountsFault (line_fault (Some stop)) n (told c.compare-core.new.line).failures) c.in_ok-line.ensures.fresh.none_failed i.counted;
-      named = i.named;
+      counted = subst (λ n. CountsFault (line_fault (Some stop)) n (told c.compare-core.new.line).failures) c.in_ok-line.ensures.fresh.none_failed i.turns.counted;
+      named = i.turns.named;
       given = subst (λ lines. Gains lines lines' (told c.compare-core.new.line ∷ [])) c.in_ok-line.ensures.lines c.let_go.ensures.lines;
     }))
-    i.end i.same_addresses i.same_patience i.bound i.kept
+    i.turns.end i.same_addresses i.same_patience i.bound i.kept
 
 pub returns-in-Err-clause-fault : goal.returns-in-Err-clause-fault
 returns-in-Err-clause-fault g c =
@@ -63,16 +63,16 @@ returns-in-Err-clause-fault g c =
       few = read.inquired.1;
       last = last;
       stop = stop;
-      look = is_look_of read.inquired.0 _ _ _ (told c.in_ok-line.line).said (told c.compare-core.new.line).said (g.R.Reach.lines c.args.console.now) lines' c.end.ensures.kept i.turns
+      look = is_look_of read.inquired.0 _ _ _ (told c.in_ok-line.line).said (told c.compare-core.new.line).said (g.R.Reach.lines c.args.console.now) lines' c.end.ensures.kept i.turns.session
           (subst (λ over. IsLineOf over stop ((told c.in_ok-line.line).said ⇒ (told c.compare-core.new.line).said) (g.R.Reach.lines c.args.console.now ⇒ lines')) c.in_default.ensures.value (record {
             fresh = c.in_ok-line.ensures.fresh.nothing_said;
             last = told c.compare-core.new.line;
             said = refl;
-            counted = subst (λ n. CountsFault (line_fault (Some stop)) n (told c.compare-core.new.line).failures) c.in_ok-line.ensures.fresh.none_failed i.counted;
-            named = i.named;
+            counted = subst (λ n. CountsFault (line_fault (Some stop)) n (told c.compare-core.new.line).failures) c.in_ok-line.ensures.fresh.none_failed i.turns.counted;
+            named = i.turns.named;
             given = subst (λ lines. Gains lines lines' (told c.compare-core.new.line ∷ [])) c.in_ok-line.ensures.lines c.let_go.ensures.lines;
           }))
-          i.end i.same_addresses i.same_patience i.bound i.kept;
+          i.turns.end i.same_addresses i.same_patience i.bound i.kept;
       asked = subst (λ over. AsksOnce over (g.R.Reach.call c.args.console.now) (g.R.Reach.asked c.args.console.now) (g.R.Reach.asked c.let_go.new.self)) c.in_default.ensures.value
           (subst (λ asked. Gains (g.R.Reach.asked c.args.console.now) asked (asked_once (g.R.Reach.call c.args.console.now))) (sym c.let_go.ensures.asked) c.in_ok-line.ensures.asked);
       missing = front.0;

@@ -1,7 +1,7 @@
 use Rattle.std.proofs.Common.{refl, sym, arith}
 use Rattle.host_devices.specs.Devices.{line_told}
 use Rattle.host_devices.specs.Turns.{most_turns}
-use Rattle.reading_engine.proofs.Inquiries.{no_turns, turns_are_over}
+use Rattle.looking_engine.proofs.Inquiries.{no_turns, turns_are_over}
 use Rattle.tape_shelf.specs.SavedSteps.{adds, full}
 use Rattle.tape_shelf.specs.ShelfAt.{ShelfAt, shelf_at}
 use Rattle.machine_look.proofs.Steps.{added_alone, added_behind, from_nothing, not_added_alone, not_added_behind, on_each, on_ok}

@@ -1,10 +1,10 @@
 use Rattle.std.proofs.Common.{◌≡◌, ◌+◌, [], None, Some, refl, subst, arith}
 use Rattle.host_devices.specs.Devices.{line_told}
 use Rattle.host_devices.specs.Turns.{most_turns}
-use Rattle.reading_engine.specs.declared.stop.Stop.{Stop}
-use Rattle.reading_engine.specs.declared.stop.Stop.TheVariants.{Ended, LineFailed, TurnsOver}
-use Rattle.reading_engine.specs.Inquired.{IsInquired, inquiry}
-use Rattle.reading_engine.proofs.Inquiries.{no_turns, turns_are_over, turns_go_on, turns_join, turns_to_spare}
+use Rattle.looking_engine.specs.Stopping.{LookStop}
+use Rattle.looking_engine.specs.declared.stop.Stop.TheVariants.{Ended, LineFailed, TurnsOver}
+use Rattle.looking_engine.specs.Inquired.{IsInquired, inquiry}
+use Rattle.looking_engine.proofs.Inquiries.{no_turns, turns_are_over, turns_go_on, turns_join, turns_to_spare}
 use Rattle.tape_shelf.specs.SavedSteps.{adds, full}
 use Rattle.tape_shelf.specs.ShelfAt.{shelf_at}
 use Rattle.tape_shelf.proofs.OnShelf.{done}
@@ -27,9 +27,9 @@ loop-preserved g c =
     let between = line_told g.L.Line c.loop.line in
     let after = line_told g.L.Line c.turn-next.new.line in
     let over : c.turn-next.result.stop ≡ TurnsOver = c.in-TurnsOver.is in
-    let one : IsInquired 1 (inquiry c.loop.core next (Some TurnsOver)) between after = subst (λ (s : Stop). IsInquired 1 (inquiry c.loop.core next (Some s)) between after) over turn.inquired in record {
+    let one : IsInquired 1 (inquiry c.loop.core next (Some TurnsOver)) between after = subst (λ (s : LookStop). IsInquired 1 (inquiry c.loop.core next (Some s)) between after) over turn.inquired in record {
       inquired = turns_join c.loop.counter 1 c.args.core c.loop.core next None (line_told g.L.Line c.args.line.now) between after c.requires.kept inv.inquired (turns_go_on 1 c.loop.core next between after one);
-      goes_on = one.end;
+      goes_on = one.turns.end;
       added = goes_join [] (adds c.args.from c.loop.core.values (full c.loop.core.values))
           (adds c.args.from next.values (full next.values)) (shelf_at g.S.Shelf c.args.shelf.now) (shelf_at g.S.Shelf c.loop.shelf) (shelf_at g.S.Shelf c.turn-next.new.shelf) inv.added
           (done _ c.turn-next.result.added c.if-is_err.ensures.value turn.added);
@@ -69,7 +69,7 @@ returns-in-Ended-clause-inquired g c =
       value_known (most_turns ≡ most_turns) c.turn-next.result.added refl,
       turns_to_spare (Ended c.in-Ended.end) (c.loop.counter + 1) most_turns c.args.core next before after (λ same. cc same) (omega (arith, c.loop-test.true))
           (turns_join c.loop.counter 1 c.args.core c.loop.core next (Some (Ended c.in-Ended.end)) before between after c.requires.kept c.loop.invariant.inquired
-          (subst (λ (s : Stop). IsInquired 1 (inquiry c.loop.core next (Some s)) between after) c.in-Ended.is c.turn-next.ensures.inquired)),
+          (subst (λ (s : LookStop). IsInquired 1 (inquiry c.loop.core next (Some s)) between after) c.in-Ended.is c.turn-next.ensures.inquired)),
     )
 
 pub returns-in-Ended-clause-added : goal.returns-in-Ended-clause-added
@@ -90,7 +90,7 @@ returns-in-LineFailed-clause-inquired g c =
       value_known (most_turns ≡ most_turns) c.turn-next.result.added refl,
       turns_to_spare (LineFailed c.in-LineFailed.fault) (c.loop.counter + 1) most_turns c.args.core next before after (λ same. cc same) (omega (arith, c.loop-test.true))
           (turns_join c.loop.counter 1 c.args.core c.loop.core next (Some (LineFailed c.in-LineFailed.fault)) before between after c.requires.kept c.loop.invariant.inquired
-          (subst (λ (s : Stop). IsInquired 1 (inquiry c.loop.core next (Some s)) between after) c.in-LineFailed.is c.turn-next.ensures.inquired)),
+          (subst (λ (s : LookStop). IsInquired 1 (inquiry c.loop.core next (Some s)) between after) c.in-LineFailed.is c.turn-next.ensures.inquired)),
     )
 
 pub returns-in-LineFailed-clause-added : goal.returns-in-LineFailed-clause-added

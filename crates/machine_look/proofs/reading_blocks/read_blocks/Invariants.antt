@@ -2,7 +2,7 @@
 use Rattle.std.proofs.Common.{◌≡◌, [], None}
 use Rattle.host_devices.specs.Devices.{line_told}
 use Rattle.reading_core.specs.Reader.{ended}
-use Rattle.reading_engine.specs.Inquired.{IsInquired, inquiry}
+use Rattle.looking_engine.specs.Inquired.{IsInquired, inquiry}
 use Rattle.tape_shelf.specs.SavedSteps.{adds, full}
 use Rattle.tape_shelf.specs.ShelfAt.{GoesOnTo, shelf_at}
 use Rattle.machine_look.proofs.reading_blocks.read_blocks.Given as goal

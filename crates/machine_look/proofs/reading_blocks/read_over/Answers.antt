@@ -10,10 +10,9 @@ use Rattle.reading_core.specs.Addresses.{AreAddresses}
 use Rattle.reading_core.specs.Reader.{Reader, begun}
 use Rattle.reading_core.specs.declared.phase.End.TheVariants.{Complete}
 use Rattle.reading_core.proofs.Asking.{length_from}
-use Rattle.reading_engine.specs.Failing.{line_fault}
-use Rattle.reading_engine.specs.Inquired.{Inquired, inquiry}
-use Rattle.reading_engine.specs.declared.stop.Stop.{Stop}
-use Rattle.reading_engine.specs.declared.stop.Stop.TheVariants.{Ended}
+use Rattle.looking_engine.specs.Stopping.{LookStop, line_fault}
+use Rattle.looking_engine.specs.Inquired.{Inquired, inquiry}
+use Rattle.looking_engine.specs.declared.stop.Stop.TheVariants.{Ended}
 use Rattle.sample_looks.specs.Finding.{IsFound}
 use Rattle.sample_looks.specs.declared.finding.Finding.TheVariants.{AllStand}
 use Rattle.request_values.specs.Change.{◌⇒◌}
@@ -36,14 +35,14 @@ returns-then-not-all_stand-clause-course g c =
     let saving : Saving = record { options = c.args.options; found = c.args.found.now } in
     let whose = ap (λ (r : Reader). r.patience) hosts.looker in (
       held_up saving _ looked.result samples ((told c.in_ok-line.line).said ⇒ (told looked.new.line).said) hosts.of_found
-          (are_looked_at samples c.args.options.patience c.args.hosts.looker looked.result ((told c.in_ok-line.line).said ⇒ (told looked.new.line).said) hosts.looker inquired.turns inquired.end
+          (are_looked_at samples c.args.options.patience c.args.hosts.looker looked.result ((told c.in_ok-line.line).said ⇒ (told looked.new.line).said) hosts.looker inquired.turns.session inquired.turns.end
           (subst (λ (list : List WordValue). IsFound list looked.result.reader.values looked.result.stop looked.result.finding) c.deref.ensures.value looked.ensures.found)
           (subst (λ (list : List WordValue). looked.result.reader.sent ≤ reading_bound (length list) c.args.hosts.looker.patience) c.deref.ensures.value looked.ensures.bound)
           inquired.same_patience inquired.kept)
           inquired.kept (let long = hosts.looks.long in omega (arith, long, whose)) (λ all. absurd (cc (c.all_stand.ensures.1 all, c.if-not-all_stand.true)))
           (subst (λ asked. Gains (g.R.Reach.asked c.args.console.now) asked (asked_once (g.R.Reach.call c.args.console.now))) (sym c.let_go.ensures.asked) c.in_ok-line.ensures.asked)
-          (given_back looked.result.stop _ _ (g.R.Reach.lines c.args.console.now) (g.R.Reach.lines c.reach.new.self) lines' _ _ _ (told looked.new.line) c.in_ok-line.ensures.fresh.none_failed refl inquired.counted refl
-          c.in_ok-line.ensures.fresh.nothing_said refl inquired.named c.in_ok-line.ensures.lines c.let_go.ensures.lines),
+          (given_back looked.result.stop _ _ (g.R.Reach.lines c.args.console.now) (g.R.Reach.lines c.reach.new.self) lines' _ _ _ (told looked.new.line) c.in_ok-line.ensures.fresh.none_failed refl inquired.turns.counted refl
+          c.in_ok-line.ensures.fresh.nothing_said refl inquired.turns.named c.in_ok-line.ensures.lines c.let_go.ensures.lines),
       refl,
     )
 
@@ -74,20 +73,20 @@ returns-in-Ok-clause-course g c =
     let all : looked.result.finding ≡ AllStand = c.all_stand.ensures.0 c.if-not-all_stand.false in
     let seen = subst (λ (list : List WordValue). IsFound list looked.result.reader.values looked.result.stop looked.result.finding) c.deref.ensures.value looked.ensures.found in
     let stop_is : looked.result.stop ≡ Ended Complete = (subst (λ f. IsFound samples looked.result.reader.values looked.result.stop f) all seen).0 in
-    let s = are_looked_at samples options.patience c.args.hosts.looker looked.result (line ⇒ mid) hosts.looker inquired.turns inquired.end seen
+    let s = are_looked_at samples options.patience c.args.hosts.looker looked.result (line ⇒ mid) hosts.looker inquired.turns.session inquired.turns.end seen
     (subst (λ (list : List WordValue). looked.result.reader.sent ≤ reading_bound (length list) c.args.hosts.looker.patience) c.deref.ensures.value looked.ensures.bound) inquired.same_patience inquired.kept in
     let begins : c.in_room-core.result ≡ begun (addresses_behind options.range found) [] (options.patience - looked.result.reader.spent) =
     c.in_room-core.ensures.begun ∙ (ap (λ (list : List ℕ). begun list [] (options.patience - c.spent.result)) hosts.addresses ∙ ap (λ n. begun (addresses_behind options.range found) [] (options.patience - n)) c.spent.ensures.value) in
     let over : read.ensures.inquired.0 ≡ most_turns = done_known _ read.result.added _ c.in-Ok.is read.ensures.inquired.2 in
     let none : g.R.Line.Line.fault_count looked.new.line ≡ g.R.Line.Line.fault_count c.in_ok-line.line =
-    subst (λ (t : Stop). CountsFault (line_fault (Some t)) (g.R.Line.Line.fault_count c.in_ok-line.line) (g.R.Line.Line.fault_count looked.new.line)) stop_is inquired.counted in (
+    subst (λ (t : LookStop). CountsFault (line_fault (Some t)) (g.R.Line.Line.fault_count c.in_ok-line.line) (g.R.Line.Line.fault_count looked.new.line)) stop_is inquired.turns.counted in (
       is_read most_turns saving _ looked.result read.result.core c.in_room-core.result read.result.stop samples (line ⇒ line') mid c.words_of.ensures.in_order c.requires.begins c.requires.fill
           (subst AreAddresses hosts.addresses hosts.asked) hosts.of_found all s inquired.kept (let long = hosts.looks.long in omega (arith, long, whose)) begins
-          (subst (λ n. Inquired n (inquiry c.in_room-core.result read.result.core (Some read.result.stop)) mid line') over i.turns) i.same_addresses i.same_patience i.bound i.kept
+          (subst (λ n. Inquired n (inquiry c.in_room-core.result read.result.core (Some read.result.stop)) mid line') over i.turns.session) i.same_addresses i.same_patience i.bound i.kept
           (subst (λ asked. Gains (g.R.Reach.asked c.args.console.now) asked (asked_once (g.R.Reach.call c.args.console.now))) (sym c.let_go-2.ensures.asked) c.in_ok-line.ensures.asked)
-          (given_back read.result.stop line line' lines (g.R.Reach.lines c.reach.new.self) lines' _ _ _ (told read.new.line) c.in_ok-line.ensures.fresh.none_failed none i.counted refl
-          c.in_ok-line.ensures.fresh.nothing_said refl i.named c.in_ok-line.ensures.lines c.let_go-2.ensures.lines),
-      i.end,
+          (given_back read.result.stop line line' lines (g.R.Reach.lines c.reach.new.self) lines' _ _ _ (told read.new.line) c.in_ok-line.ensures.fresh.none_failed none i.turns.counted refl
+          c.in_ok-line.ensures.fresh.nothing_said refl i.turns.named c.in_ok-line.ensures.lines c.let_go-2.ensures.lines),
+      i.turns.end,
       λ folder known. let h = done_known _ read.result.added _ c.in-Ok.is read.ensures.added folder (g.S.Shelf.told c.args.shelf.now) known refl in
           (h.0, subst (λ f. AreDone folder (adds f (found ++ read.result.core.values) (full (found ++ read.result.core.values))) (g.S.Shelf.told c.args.shelf.now) (g.S.Shelf.told read.new.shelf)) c.from.ensures.value h.1),
     )
@@ -113,12 +112,12 @@ returns-clause-fault g c =
     let all : looked.result.finding ≡ AllStand = c.all_stand.ensures.0 c.if-not-all_stand.false in
     let seen = subst (λ (list : List WordValue). IsFound list looked.result.reader.values looked.result.stop looked.result.finding) c.deref.ensures.value looked.ensures.found in
     let stop_is : looked.result.stop ≡ Ended Complete = (subst (λ f. IsFound samples looked.result.reader.values looked.result.stop f) all seen).0 in
-    let s = are_looked_at samples options.patience c.args.hosts.looker looked.result (line ⇒ mid) hosts.looker inquired.turns inquired.end seen
+    let s = are_looked_at samples options.patience c.args.hosts.looker looked.result (line ⇒ mid) hosts.looker inquired.turns.session inquired.turns.end seen
     (subst (λ (list : List WordValue). looked.result.reader.sent ≤ reading_bound (length list) c.args.hosts.looker.patience) c.deref.ensures.value looked.ensures.bound) inquired.same_patience inquired.kept in
     let begins : c.in_room-core.result ≡ begun (addresses_behind options.range found) [] (options.patience - looked.result.reader.spent) =
     c.in_room-core.ensures.begun ∙ (ap (λ (list : List ℕ). begun list [] (options.patience - c.spent.result)) hosts.addresses ∙ ap (λ n. begun (addresses_behind options.range found) [] (options.patience - n)) c.spent.ensures.value) in
     let none : g.R.Line.Line.fault_count looked.new.line ≡ g.R.Line.Line.fault_count c.in_ok-line.line =
-    subst (λ (t : Stop). CountsFault (line_fault (Some t)) (g.R.Line.Line.fault_count c.in_ok-line.line) (g.R.Line.Line.fault_count looked.new.line)) stop_is inquired.counted in
+    subst (λ (t : LookStop). CountsFault (line_fault (Some t)) (g.R.Line.Line.fault_count c.in_ok-line.line) (g.R.Line.Line.fault_count looked.new.line)) stop_is inquired.turns.counted in
     let failed = error_known _ read.result.added _ c.in-Err.is read.ensures.not_added in (
       looked.result.reader,
       read.result.core,
@@ -127,10 +126,10 @@ returns-clause-fault g c =
       read.ensures.inquired.1,
       is_read read.ensures.inquired.0 saving _ looked.result read.result.core c.in_room-core.result read.result.stop samples (line ⇒ line') mid c.words_of.ensures.in_order c.requires.begins c.requires.fill
           (subst AreAddresses hosts.addresses hosts.asked) hosts.of_found all s inquired.kept (let long = hosts.looks.long in omega (arith, long, whose)) begins
-          i.turns i.same_addresses i.same_patience i.bound i.kept
+          i.turns.session i.same_addresses i.same_patience i.bound i.kept
           (subst (λ asked. Gains (g.R.Reach.asked c.args.console.now) asked (asked_once (g.R.Reach.call c.args.console.now))) (sym c.let_go-2.ensures.asked) c.in_ok-line.ensures.asked)
-          (given_back read.result.stop line line' lines (g.R.Reach.lines c.reach.new.self) lines' _ _ _ (told read.new.line) c.in_ok-line.ensures.fresh.none_failed none i.counted refl
-          c.in_ok-line.ensures.fresh.nothing_said refl i.named c.in_ok-line.ensures.lines c.let_go-2.ensures.lines),
+          (given_back read.result.stop line line' lines (g.R.Reach.lines c.reach.new.self) lines' _ _ _ (told read.new.line) c.in_ok-line.ensures.fresh.none_failed none i.turns.counted refl
+          c.in_ok-line.ensures.fresh.nothing_said refl i.turns.named c.in_ok-line.ensures.lines c.let_go-2.ensures.lines),
       failed.1.0,
       failed.1.1,
       λ folder known. subst (λ f. AreDone folder (not_all_added f (found ++ read.result.core.values) failed.1.0) (g.S.Shelf.told c.args.shelf.now) (g.S.Shelf.told read.new.shelf)) c.from.ensures.value

@@ -7,4 +7,4 @@ pub returns-clause-honest : goal.returns-clause-honest
 returns-clause-honest g c =
     let inquired = c.inquire-reader.ensures.inquired in
     so_over c.args.samples.now c.args.reader c.inquire-reader.result.0 c.inquire-reader.result.1 c.found-finding.result _ _ c.requires inquired.kept inquired.same_addresses
-    inquired.end (subst (λ numbers. IsFound c.args.samples.now numbers c.inquire-reader.result.1 c.found-finding.result) c.values.ensures.value c.found-finding.ensures) inquired.honest
+    inquired.turns.end (subst (λ numbers. IsFound c.args.samples.now numbers c.inquire-reader.result.1 c.found-finding.result) c.values.ensures.value c.found-finding.ensures) inquired.honest

@@ -1,0 +1,9 @@
+pub mod Belief
+pub mod Conducted
+pub mod Harmless
+pub mod Inquired
+pub mod Lent
+pub mod Session
+pub mod Stopping
+pub mod Ways
+pub use Rattle.honest_line.specs.Honest

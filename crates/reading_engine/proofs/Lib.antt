@@ -1,4 +1,0 @@
-pub mod Beliefs
-mod Calls
-pub mod Inquiries
-pub mod Stretches

@@ -1,3 +1,0 @@
-mod Harm
-mod Stretches
-mod Tryings

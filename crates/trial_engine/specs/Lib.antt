@@ -1,3 +1,0 @@
-pub mod Conducted
-pub mod Failing
-pub mod Harmless

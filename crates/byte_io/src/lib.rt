@@ -5,7 +5,7 @@
 //! that has failed. `put_decimal` and `put_octal` put numbers at the end of a text that is gathered;
 //! `push_decimal`, `push_octal` and their like put things into room that was made before, and can't fail.
 //!
-//! `command_io` and the crates of the commands stand on it, and `load_record`, which writes its lines whole.
+//! `endings`, `input_files` and the crates of the commands stand on it, and `load_record`, which writes its lines whole.
 #![tactic(auto)]
 
 mod input;
@@ -15,5 +15,5 @@ mod text;
 
 pub use input::{InputFault, read_up_to};
 pub use output::{WriteFault, write_and_flush, write_whole};
-pub use room::{push_bytes, push_decimal, push_octal, push_into_room};
+pub use room::{push_bytes, push_decimal, push_into_room, push_octal};
 pub use text::{put_decimal, put_octal};

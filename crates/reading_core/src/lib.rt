@@ -7,7 +7,7 @@
 //!
 //! The contract of `step` is the table of the phases. A life sends at most the reading bound,
 //! whatever it hears, and `restart` keeps what was read. `looking_law` shows what this means for a
-//! machine, `reading_engine` lends the core to a line.
+//! machine, `looking_engine` lends the core to a line.
 #![tactic(auto)]
 
 mod life;

@@ -13,7 +13,7 @@
 //! fault of the input, at its place; `TapeReader` answers the same of any pieces, and `read_from` of
 //! an input, of which it takes the tape alone; `read_with_layout` tells, too, where each block began;
 //! `write_tape` gives the plain text, which reads as the same tape.
-//! What a tape is, as a value, stands in `tape_values`, and is passed on here; `command_io` reads the tapes of
+//! What a tape is, as a value, stands in `tape_values`, and is passed on here; `input_files` reads the tapes of
 //! the commands.
 #![tactic(auto)]
 

@@ -6,7 +6,7 @@
 //!
 //! The contract of `step` is the table of the phases. Which digits are typed depends on what the word
 //! holds: they tell a console that stores them from one that forgets. `looking_law` shows what this
-//! means for a machine, `trial_engine` lends the trial to a line, and `machine_probe` looks before and
+//! means for a machine, `looking_engine` lends the trial to a line, and `machine_probe` looks before and
 //! behind it.
 #![tactic(auto)]
 

@@ -70,15 +70,15 @@ pub record AddsMark (plan : PlanValue) (line : List ℕ) (before after : Progres
   pub after_is : after ≡ record { verified = before.verified; going = true }
 
 -- how a record is read: as one of this version, against this plan
-pub record Reading : Type 0 where
+pub record RecordReading : Type 0 where
   pub version : Version
   pub plan : PlanValue
 
-abbrev pub against : Version → PlanValue → Reading
+abbrev pub against : Version → PlanValue → RecordReading
 against version plan = record { version = version; plan = plan }
 
 -- a line adds something to a progress
-abbrev pub Adds : Reading → List ℕ → Progress → Progress → Type 0
+abbrev pub Adds : RecordReading → List ℕ → Progress → Progress → Type 0
 Adds reading line before after = AddsWords reading.version reading.plan line before after ⊎ AddsMark reading.plan line before after
 
 -- lines lead from one progress to another, one after the other

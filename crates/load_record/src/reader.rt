@@ -6,7 +6,8 @@ ghost use Rattle.host_core.specs.declared.progress.Progress.{Progress};
 ghost use Rattle.host_core.specs.Opening.{refusal_of};
 ghost use Rattle.load_record.specs.declared.version.Version.TheVariants.{Second};
 ghost use Rattle.load_record.specs.Lines.{IsRunLine};
-ghost use Rattle.load_record.specs.Reading.{Adds, against, BeginsWithValues, HoldsCount, HoldsTorn, IsHeldFront, IsLongestHeldFront, IsMarkDue, Says, is_line_end};
+ghost use Rattle.load_record.specs.Reading.{Adds, against, HoldsCount, HoldsTorn, IsMarkDue, Says, is_line_end};
+ghost use Rattle.load_record.specs.Reading.{BeginsWithValues, IsHeldFront, IsLongestHeldFront};
 
 use crate::line::{half_line, value_text, word_fields};
 use crate::run::{OpenRun, is_full};

@@ -13,11 +13,11 @@ use Rattle.stub.specs.Seen.{opened, held}
 use Rattle.stub.proofs.Cuts.{Cut, cut_some}
 use Rattle.stub.proofs.Decoding.{are_found}
 use Rattle.exchange_law.specs.StubStation.{station, goodbye, as_line, items_of}
-use Rattle.exchange_law.specs.Start.{program, chunks_of, Start, StartsStub, IsStartedBy, left_by, line_of, StartedStubsAreStations}
+use Rattle.exchange_law.specs.Start.{program, chunks_of, StubStart, StartsStub, IsStartedBy, left_by, line_of, StartedStubsAreStations}
 use Rattle.exchange_law.proofs.Lines.{are_stations, begin_fresh}
 
 -- it is where the stub's law begins
-pub started : (start : Start) (m : Machine) → StartsStub start → IsStartedBy (left_by start) start.place m → IsStarted start.place (start.stretch ∷ start.stretches) m
+pub started : (start : StubStart) (m : Machine) → StartsStub start → IsStartedBy (left_by start) start.place m → IsStarted start.place (start.stretch ∷ start.stretches) m
 started start m starts by = record {
   size = subst (λ memory. length memory ≤ largest_words) (sym by.memory) starts.console.size;
   wide = subst IsWide (sym by.memory) starts.console.wide;
@@ -47,7 +47,7 @@ some_pieces stretch stretches rising =
     all from to rising = omega arith
 
 -- the station that ODT leaves is that of a stub that has just begun
-pub left_so : (start : Start) → StartsStub start → start.stretch.from < start.stretch.to →
+pub left_so : (start : StubStart) → StartsStub start → start.stretch.from < start.stretch.to →
     after_odt program start.odt start.key ≡ station (left_by start) (begun (left_by start).memory (pieces (start.stretch ∷ start.stretches)))
 left_so start starts rising =
     let some = some_pieces start.stretch start.stretches rising in

@@ -25,7 +25,7 @@ abbrev pub program : Program
 program memory address = chunks_of (stub_at memory address)
 
 -- a key at ODT, and the stub with stretches that it is to start: where it stands, and its stretches
-pub record Start : Type 0 where
+pub record StubStart : Type 0 where
   pub odt : OdtMachine
   pub key : ℕ
   pub place : ℕ
@@ -33,11 +33,11 @@ pub record Start : Type 0 where
   pub stretches : List Stretch
 
 -- the machine as the key leaves it
-abbrev pub left_by : Start → OdtMachine
+abbrev pub left_by : StubStart → OdtMachine
 left_by start = after_key start.odt start.key
 
 -- the key starts the program at the address where the stub stands
-pub record StartsStub (start : Start) : Type 0 where
+pub record StartsStub (start : StubStart) : Type 0 where
   pub console : IsMachine (left_by start)
   pub still : is_running start.odt.mode ≡ false
   pub goes : (left_by start).mode ≡ Running start.place
@@ -61,5 +61,5 @@ line_of station x =
 -- the station stands that ODT leaves at that key, and that line ends as the machine's looks
 abbrev pub StartedStubsAreStations : Type 0
 StartedStubsAreStations =
-    (start : Start) (run : BenchRun) → StartsStub start → IsStartedBy (left_by start) start.place run.before.machine → MayRun run →
+    (start : StubStart) (run : BenchRun) → StartsStub start → IsStartedBy (left_by start) start.place run.before.machine → MayRun run →
     PassesAsAStation program (left_by start) (line_of (after_odt program start.odt start.key) run.before) run

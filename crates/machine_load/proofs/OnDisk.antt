@@ -7,7 +7,7 @@ use Rattle.record_file.specs.Beginning.{IsBegun, IsNotBegun}
 use Rattle.record_file.specs.Closing.{IsRecordClosed, Remains}
 use Rattle.host_devices.specs.Told.{HasAsked}
 use Rattle.record_file.specs.DiskStep.{DiskStep}
-use Rattle.record_file.specs.Reading.{IsRead, IsNotRead}
+use Rattle.record_file.specs.Reading.{IsRead, IsNotRead, found_in}
 use Rattle.record_file.specs.declared.old_record.OldRecord.{OldRecord}
 use Rattle.record_file.specs.declared.record_fault.RecordFault.{RecordFault}
 use Rattle.machine_load.specs.RecordDisk.{RecordDisk, FileKnown, DiskAsked, IsReadAnswered, IsBegunOf, IsBegunOn, IsNotBegunOf, IsNotBegunOn, IsBeginAnswered, IsReadFirst, IsReadAndBegun, IsReadNotBegun, IsOnlyRead, IsClosedAfter, disk_asked_by, disk_asked_before}
@@ -35,7 +35,7 @@ asked_as P Q (Some disk) (Some disk') f h = (h.0, (h.1.0, h.1.1, f disk disk'.kn
 -- ---- a record in a file
 
 pub read_answered : (before after : RecordDisk) (result : Result OldRecord RecordFault) → after.name ≡ before.name
-    → IfOk result (λ old. HasAsked before.asked after.asked (IsRead before.name old.text.items old.writable before.known after.known))
+    → IfOk result (λ old. HasAsked before.asked after.asked (IsRead before.name (found_in old) before.known after.known))
     → IfErr result (λ _. HasAsked before.asked after.asked (IsNotRead before.name)) → OnErr result (after.known ≡ before.known)
     → IsReadAnswered (Some before) (Some after) result
 read_answered before after (Ok old) name asked failed kept = (name, asked)
@@ -62,8 +62,8 @@ begin_answered before after (Err fault) text name asked failed remains none = (n
 
 pub opened_on : (a b : Option RecordDisk) (old : OldRecord) → IsReadAnswered a b (Ok old) → DiskAsked a b IsOnlyRead
 opened_on a b old h =
-    asked_as (λ disk known'. IsRead disk.name old.text.items old.writable disk.known known') IsOnlyRead a b
-    (λ disk known' steps r. record { text = old.text.items; writable = old.writable; read = r }) h
+    asked_as (λ disk known'. IsRead disk.name (found_in old) disk.known known') IsOnlyRead a b
+    (λ disk known' steps r. record { found = found_in old; read = r }) h
 
 -- it was read, and there was no room to compare it
 pub unlike_on : (a b : Option RecordDisk) (old : OldRecord) → IsReadAnswered a b (Ok old) → DiskAsked a b (disk_asked_before Memory)

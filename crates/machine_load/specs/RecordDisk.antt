@@ -4,10 +4,9 @@ use Rattle.record_file.specs.Beginning.{IsBegun, IsNotBegun}
 use Rattle.record_file.specs.Closing.{IsRecordClosed, Remains}
 use Rattle.host_devices.specs.Told.{HasAsked}
 use Rattle.record_file.specs.DiskStep.{DiskStep}
-use Rattle.record_file.specs.Reading.{IsRead, IsNotRead}
+use Rattle.record_file.specs.Reading.{OldText, IsRead, IsNotRead, found_in}
 use Rattle.record_file.specs.declared.made.Made.{Made}
 use Rattle.record_file.specs.declared.old_record.OldRecord.{OldRecord}
-use Rattle.record_file.specs.declared.old_record.Writable.{Writable}
 use Rattle.record_file.specs.declared.record_fault.RecordFault.{RecordFault}
 use Rattle.machine_load.specs.declared.load_end.LoadEnd.{LoadEnd}
 use Rattle.machine_load.specs.declared.load_end.LoadEnd.TheVariants.{Driven, Unfinished, Stale}
@@ -39,7 +38,7 @@ IsNotReadOn disk known' steps = IsNotRead disk.name steps × (known' ≡ disk.kn
 
 -- what was asked by what came of a reading
 abbrev pub IsReadAnswered : Option RecordDisk → Option RecordDisk → Result OldRecord RecordFault → Type 0
-IsReadAnswered before after (Ok old) = DiskAsked before after (λ disk known'. IsRead disk.name old.text.items old.writable disk.known known')
+IsReadAnswered before after (Ok old) = DiskAsked before after (λ disk known'. IsRead disk.name (found_in old) disk.known known')
 IsReadAnswered before after (Err fault) = DiskAsked before after IsNotReadOn
 
 -- a record of whose file this is known was begun anew: so only one that is held; and it remains, also once it is closed
@@ -69,9 +68,8 @@ IsBeginAnswered before after (Err fault) = DiskAsked before after IsNotBegunOn
 
 -- the record was read, and nothing else, and from there on this is known of its file
 pub record IsOnlyRead (disk : RecordDisk) (known' : FileKnown) (steps : List DiskStep) : Type 0 where
-  pub text : List ℕ
-  pub writable : Writable
-  pub read : IsRead disk.name text writable disk.known known' steps
+  pub found : OldText
+  pub read : IsRead disk.name found disk.known known' steps
 
 -- it was read, and then this was asked of what is known of its file
 pub record IsReadFirst (P : List ℕ → FileKnown → FileKnown → List DiskStep → Type 0) (disk : RecordDisk) (known' : FileKnown) (steps : List DiskStep)

@@ -3,7 +3,7 @@ use Rattle.std.proofs.Common.{◌≡◌, ℕ, List, [], ◌++◌, Bool, Option, 
 use Rattle.std.specs.Prelude.{MatchOption, option_map}
 use Rattle.std.specs.Result.{IfOk, IfErr}
 use Rattle.host_devices.proofs.Told.{tells_join, tells_none}
-use Rattle.record_file.specs.Beginning.{Course, Replaced, GivenUp, course, new_name, IsRenaming, Whole, Unsynced, NotRenamed, Moved, IsWriting, NotHeld, NoRoom, NotWritten, Written, IsBeside, OutOfReach, NoMemory, NoFolder, AtFolder, IsLetGo, IsWrittenOver, IsNotWrittenOver, IsBegun, Beside, InPlace, IsNotBegun, NotBeside, NotInPlace}
+use Rattle.record_file.specs.Beginning.{Course, Replaced, GivenUp, course, new_name, names, IsRenaming, Whole, Unsynced, NotRenamed, Moved, IsWriting, NotHeld, NoRoom, NotWritten, Written, IsBeside, OutOfReach, NoMemory, NoFolder, AtFolder, IsLetGo, IsWrittenOver, IsNotWrittenOver, IsBegun, Beside, InPlace, IsNotBegun, NotBeside, NotInPlace}
 use Rattle.record_file.specs.Closing.{IsRecordClosed}
 use Rattle.host_devices.specs.Told.{HasAsked}
 use Rattle.record_file.specs.DiskStep.{DiskStep}
@@ -61,7 +61,7 @@ pub none_known : {T : Type 0} (P : Made × Bool → Type 0) (Q : Type 0) (before
 none_known P Q before is q = subst (λ b. MatchOption (option_map kind_of b) Q P) is q
 
 pub read_none : {T : Type 0} (name text : List ℕ) (a b : Option (List DiskStep)) (found before : Option (HeldFile T)) → found ≡ None → text ≡ []
-    → HasAsked a b (IsHolding name (option_map kind_of found)) → HasAsked a b (IsRead name text No (option_map kind_of before) (option_map kind_of before))
+    → HasAsked a b (IsHolding name (option_map kind_of found)) → HasAsked a b (IsRead name (record { text = text; writable = No }) (option_map kind_of before) (option_map kind_of before))
 read_none name text a b found before is empty h = (h.0, h.1, Absent h.0 (subst (λ f. IsHolding name (option_map kind_of f) h.0) is h.2) empty refl)
 
 -- reading changes no device into a file
@@ -71,11 +71,11 @@ same_device (byte ∷ text) kind = refl
 
 pub read_some : {T : Type 0} (name text : List ℕ) (writable : Writable) (a b c : Option (List DiskStep)) (found before : Option (HeldFile T)) (held after : HeldFile T)
     → found ≡ Some held → kind_of after ≡ kind_after text (kind_of held) → HasAsked a b (IsHolding name (option_map kind_of found))
-    → HasAsked b c (IsWayFound name after.device writable) → HasAsked a c (IsRead name text writable (option_map kind_of before) (Some (kind_of after)))
+    → HasAsked b c (IsWayFound name after.device writable) → HasAsked a c (IsRead name (record { text = text; writable = writable }) (option_map kind_of before) (Some (kind_of after)))
 read_some name text writable a b c found before held after is kind h w = (
   h.0 ++ w.0,
   tells_join a b c h.0 w.0 h.1 w.1,
-  subst (λ k. IsRead name text writable (option_map kind_of before) (Some k) (h.0 ++ w.0)) (sym kind)
+  subst (λ k. IsRead name (record { text = text; writable = writable }) (option_map kind_of before) (Some k) (h.0 ++ w.0)) (sym kind)
       (Held (kind_of held) h.0 w.0 (subst (λ f. IsHolding name (option_map kind_of f) h.0) is h.2)
       (subst (λ device. IsWayFound name device writable w.0) (ap (λ k. k.1) kind ∙ same_device text (kind_of held)) w.2)),
 )
@@ -91,7 +91,7 @@ unread name a b c found held after is kind h l = (
 
 -- ---- what remains
 
-renamed_remains : (name new folder : List ℕ) (made : Made) (way : Course) (after : Made) (steps : List DiskStep) → IsRenaming name new folder made way after steps
+renamed_remains : (name new folder : List ℕ) (made : Made) (way : Course) (after : Made) (steps : List DiskStep) → IsRenaming (names name new folder) made way after steps
     → way ≡ Replaced → after ≡ Before
 renamed_remains name new folder made way after steps Whole is = refl
 renamed_remains name new folder made way after steps Unsynced is = refl

@@ -1,6 +1,6 @@
 -- Rows of the tables of what is asked, by what came of a call.
 use Rattle.std.proofs.Common.{◌≡◌, ℕ, ◌+◌, ◌<◌, ◌≤◌, ◌⊎◌, inl, inr, ◌∙◌, sym, subst, refl, List, [], ◌∷◌, ◌++◌, Bool, true, false, Option, Some, None, Result, Ok, Err}
-use Rattle.record_file.specs.Beginning.{IsLeftover, Left, Strange as StrangeNew, Taken, IsMaking, Fresh, Again, IsMakingHeld, new_name, Course, NotReplaced, GivenUp, Replaced, IsRenaming, Whole, Unsynced, NotRenamed, Moved, IsFolderSync, IsFileCut, IsLetGo, Goes, LeadsElsewhere, Stays, StaysBehindLink, IsWriting, NotHeld as NotHeldNew, NoRoom, NotWritten, Written, IsBeside, IsMadeReady, ReadyDevice, ReadyFile, IsUnready, MovedAway, IsWrittenOver, Device as OverDevice, PlainFile as OverFile, AtFolder, course, IsMakingSynced, OldFile, NewFile, NewBehindLink, Unresolved}
+use Rattle.record_file.specs.Beginning.{IsLeftover, Left, Strange as StrangeNew, Taken, IsMaking, Fresh, Again, IsMakingHeld, new_name, Course, NotReplaced, GivenUp, Replaced, names, IsRenaming, Whole, Unsynced, NotRenamed, Moved, IsFolderSync, IsFileCut, IsLetGo, Goes, LeadsElsewhere, Stays, StaysBehindLink, IsWriting, NotHeld as NotHeldNew, NoRoom, NotWritten, Written, IsBeside, IsMadeReady, ReadyDevice, ReadyFile, IsUnready, MovedAway, IsWrittenOver, Device as OverDevice, PlainFile as OverFile, AtFolder, course, IsMakingSynced, OldFile, NewFile, NewBehindLink, Unresolved}
 use Rattle.record_file.specs.Course.{is_done, was_made, renamed}
 use Rattle.host_devices.proofs.Told.{tells_join}
 use Rattle.host_devices.specs.Told.{HasAsked, Tells}
@@ -78,20 +78,20 @@ stays name made (inl is) = subst (λ m. IsLetGo name m []) (sym is) Stays
 stays name made (inr is) = subst (λ m. IsLetGo name m []) (sym is) StaysBehindLink
 
 pub whole : (name new folder : List ℕ) (made : Made) (steps : List DiskStep) → IsNameSeen name true steps
-    → IsRenaming name new folder made Replaced Before (steps ++ Did (Rename new name) ∷ Did (SyncFolder folder) ∷ [])
+    → IsRenaming (names name new folder) made Replaced Before (steps ++ Did (Rename new name) ∷ Did (SyncFolder folder) ∷ [])
 whole name new folder made steps Seen = Whole
 
 pub unsynced : (name new folder : List ℕ) (made : Made) (steps : List DiskStep) → IsNameSeen name true steps
-    → IsRenaming name new folder made GivenUp Before (steps ++ Did (Rename new name) ∷ Failed (SyncFolder folder) ∷ [])
+    → IsRenaming (names name new folder) made GivenUp Before (steps ++ Did (Rename new name) ∷ Failed (SyncFolder folder) ∷ [])
 unsynced name new folder made steps Seen = Unsynced
 
 pub not_renamed : {A E : Type 0} (name new folder : List ℕ) (made : Made) (removal : Result A E) (steps : List DiskStep) → IsNameSeen name true steps
-    → IsRenaming name new folder made NotReplaced made (steps ++ Failed (Rename new name) ∷ answered (Remove new) removal ∷ [])
+    → IsRenaming (names name new folder) made NotReplaced made (steps ++ Failed (Rename new name) ∷ answered (Remove new) removal ∷ [])
 not_renamed name new folder made (Ok u) steps Seen = NotRenamed true
 not_renamed name new folder made (Err e) steps Seen = NotRenamed false
 
 pub moved_away : {A E : Type 0} (name new folder : List ℕ) (made : Made) (removal : Result A E) (steps : List DiskStep) → IsNameSeen name false steps
-    → IsRenaming name new folder made GivenUp made (steps ++ answered (Remove new) removal ∷ [])
+    → IsRenaming (names name new folder) made GivenUp made (steps ++ answered (Remove new) removal ∷ [])
 moved_away name new folder made (Ok u) steps (Unseen found) = Moved found true
 moved_away name new folder made (Err e) steps (Unseen found) = Moved found false
 
@@ -199,9 +199,9 @@ unwritten name new folder made a b c removal is m r = (
 )
 
 pub written : (name new folder : List ℕ) (made : Made) (way : Course) (after : Made) (a b c : Option (List DiskStep)) → new ≡ new_name name
-    → HasAsked a b (IsMakingHeld new true) → HasAsked b c (IsRenaming name new folder made way after) → HasAsked a c (IsWriting name folder made way after)
+    → HasAsked a b (IsMakingHeld new true) → HasAsked b c (IsRenaming (names name new folder) made way after) → HasAsked a c (IsWriting name folder made way after)
 written name new folder made way after a b c is m r =
-    (m.0 ++ r.0, tells_join a b c m.0 r.0 m.1 r.1, Written way after m.0 r.0 (subst (λ n. IsMakingHeld n true m.0) is m.2) (subst (λ n. IsRenaming name n folder made way after r.0) is r.2))
+    (m.0 ++ r.0, tells_join a b c m.0 r.0 m.1 r.1, Written way after m.0 r.0 (subst (λ n. IsMakingHeld n true m.0) is m.2) (subst (λ n. IsRenaming (names name n folder) made way after r.0) is r.2))
 
 -- what a new file was asked, where it is known what came of it
 pub held_none : {A : Type 0} (new : List ℕ) (a b : Option (List DiskStep)) (kept : Option A) → kept ≡ None → HasAsked a b (IsMakingHeld new (was_made {E = RecordFault} (Ok kept)))

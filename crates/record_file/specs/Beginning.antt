@@ -46,14 +46,23 @@ course (Ok (Some keeper)) = Replaced
 course (Ok None) = NotReplaced
 course (Err fault) = GivenUp
 
+-- the name of a record, that of the new one beside it, and that of their folder
+pub record Names : Type 0 where
+  pub name : List ℕ
+  pub new : List ℕ
+  pub folder : List ℕ
+
+abbrev pub names : List ℕ → List ℕ → List ℕ → Names
+names name new folder = record { name = name; new = new; folder = folder }
+
 -- the new record that was written is renamed over the old one, while the name still leads to that, and the folder is synced. From the
 -- rename on the old file is none that this load made; the new one goes where it was not renamed
-pub data IsRenaming (name new folder : List ℕ) (made : Made) : Course → Made → List DiskStep → Type 0 where
-  Whole : IsRenaming name new folder made Replaced Before (Did (Look name) ∷ Did (Rename new name) ∷ Did (SyncFolder folder) ∷ [])
-  Unsynced : IsRenaming name new folder made GivenUp Before (Did (Look name) ∷ Did (Rename new name) ∷ Failed (SyncFolder folder) ∷ [])
+pub data IsRenaming (of : Names) (made : Made) : Course → Made → List DiskStep → Type 0 where
+  Whole : IsRenaming of made Replaced Before (Did (Look of.name) ∷ Did (Rename of.new of.name) ∷ Did (SyncFolder of.folder) ∷ [])
+  Unsynced : IsRenaming of made GivenUp Before (Did (Look of.name) ∷ Did (Rename of.new of.name) ∷ Failed (SyncFolder of.folder) ∷ [])
   NotRenamed : (removed : Bool)
-      → IsRenaming name new folder made NotReplaced made (Did (Look name) ∷ Failed (Rename new name) ∷ step_by (Remove new) removed ∷ [])
-  Moved : (found removed : Bool) → IsRenaming name new folder made GivenUp made (step_by (Look name) found ∷ step_by (Remove new) removed ∷ [])
+      → IsRenaming of made NotReplaced made (Did (Look of.name) ∷ Failed (Rename of.new of.name) ∷ step_by (Remove of.new) removed ∷ [])
+  Moved : (found removed : Bool) → IsRenaming of made GivenUp made (step_by (Look of.name) found ∷ step_by (Remove of.new) removed ∷ [])
 
 -- the new file is made, held and written, and then renamed; one that can't be written goes
 pub data IsWriting (name folder : List ℕ) (made : Made) : Course → Made → List DiskStep → Type 0 where
@@ -62,7 +71,7 @@ pub data IsWriting (name folder : List ℕ) (made : Made) : Course → Made → 
   NotWritten : (steps : List DiskStep) (removed : Bool) → IsMakingHeld (new_name name) true steps
       → IsWriting name folder made GivenUp made (steps ++ step_by (Remove (new_name name)) removed ∷ [])
   Written : (course : Course) (after : Made) (steps renaming : List DiskStep) → IsMakingHeld (new_name name) true steps
-      → IsRenaming name (new_name name) folder made course after renaming → IsWriting name folder made course after (steps ++ renaming)
+      → IsRenaming (names name (new_name name) folder) made course after renaming → IsWriting name folder made course after (steps ++ renaming)
 
 -- before that it is found out whether a rename would reach the old record, and its folder is opened
 pub data IsBeside (name : List ℕ) (made : Made) : Course → Made → List DiskStep → Type 0 where

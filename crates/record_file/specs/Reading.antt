@@ -5,6 +5,7 @@ use Rattle.record_file.specs.DiskStep.{DiskStep, FindSoleFile, Did, Failed}
 use Rattle.record_file.specs.Holding.{IsHeldAtLast, IsNotHeld}
 use Rattle.record_file.specs.declared.made.Made.{Made}
 use Rattle.record_file.specs.declared.made.Made.TheVariants.{Before}
+use Rattle.record_file.specs.declared.old_record.OldRecord.{OldRecord}
 use Rattle.record_file.specs.declared.old_record.Writable.{Writable}
 use Rattle.record_file.specs.declared.old_record.Writable.TheVariants.{No, InPlace, Anew}
 
@@ -21,11 +22,19 @@ pub data IsWayFound (name : List ℕ) : Bool → Writable → List DiskStep → 
   Reached : IsWayFound name false Anew (Did (FindSoleFile name) ∷ [])
   OutOfReach : IsWayFound name false InPlace (Failed (FindSoleFile name) ∷ [])
 
+-- what was found: the text of a record, and how it may be begun anew
+pub record OldText : Type 0 where
+  pub text : List ℕ
+  pub writable : Writable
+
+abbrev pub found_in : OldRecord → OldText
+found_in old = record { text = old.text.items; writable = old.writable }
+
 -- the file is held and read, it may be begun anew so, and from there on this is known of it; or there is none, and what was known stays so
-pub data IsRead (name text : List ℕ) (writable : Writable) (known : Option (Made × Bool)) : Option (Made × Bool) → List DiskStep → Type 0 where
-  Held : (kind : Made × Bool) (steps finding : List DiskStep) → IsHeldAtLast name kind steps → IsWayFound name kind.1 writable finding
-      → IsRead name text writable known (Some (kind_after text kind)) (steps ++ finding)
-  Absent : (steps : List DiskStep) → IsNotHeld name steps → text ≡ [] → writable ≡ No → IsRead name text writable known known steps
+pub data IsRead (name : List ℕ) (found : OldText) (known : Option (Made × Bool)) : Option (Made × Bool) → List DiskStep → Type 0 where
+  Held : (kind : Made × Bool) (steps finding : List DiskStep) → IsHeldAtLast name kind steps → IsWayFound name kind.1 found.writable finding
+      → IsRead name found known (Some (kind_after found.text kind)) (steps ++ finding)
+  Absent : (steps : List DiskStep) → IsNotHeld name steps → found.text ≡ [] → found.writable ≡ No → IsRead name found known known steps
 
 -- it is not held, or is held and let go
 pub data IsNotRead (name : List ℕ) : List DiskStep → Type 0 where

@@ -4,7 +4,7 @@ ghost use Rattle.std.specs.Io.KnownBytes.{Appends};
 ghost use Rattle.host_devices.specs.declared.fault.KeepFault.TheVariants as keep;
 ghost use Rattle.load_record.specs.declared.version.Version.TheVariants.{Second};
 ghost use Rattle.load_record.specs.RecordText.{record_text};
-ghost use Rattle.record_file.specs.Beginning.{course, IsMakingHeld, IsRenaming, IsBeside, IsFolderSync, IsMakingSynced};
+ghost use Rattle.record_file.specs.Beginning.{course, names, IsMakingHeld, IsRenaming, IsBeside, IsFolderSync, IsMakingSynced};
 ghost use Rattle.record_file.specs.Beginning.{IsFileCut, IsMadeReady, IsUnready, IsWrittenOver, IsNotWrittenOver};
 ghost use Rattle.record_file.specs.Course.{is_done, was_made, renamed};
 ghost use Rattle.record_file.specs.DiskRecord.{HasBegun};
@@ -92,7 +92,7 @@ fn replace<D: Disk>(
     ensures device { held.new.device ≡ held.old.device }
     ensures standing { held.new.standing ≡ held.old.standing }
     ensures asked { (dir : List ℕ) → D.is_opened_as folder.now dir
-        → HasAsked (D.asked disk.old) (D.asked disk.new) (IsRenaming name.now beside.now dir held.old.made (renamed result) held.new.made) }
+        → HasAsked (D.asked disk.old) (D.asked disk.new) (IsRenaming (names name.now beside.now dir) held.old.made (renamed result) held.new.made) }
 {
     if !is_named(disk, name, held) {
         let _ = disk.remove(beside);

@@ -8,7 +8,7 @@ ghost use Rattle.record_file.specs.InPlace.{HasRead, MayBeWrittenOver};
 ghost use Rattle.load_record.specs.RecordText.{record_text};
 ghost use Rattle.load_record.specs.declared.version.Version.TheVariants.{Second};
 ghost use Rattle.record_file.specs.OldRecord.{IsWritable};
-ghost use Rattle.record_file.specs.Reading.{IsRead, IsNotRead};
+ghost use Rattle.record_file.specs.Reading.{IsRead, IsNotRead, found_in};
 ghost use Rattle.record_file.specs.RecordFault.{IsUnbegun, IsUnread};
 ghost use Rattle.record_file.specs.Taking.{kind_of};
 
@@ -56,7 +56,7 @@ impl<'a, D: Disk + Drop> RecordFile<'a, D> {
         ensures writable { IfOk result (λ old. IsWritable old.writable → IsSome self.new.held) }
         ensures standing { IfOk result (λ old. IsWritable old.writable → MatchOption self.new.held ⊥ (HasRead (λ standing. standing ≡ old.text.items))) }
         ensures asked { IfOk result (λ old. HasAsked (D.asked self.old.disk) (D.asked self.new.disk)
-            (IsRead self.old.name.now old.text.items old.writable (option_map kind_of self.old.held) (option_map kind_of self.new.held))) }
+            (IsRead self.old.name.now (found_in old) (option_map kind_of self.old.held) (option_map kind_of self.new.held))) }
         ensures failed { IfErr result (λ _. HasAsked (D.asked self.old.disk) (D.asked self.new.disk) (IsNotRead self.old.name.now)) }
         ensures kept { OnErr result (option_map kind_of self.new.held ≡ option_map kind_of self.old.held) }
     {

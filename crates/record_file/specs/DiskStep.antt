@@ -1,5 +1,6 @@
 -- What is asked of a system of files for a record, and for the tape of a save.
 use Rattle.std.specs.Prelude.{ℕ, List, [], ◌∷◌, Bool, true, false, Option, Result, Ok, Err}
+use Rattle.std.specs.Io.KnownBytes.{Keeps}
 use Rattle.std.specs.Path.{path_buf_bytes}
 use Rattle.std.specs.declared.path.buf.PathBuf.{PathBuf}
 use Rattle.record_file.specs.declared.disk.Access.{Access}
@@ -53,3 +54,7 @@ pub data IsNameSeen (name : List ℕ) : Bool → List DiskStep → Type 0 where
 pub data IsLookAtName (name : List ℕ) : Bool → List DiskStep → Type 0 where
   SeenThere : IsLookAtName name true (Did (LookAtName name) ∷ [])
   UnseenThere : (found : Bool) → IsLookAtName name false (step_by (LookAtName name) found ∷ [])
+
+-- the file of each name holds what it held, as far as that was told
+abbrev pub HoldStill : (List ℕ → Option (List ℕ)) → (List ℕ → Option (List ℕ)) → Type 0
+HoldStill before after = (name : List ℕ) → Keeps (before name) (after name)

@@ -1,8 +1,9 @@
 //! Where files are: what is asked of the system for a record, and for the tape of a save.
 ghost use Rattle.std.specs.Prelude.{◌≡◌, [], ◌∷◌, ℕ, List, Option, None, IfOk, OnSome, ⊤};
+ghost use Rattle.std.specs.Io.KnownBytes.{Keeps};
 ghost use Rattle.record_file.specs.DiskStep.{Look, LookAtName, FindSoleFile, FindFile, Open, Hold, Link, Rename, Remove, SyncFolder, Cut, SyncFile};
 ghost use Rattle.host_devices.specs.Told.{Tells};
-ghost use Rattle.record_file.specs.DiskStep.{DiskStep, answered, resolved, step_by};
+ghost use Rattle.record_file.specs.DiskStep.{DiskStep, HoldStill, answered, resolved, step_by};
 
 use crate::file_id::{found_same, found_sole};
 use crate::locks::Locks;
@@ -69,17 +70,22 @@ pub trait Disk {
     /// Whether a file was opened under a name, and nothing was done with it since.
     ghost is_opened_as: { Self.File → List ℕ → Type 0 } = { λ _ _. ⊤ };
 
+    /// What the file that a name leads to holds, as far as the type tells.
+    ghost holds: { Self → List ℕ → Option (List ℕ) } = { λ _ _. None };
+
     /// What a name leads to.
     fn look(&mut self, name: &str) -> io::Result<Metadata>
         ensures asked { Tells (asked self.old) (asked self.new) (answered (Look name.now) result ∷ []) };
 
     /// What stands under the name itself, which may be a link.
     fn look_at_name(&mut self, name: &str) -> io::Result<Metadata>
-        ensures asked { Tells (asked self.old) (asked self.new) (answered (LookAtName name.now) result ∷ []) };
+        ensures asked { Tells (asked self.old) (asked self.new) (answered (LookAtName name.now) result ∷ []) }
+        ensures kept { HoldStill (holds self.old) (holds self.new) };
 
     /// Whether a plain file stands under the name itself, which has no other name.
     fn is_sole_file(&mut self, name: &str) -> bool
-        ensures asked { Tells (asked self.old) (asked self.new) (step_by (FindSoleFile name.now) result ∷ []) };
+        ensures asked { Tells (asked self.old) (asked self.new) (step_by (FindSoleFile name.now) result ∷ []) }
+        ensures kept { HoldStill (holds self.old) (holds self.new) };
 
     /// Whether an open file stands under the name itself.
     fn has_name(&mut self, name: &str, file: &Self::File) -> bool
@@ -89,16 +95,20 @@ pub trait Disk {
     fn resolve(&mut self, alloc: Global, name: &str) -> io::Result<PathBuf<Global>>
         ensures asked { Tells (asked self.old) (asked self.new) (resolved name.now result ∷ []) };
 
-    /// Opens a file. One of a disk that tells what it was asked tells what is written to it from there on.
+    /// Opens a file, at its front; one that is there stays as it is. One of a disk that tells what it was
+    /// asked tells what is written to it from there on.
     fn open(&mut self, access: Access, name: &str) -> io::Result<Self::File>
         ensures asked { Tells (asked self.old) (asked self.new) (answered (Open access name.now) result ∷ []) }
         ensures opened { IfOk result (λ file. is_opened_as file name.now) }
-        ensures fresh { IfOk result (λ file. OnSome (asked self.new) (Self.File.contents file ≡ Some [])) };
+        ensures fresh { IfOk result (λ file. OnSome (asked self.new) (Self.File.contents file ≡ Some [])) }
+        ensures text { IfOk result (λ file. Keeps (holds self.old name.now) (Self.File.remaining file)) }
+        ensures kept { HoldStill (holds self.old) (holds self.new) };
 
     /// Holds an open file until it is closed, which the program's death does, too. False where somebody
     /// else holds it. Where the file system knows no locks nobody can hold it, and it counts as held.
     fn hold(&mut self, file: &Self::File) -> bool
-        ensures asked { (name : List ℕ) → is_opened_as file.now name → Tells (asked self.old) (asked self.new) (step_by (Hold name) result ∷ []) };
+        ensures asked { (name : List ℕ) → is_opened_as file.now name → Tells (asked self.old) (asked self.new) (step_by (Hold name) result ∷ []) }
+        ensures kept { HoldStill (holds self.old) (holds self.new) };
 
     /// Gives a file a second name, which nothing has.
     fn link(&mut self, from: &str, to: &str) -> io::Result<()>

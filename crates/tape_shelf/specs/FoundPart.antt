@@ -50,6 +50,10 @@ pub record AreFoundIn (range : AddressRange) (text numbers : List ℕ) : Type 0 
   pub begins : BeginsWith range.from numbers text
   pub all : HasBlock range text (full numbers) → ⊥
 
+-- they are found in a text that may be what a save of the range left
+abbrev pub AreFoundInPart : AddressRange → List ℕ → List ℕ → Type 0
+AreFoundInPart range text numbers = IsPartOf range text × AreFoundIn range text numbers
+
 -- nothing is found: the text is no part of such a save, or memory was wanting
 abbrev pub IsFindingFault : AddressRange → List ℕ → ShelfFault → Type 0
 IsFindingFault range text NotOfSave = IsPartOf range text → ⊥

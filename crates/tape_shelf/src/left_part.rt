@@ -1,11 +1,11 @@
 //! The file beside a tape that an earlier save left, and that another one goes on with.
-ghost use Rattle.std.specs.Prelude.{◌≡◌, ◌∷◌, List, ℕ, Some, [], IfErr, IfOk, OnErr, OnOk, OnSome, false};
+ghost use Rattle.std.specs.Prelude.{◌≡◌, ◌∷◌, List, ℕ, Some, [], IfErr, IfOk, IfSome, OnErr, OnOk, OnSome, false};
 ghost use Rattle.std.specs.String.{string_bytes};
 ghost use Rattle.host_devices.specs.Told.{HasAsked};
-ghost use Rattle.record_file.specs.DiskStep.{Did, FindFile, FindSoleFile, Hold, Open};
+ghost use Rattle.record_file.specs.DiskStep.{Did, FindFile, FindSoleFile, Hold, HoldStill, Open};
 ghost use Rattle.record_file.specs.Folder.{IsFolderOf};
 ghost use Rattle.record_file.specs.declared.disk.Access.TheVariants.{ReadOnly, ReadWrite};
-ghost use Rattle.tape_shelf.specs.FoundPart.{FillBlocks};
+ghost use Rattle.tape_shelf.specs.FoundPart.{AreFoundInPart, FillBlocks};
 ghost use Rattle.tape_shelf.specs.ShelfDisk.{LeaveAll, part_name, resuming, taking_left};
 
 use crate::found_part::{Found, found_in};
@@ -29,6 +29,7 @@ pub(crate) fn take_left<D: Disk>(
     ensures new { IfOk result (λ left. left.0.length ≡ 0) }
     ensures kept { IfOk result (λ left. left.0.kept ≡ false → left.1.items ≡ []) }
     ensures found { IfOk result (λ left. FillBlocks range left.1.items) }
+    ensures left { IfOk result (λ left. IfSome (D.holds disk.old (part_name name.now)) (λ text. AreFoundInPart range text left.1.items)) }
     ensures fresh { IfOk result (λ left. OnSome (D.asked disk.new) (D.File.contents left.0.file ≡ Some [])) }
     ensures untouched { IfOk result (λ left. OnSome (D.asked disk.new) (D.File.contents left.0.held ≡ Some [])) }
     ensures asked { IfOk result (λ left. (folder : List ℕ) × D.is_opened_as left.0.folder folder × IsFolderOf name.now folder
@@ -67,6 +68,7 @@ fn take_named<D: Disk>(
 ) -> Result<(D::File, D::File, Found), ShelfFault>
     ensures kept { IfOk result (λ left. left.2.kept ≡ false → left.2.numbers.items ≡ []) }
     ensures found { IfOk result (λ left. FillBlocks range left.2.numbers.items) }
+    ensures left { IfOk result (λ left. IfSome (D.holds disk.old name.now) (λ text. AreFoundInPart range text left.2.numbers.items)) }
     ensures fresh { IfOk result (λ left. OnSome (D.asked disk.new) (D.File.contents left.1 ≡ Some [])) }
     ensures untouched { IfOk result (λ left. OnSome (D.asked disk.new) (D.File.contents left.0 ≡ Some [])) }
     ensures asked { IfOk result (λ left. HasAsked (D.asked disk.old) (D.asked disk.new) (λ steps. steps ≡ taking_left name.now (D.File.contents left.0))) }
@@ -91,6 +93,7 @@ fn hold_left<D: Disk>(disk: &mut D, name: &str) -> Result<D::File, ShelfFault>
     ensures untouched { IfOk result (λ file. OnSome (D.asked disk.new) (D.File.contents file ≡ Some [])) }
     ensures asked { OnOk result (HasAsked (D.asked disk.old) (D.asked disk.new) (λ steps. steps ≡
         Did (FindSoleFile name.now) ∷ Did (Open ReadWrite name.now) ∷ Did (Hold name.now) ∷ [])) }
+    ensures kept { HoldStill (D.holds disk.old) (D.holds disk.new) }
     ensures failed { OnErr result (HasAsked (D.asked disk.old) (D.asked disk.new) LeaveAll) }
 {
     if !disk.is_sole_file(name) {
@@ -117,6 +120,7 @@ fn read_left<D: Disk>(
 ) -> Result<Found, ShelfFault>
     ensures kept { IfOk result (λ found. found.kept ≡ false → found.numbers.items ≡ []) }
     ensures found { IfOk result (λ found. FillBlocks range found.numbers.items) }
+    ensures left { IfOk result (λ found. IfSome (D.holds disk.old name.now) (λ text. AreFoundInPart range text found.numbers.items)) }
     ensures asked { OnOk result (HasAsked (D.asked disk.old) (D.asked disk.new) (λ steps. steps ≡ Did (Open ReadOnly name.now) ∷ [])) }
     ensures failed { OnErr result (HasAsked (D.asked disk.old) (D.asked disk.new) LeaveAll) }
 {

@@ -103,6 +103,8 @@ impl<D: Disk> Shelf for NewFile<'_, D> {
 
     ghost is_opened_as = { λ shelf. IsFolderOpened D.is_opened_as shelf.part };
 
+    ghost left = { λ shelf. D.holds shelf.disk (part_name shelf.name.now) };
+
     // `PartIsThere` also comes where another save writes the tape of this name.
     fn reserve(&mut self, alloc: Global, length: usize) -> Result<(), ShelfFault> {
         find_free(&mut self.disk, self.name)?;

@@ -13,6 +13,8 @@ impl<'c, T: Disk> Disk for Watched<'c, T> {
 
     ghost is_opened_as = { λ watched name. T.is_opened_as watched.file name };
 
+    ghost holds = { λ watched. T.holds watched.part };
+
     fn look(&mut self, name: &str) -> io::Result<Metadata> {
         self.witness.of_question(self.part.look(name))
     }

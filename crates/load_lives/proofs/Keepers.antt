@@ -27,15 +27,16 @@ use Rattle.load_engine.specs.declared.stop.Stop.{Stop}
 use Rattle.load_engine.specs.declared.stop.Stop.TheVariants.{Ended, LineFailed, KeepFailed, TurnsOver}
 use Rattle.load_engine.specs.Failing.{keep_fault}
 use Rattle.load_engine.specs.Keeping.{KeepsEach, KeptBy, keeping}
-use Rattle.load_engine.specs.Session.{IsKeptNews}
+use Rattle.load_engine.specs.Session.{IsKeptNews, Session}
 use Rattle.load_engine.proofs.News.{led_forward}
 use Rattle.load_engine.proofs.Sessions.{keys_join}
 use Rattle.load_record.specs.declared.version.Version.TheVariants.{Second}
 use Rattle.load_record.specs.Keeper.{Keeper, HasKept, HasCutShort, HoldsRecord}
 use Rattle.load_record.specs.RecordText.{mark_text, record_text, second_piece, words_text}
 use Rattle.load_record.proofs.Keeping.{known_text, wrote_adds}
-use Rattle.load_lives.specs.Stops.{WentOut, IsBeginning}
-use Rattle.load_lives.specs.Keepers.{WentOutAt, HasLeft, KeepersLeave, record_calls}
+use Rattle.load_lives.specs.Stops.{WentOut, IsBeginning, decided, opening, turns_of}
+use Rattle.load_lives.specs.Keepers.{WentOutAt, KeptLoad, HasLeft, KeepersLeave, record_calls}
+use Rattle.load_lives.specs.Lives.{GoesOnFrom}
 use Rattle.load_lives.proofs.Records.{says_sound}
 use Rattle.load_lives.proofs.Stopping.{unsent_out, records_are_fronts}
 
@@ -241,34 +242,59 @@ said_of (LineFailed fault) all told items out = out
 said_of TurnsOver all told items out = out
 said_of (Ended end) all told items out = out
 
-whole_left : (plan : PlanValue) (progress : Progress) (core : Core) (items : List Item) (old : List ℕ) (keep : Keeper) → progress.going ≡ false → keep.text ≡ Some (record_text Second plan core.verified core.going) →
-    (Contains (keys_of items) go → core.going ≡ true) → HasLeft plan progress core items old keep
-whole_left plan progress core items old keep unset is sets = (
-  record_text Second plan core.verified core.going,
-  is,
-  record { cut = inr ([], append-nil (record_text Second plan core.verified core.going)); whole = λ has. ap (record_text Second plan core.verified) (sets has); alone = λ set. absurd (cc) },
-)
+whole_left : (load : KeptLoad) → load.run.progress.going ≡ false → load.keep'.text ≡ Some (record_text Second load.run.plan load.run.core.verified load.run.core.going) →
+    (Contains (keys_of load.run.items) go → load.run.core.going ≡ true) → HasLeft load
+whole_left load unset is sets =
+    let core : Core = load.run.core in
+    record {
+      now = record_text Second load.run.plan core.verified core.going;
+      told = is;
+      left = record {
+        cut = inr ([], append-nil (record_text Second load.run.plan core.verified core.going));
+        whole = λ has. ap (record_text Second load.run.plan core.verified) (sets has);
+        alone = λ set. absurd (cc);
+      };
+    }
 
-leaves : (stop : Stop) (plan : PlanValue) (progress : Progress) (core : Core) (told items : List Item) (kept : List Kept) (all : List Item) (old : List ℕ) (keep : Keeper) → progress.going ≡ false → HoldsNow stop plan core.verified core.going keep →
-    (Contains (keys_of items) go → core.going ≡ true) → WentOutAt stop all told items → (Contains (keys_of told) go → Contains kept Go) → NoMark stop kept → HasLeft plan progress core items old keep
-leaves (KeepFailed fault) plan progress core told items kept all old keep unset (text, is, front) sets out first none = (
-  text,
-  is,
-  record { cut = inr front; whole = λ has. absurd (none (first (subst (λ list. Contains (keys_of list) go) out has))); alone = λ set. absurd (cc) },
-)
-leaves (LineFailed fault) plan progress core told items kept all old keep unset is sets out first none = whole_left plan progress core items old keep unset is sets
-leaves TurnsOver plan progress core told items kept all old keep unset is sets out first none = whole_left plan progress core items old keep unset is sets
-leaves (Ended end) plan progress core told items kept all old keep unset is sets out first none = whole_left plan progress core items old keep unset is sets
+leaves : (stop : Stop) (load : KeptLoad) (all told : List Item) (kept : List Kept) → load.run.progress.going ≡ false → HoldsNow stop load.run.plan load.run.core.verified load.run.core.going load.keep' →
+    (Contains (keys_of load.run.items) go → load.run.core.going ≡ true) → WentOutAt stop all told load.run.items → (Contains (keys_of told) go → Contains kept Go) → NoMark stop kept → HasLeft load
+leaves (KeepFailed fault) load all told kept unset (text, is, front) sets out first none = record {
+  now = text;
+  told = is;
+  left = record { cut = inr front; whole = λ has. absurd (none (first (subst (λ list. Contains (keys_of list) go) out has))); alone = λ set. absurd (cc) };
+}
+leaves (LineFailed fault) load all told kept unset is sets out first none = whole_left load unset is sets
+leaves TurnsOver load all told kept unset is sets out first none = whole_left load unset is sets
+leaves (Ended end) load all told kept unset is sets out first none = whole_left load unset is sets
 
 pub keepers_leave : KeepersLeave
-keepers_leave plan progress patience turns stop core before after keep keep' items old fits long goes unset holds session out by =
-    leaves stop plan progress core session.said items session.kept (dialogue first session.heard) old keep' unset
-    (holds_now stop plan progress.verified core.verified words later core.going keep keep' holds (sym (take-append-drop (core.verified - progress.verified) (drop progress.verified plan.words))) count
-    (subst (λ (news : List Kept). KeptBy record_calls (keeping news (keep_fault (Some stop))) keep keep') news by))
-    sets out session.mark_first (no_mark_kept stop words core.going (news_between first core) session.kept news session.news)
+keepers_leave load was stopped by =
+    leaves load.stop load said session.said session.kept was.no_mark
+    (holds_now load.stop plan progress.verified core.verified words later core.going load.keep load.keep' was.holds (sym (take-append-drop (core.verified - progress.verified) (drop progress.verified plan.words))) count
+    (subst (λ (news : List Kept). KeptBy record_calls (keeping news (keep_fault (Some load.stop))) load.keep load.keep') news by))
+    sets stopped.out session.mark_first (no_mark_kept load.stop words core.going (news_between first core) session.kept news session.news)
   where
+    plan : PlanValue
+    plan = load.run.plan
+
+    progress : Progress
+    progress = load.run.progress
+
+    core : Core
+    core = load.run.core
+
     first : Core
-    first = begun plan progress.verified progress.going patience
+    first = opening load.run
+
+    goes : GoesOnFrom plan load.text progress
+    goes = stopped.driven.goes_on
+
+    session : Session load.run.turns (turns_of load.run (Some load.stop)) load.run.before load.run.after
+    session = stopped.driven.session
+
+    -- all that its core decided to say
+    said : List Item
+    said = decided stopped.driven
 
     words : List WordValue
     words = take (core.verified - progress.verified) (drop progress.verified plan.words)
@@ -278,8 +304,8 @@ keepers_leave plan progress patience turns stop core before after keep keep' ite
 
     host : IsHost first
     host =
-        let sound = says_sound plan old goes.recorded goes.says in
-        begun_kept plan progress.verified progress.going patience fits (omega (arith, goes.fewer, sound.within)) long (λ set. (sound.marked (sym goes.same_mark ∙ set)).1)
+        let sound = says_sound plan load.text goes.recorded goes.says in
+        begun_kept plan progress.verified progress.going load.run.patience was.fits (omega (arith, goes.fewer, sound.within)) stopped.driven.patient (λ set. (sound.marked (sym goes.same_mark ∙ set)).1)
 
     within : core.verified ≤ length plan.words
     within = subst (λ (p : PlanValue). core.verified ≤ length p.words) (ap (λ (c : Core). c.plan) session.core ∙ led_plan first session.heard) (subst IsHost (sym session.core) (led_kept first session.heard host)).within
@@ -291,9 +317,9 @@ keepers_leave plan progress patience turns stop core before after keep keep' ite
     count = omega (arith, within, more, length-take (core.verified - progress.verified) (drop progress.verified plan.words), length-drop progress.verified plan.words)
 
     news : news_between first core ≡ map Word words ++ mark_between false core.going
-    news = ap (λ g. map Word words ++ mark_between g core.going) unset
+    news = ap (λ g. map Word words ++ mark_between g core.going) was.no_mark
 
-    sets : Contains (keys_of items) go → core.going ≡ true
+    sets : Contains (keys_of load.run.items) go → core.going ≡ true
     sets has =
-        let u = unsent_out (Some stop) (turns - length session.heard) (dialogue first session.heard) session.said items session.items (said_of stop (dialogue first session.heard) session.said items out) in
-        ap (λ (c : Core). c.going) session.core ∙ said_marked first session.heard items u.0 host u.1 has
+        let u = unsent_out (Some load.stop) (load.run.turns - length session.heard) said session.said load.run.items session.items (said_of load.stop said session.said load.run.items stopped.out) in
+        ap (λ (c : Core). c.going) session.core ∙ said_marked first session.heard load.run.items u.0 host u.1 has

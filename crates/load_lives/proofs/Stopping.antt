@@ -4,7 +4,7 @@ use Rattle.std.proofs.Math.Seq.{take-add}
 use Rattle.tape_image.specs.Plan.{PlanValue}
 use Rattle.tape_image.specs.Word.{WordValue}
 use Rattle.host_core.specs.declared.heard.Heard.{Heard}
-use Rattle.host_core.specs.Core.{Core, begun}
+use Rattle.host_core.specs.Core.{Core}
 use Rattle.host_devices.specs.declared.item.Item.{Item}
 use Rattle.host_devices.specs.declared.item.Item.TheVariants.{Sent, Heard as Came}
 use Rattle.host_devices.specs.Dialogue.{LacksKey, said, dialogue}
@@ -17,7 +17,7 @@ use Rattle.load_record.specs.Lines.{header}
 use Rattle.load_record.specs.RecordText.{mark_text, open_run, pieces, record_text, run_over, second_piece, words_text}
 use Rattle.load_record.proofs.Pieces.{pieces-append, words_text-more, words_text-of}
 use Rattle.load_lives.specs.Lives.{Life, IsLeft}
-use Rattle.load_lives.specs.Stops.{WentOut, SessionsAreLives, FrontsAreStopped, IsBeginning, RecordsAreFronts}
+use Rattle.load_lives.specs.Stops.{WentOut, SessionsAreLives, FrontsAreStopped, IsBeginning, IsStoppedAt, RecordsAreFronts, decided}
 use Rattle.load_lives.proofs.LastTurns.{Broken, broken}
 use Rattle.load_lives.proofs.LastTurns.Broken.{between_turns, in_turn}
 
@@ -43,37 +43,40 @@ unsent_out stop left all told items s (inl same) = subst (λ (list : List Item).
 unsent_out stop left all told items s (inr whole) = all_said all items whole
 
 pub sessions_are_lives : SessionsAreLives
-sessions_are_lives plan progress patience turns stop core before after items old new long goes_on session out passes left =
-    let first : Core = begun plan progress.verified progress.going patience in
-    let u = unsent_out stop (turns - length session.heard) (dialogue first session.heard) session.said items session.items out in
-    let life : Life = record { patience = patience; progress = progress; heard = session.heard; items = items; unsent = u.0 } in (
-      life,
-      sym session.core,
-      refl,
-      record {
-        patient = long;
-        goes_on = goes_on;
+sessions_are_lives load was passed left =
+    let run = load.run in
+    let session = was.driven.session in
+    let u = unsent_out load.stop (run.turns - length session.heard) (decided was.driven) session.said run.items session.items was.out in
+    let life : Life = record { patience = run.patience; progress = run.progress; heard = session.heard; items = run.items; unsent = u.0 } in
+    record {
+      life = life;
+      core = sym session.core;
+      items = refl;
+      is_life = record {
+        patient = was.driven.patient;
+        goes_on = was.driven.goes_on;
         stopped = u.1;
-        line = passes;
-        left = subst (λ (c : Core). IsLeft plan progress c items old.text new.text) session.core left;
-      },
-    )
+        line = passed;
+        left = subst (λ (c : Core). IsLeft run.plan run.progress c run.items load.found.text load.left.text) session.core left;
+      };
+    }
 
 -- ---- a host that is killed
 
 pub fronts_are_stopped : FrontsAreStopped
 fronts_are_stopped core things front rest is = stopped (broken core things front rest is)
   where
-    stopped : Broken core things front rest → (fewer : List Heard) × (more : List Heard) × (unsent : Option ℕ) × (things ≡ fewer ++ more) × (dialogue core fewer ≡ front ++ said unsent)
-    stopped (between_turns first more split whole left) = (first, more, None, split, sym whole ∙ sym (append-nil front))
-    stopped (in_turn first last more key split cut sends left) = (
-      first ++ last ∷ [],
-      more,
-      Some key,
-      split ∙ sym (append_assoc first (last ∷ []) more),
-      dialogue_join core first (last ∷ []) ∙ (ap (λ k. dialogue core first ++ Came last ∷ (said k ++ [])) sends
-          ∙ (sym (append_assoc (dialogue core first) (Came last ∷ []) (Sent key ∷ [])) ∙ ap (λ list. list ++ Sent key ∷ []) (sym cut))),
-    )
+    stopped : Broken core things front rest → IsStoppedAt core things front
+    stopped (between_turns first more split whole left) =
+        record { fewer = first; more = more; unsent = None; heard = split; says = sym whole ∙ sym (append-nil front) }
+    stopped (in_turn first last more key split cut sends left) = record {
+      fewer = first ++ last ∷ [];
+      more = more;
+      unsent = Some key;
+      heard = split ∙ sym (append_assoc first (last ∷ []) more);
+      says = dialogue_join core first (last ∷ []) ∙ (ap (λ k. dialogue core first ++ Came last ∷ (said k ++ [])) sends
+          ∙ (sym (append_assoc (dialogue core first) (Came last ∷ []) (Sent key ∷ [])) ∙ ap (λ list. list ++ Sent key ∷ []) (sym cut)));
+    }
 
 -- ---- what the file holds
 

@@ -1,20 +1,15 @@
 -- The record that a life leaves, by what the engine's contract says of a keeper that writes it.
-use Rattle.std.specs.Prelude.{◌≡◌, ℕ, ◌^◌, ◌<◌, false, List, Some, None}
-use Rattle.tape_image.specs.Plan.{PlanValue, IsPlan}
-use Rattle.host_core.specs.declared.progress.Progress.{Progress}
-use Rattle.host_core.specs.Core.{Core, begun}
+use Rattle.std.specs.Prelude.{◌≡◌, ℕ, false, List, Some, None}
+use Rattle.tape_image.specs.Plan.{IsPlan}
 use Rattle.host_devices.specs.declared.item.Item.{Item}
 use Rattle.host_devices.specs.Devices.{KeeperCalls}
-use Rattle.host_devices.specs.Dialogue.{dialogue}
 use Rattle.load_engine.specs.declared.stop.Stop.{Stop}
 use Rattle.load_engine.specs.declared.stop.Stop.TheVariants.{Ended, LineFailed, KeepFailed, TurnsOver}
 use Rattle.load_engine.specs.Driven.{turns_give}
 use Rattle.load_engine.specs.Keeping.{KeptBy}
-use Rattle.load_engine.specs.Run.{driving}
-use Rattle.load_engine.specs.Session.{Session, SessionTold}
 use Rattle.load_record.specs.Keeper.{Keeper, HasKept, HasCutShort, HoldsRecord, fault_now}
-use Rattle.load_lives.specs.Lives.{GoesOnFrom, IsLeft}
-use Rattle.load_lives.specs.Stops.{WentOut}
+use Rattle.load_lives.specs.Lives.{IsLeft}
+use Rattle.load_lives.specs.Stops.{EngineRun, HasRun, WentOut, decided, turns_of}
 
 -- what went out of a dialogue, by how the engine stopped: where the keeper failed the last key was never sent
 abbrev pub WentOutAt : Stop → List Item → List Item → List Item → Type 0
@@ -33,17 +28,35 @@ record_calls = record {
   fails = HasCutShort;
 }
 
+-- a load whose keeper writes the record, up to where it stopped: the text that the record had before, and the keeper before and after
+pub record KeptLoad : Type 0 where
+  pub run : EngineRun
+  pub stop : Stop
+  pub text : List ℕ
+  pub keep : Keeper
+  pub keep' : Keeper
+
+-- the keeper held the record of the first words of the load's plan, and no mark
+pub record WasBegun (load : KeptLoad) : Type 0 where
+  pub fits : IsPlan load.run.plan
+  pub no_mark : load.run.progress.going ≡ false
+  pub holds : HoldsRecord load.keep load.run.plan load.run.progress.verified
+
+-- the engine stopped so, and this went out of its dialogue
+pub record WasStopped (load : KeptLoad) : Type 0 where
+  pub driven : HasRun load.run load.text (Some load.stop)
+  pub out : WentOutAt load.stop (decided driven) driven.session.said load.run.items
+
+-- the keeper was told of each word and of the mark
+abbrev pub WasKept : KeptLoad → Type 0
+WasKept load = KeptBy record_calls (turns_give (turns_of load.run (Some load.stop))) load.keep load.keep'
+
 -- the keeper's writer tells what it holds, and this is the record that a life leaves
-abbrev pub HasLeft : PlanValue → Progress → Core → List Item → List ℕ → Keeper → Type 0
-HasLeft plan progress core items old keep = (text : List ℕ) × (keep.text ≡ Some text) × IsLeft plan progress core items old text
+pub record HasLeft (load : KeptLoad) : Type 0 where
+  pub now : List ℕ
+  pub told : load.keep'.text ≡ Some now
+  pub left : IsLeft load.run.plan load.run.progress load.run.core load.run.items load.text now
 
 -- wherever the engine stopped, a keeper that held the record of the life's first words, and no mark, holds the record that the life leaves
 abbrev pub KeepersLeave : Type 0
-KeepersLeave =
-    (plan : PlanValue) (progress : Progress) (patience : ℕ) (turns : ℕ) (stop : Stop) (core : Core)
-    (before after : SessionTold) (keep keep' : Keeper) (items : List Item) (old : List ℕ) →
-    IsPlan plan → patience < 2 ^ 32 → GoesOnFrom plan old progress → progress.going ≡ false → HoldsRecord keep plan progress.verified →
-    (session : Session turns (driving (begun plan progress.verified progress.going patience) core (Some stop)) before after) →
-    WentOutAt stop (dialogue (begun plan progress.verified progress.going patience) session.heard) session.said items →
-    KeptBy record_calls (turns_give (driving (begun plan progress.verified progress.going patience) core (Some stop))) keep keep' →
-    HasLeft plan progress core items old keep'
+KeepersLeave = (load : KeptLoad) → WasBegun load → WasStopped load → WasKept load → HasLeft load

@@ -12,7 +12,8 @@ use Rattle.exchange_core.specs.declared.exchange.Exchange.{Exchange}
 use Rattle.exchange_core.specs.Exchange.{advance, begun as exchange_begun}
 use Rattle.exchange_law.specs.Law.{dialogue as exchange_dialogue, said_all}
 use Rattle.load_lives.specs.StubParts.{AreStubParts, StubPart, bringer, exchange_said, starts, stubs_said, verified_after}
-use Rattle.machine_load.specs.Fronts.{StubFrontsAreStopped}
+use Rattle.load_lives.specs.Stops.{IsStoppedAt}
+use Rattle.machine_load.specs.Fronts.{AreStoppedAt, StubFrontsAreStopped}
 
 -- a front of two lists is one of the first, or the first and a front of the second
 cut : {A : Type 0} (xs ys front rest : List A) → xs ++ ys ≡ front ++ rest → ((more : List A) × (xs ≡ front ++ more)) ⊎ ((later : List A) × (front ≡ xs ++ later) × (ys ≡ later ++ rest))
@@ -75,7 +76,7 @@ key_said None = refl
 key_said (Some key) = refl
 
 pub stub_fronts : StubFrontsAreStopped
-stub_fronts program tape v [] front rest are is = ([], [], tt, none front is)
+stub_fronts program tape v [] front rest are is = record { fewer = []; unsent = []; parts = tt; says = none front is }
   where
     none : (front : List Item) → [] ≡ front ++ rest → [] ≡ front ++ []
     none [] e = refl
@@ -86,13 +87,14 @@ stub_fronts program tape v (part ∷ more) front rest are is =
       | inr behind ↦ elim (cut (exchange_said tape v part) later behind.0 rest behind.2) [
         | inl half ↦ exchanged behind.0 behind.1 (where_cut (starts part) tape.image part.chunks (exchange_begun v) part.exchanged behind.0 half.0 half.1)
         | inr all ↦
-            let fewer = stub_fronts program tape (verified_after tape v part) more all.0 rest are.2 all.2 in (
-              part ∷ fewer.0,
-              fewer.1,
-              (are.0, are.1, fewer.2),
-              ap (λ l. talk ++ (exchange_said tape v part ++ l)) fewer.3 ∙ (ap (λ l. talk ++ l) (sym (append_assoc (exchange_said tape v part) all.0 (said_all fewer.1)) ∙ ap (λ l. l ++ said_all fewer.1) (sym all.1))
-                  ∙ (sym (append_assoc talk behind.0 (said_all fewer.1)) ∙ ap (λ l. l ++ said_all fewer.1) (sym behind.1))),
-            )
+            let s = stub_fronts program tape (verified_after tape v part) more all.0 rest are.2 all.2 in
+            record {
+              fewer = part ∷ s.fewer;
+              unsent = s.unsent;
+              parts = (are.0, are.1, s.parts);
+              says = ap (λ l. talk ++ (exchange_said tape v part ++ l)) s.says ∙ (ap (λ l. talk ++ l) (sym (append_assoc (exchange_said tape v part) all.0 (said_all s.unsent)) ∙ ap (λ l. l ++ said_all s.unsent) (sym all.1))
+                  ∙ (sym (append_assoc talk behind.0 (said_all s.unsent)) ∙ ap (λ l. l ++ said_all s.unsent) (sym behind.1)));
+            }
       ]
     ]
   where
@@ -102,23 +104,25 @@ stub_fronts program tape v (part ∷ more) front rest are is =
     later : List Item
     later = stubs_said tape (verified_after tape v part) more
 
-    typed : (fewer : List Heard) × (more : List Heard) × (unsent : Option ℕ) × (part.brought ≡ fewer ++ more) × (dialogue (bringer part) fewer ≡ front ++ said unsent)
-        → (fewer : List StubPart) × (unsent : List ℕ) × AreStubParts program tape v fewer × (stubs_said tape v fewer ≡ front ++ said_all unsent)
-    typed (fewer, more, unsent, split, said_is) =
-        let less : StubPart = record part { brought = fewer; exchanged = [] } in (
-          less ∷ [],
-          option_to_list unsent,
-          (are.0, are.1, tt),
-          ap (λ l. dialogue (bringer part) fewer ++ (l ++ [])) (none_exchanged (starts less) [] refl) ∙ (append-nil (dialogue (bringer part) fewer) ∙ (said_is ∙ ap (λ l. front ++ l) (key_said unsent))),
-        )
+    typed : IsStoppedAt (bringer part) part.brought front → AreStoppedAt program tape v front
+    typed s =
+        let less : StubPart = record part { brought = s.fewer; exchanged = [] } in
+        record {
+          fewer = less ∷ [];
+          unsent = option_to_list s.unsent;
+          parts = (are.0, are.1, tt);
+          says = ap (λ l. dialogue (bringer part) s.fewer ++ (l ++ [])) (none_exchanged (starts less) [] refl)
+              ∙ (append-nil (dialogue (bringer part) s.fewer) ∙ (s.says ∙ ap (λ l. front ++ l) (key_said s.unsent)));
+        }
 
     exchanged : (within : List Item) → front ≡ talk ++ within
         → (fewer : List Heard) × (unsent : List ℕ) × ((if starts part then exchange_dialogue tape.image part.chunks (exchange_begun v) fewer else []) ≡ within ++ said_all unsent)
-        → (fewer : List StubPart) × (unsent : List ℕ) × AreStubParts program tape v fewer × (stubs_said tape v fewer ≡ front ++ said_all unsent)
+        → AreStoppedAt program tape v front
     exchanged within front_is (fewer, unsent, said_is) =
-        let less : StubPart = record part { exchanged = fewer } in (
-          less ∷ [],
-          unsent,
-          (are.0, are.1, tt),
-          ap (λ l. talk ++ l) (append-nil (exchange_said tape v less) ∙ said_is) ∙ (sym (append_assoc talk within (said_all unsent)) ∙ ap (λ l. l ++ said_all unsent) (sym front_is)),
-        )
+        let less : StubPart = record part { exchanged = fewer } in
+        record {
+          fewer = less ∷ [];
+          unsent = unsent;
+          parts = (are.0, are.1, tt);
+          says = ap (λ l. talk ++ l) (append-nil (exchange_said tape v less) ∙ said_is) ∙ (sym (append_assoc talk within (said_all unsent)) ∙ ap (λ l. l ++ said_all unsent) (sym front_is));
+        }

@@ -21,6 +21,7 @@ use Rattle.load_lives.specs.Lives.{Life, WireAndRecord, GoesOnFrom, IsLeft, Pass
 use Rattle.load_lives.specs.Stops.{IsBeginning, WentOut}
 use Rattle.load_lives.proofs.Records.{says_sound}
 use Rattle.load_lives.proofs.Stopping.{unsent_out}
+use Rattle.request_values.specs.declared.options.LoadOptions.{LoadOptions}
 use Rattle.load_record.specs.declared.version.Version.TheVariants.{Second}
 use Rattle.load_record.specs.Keeper.{Keeper, HoldsRecord}
 use Rattle.load_record.specs.Reading.{Says}
@@ -39,14 +40,14 @@ use Rattle.host_devices.specs.Devices.{Devices, LineTold, devices}
 use Rattle.looking_law.specs.RecordLook.{HasLooked}
 use Rattle.sample_looks.specs.declared.finding.Finding.{Finding}
 use Rattle.sample_looks.specs.declared.finding.Finding.TheVariants.{AllStand, Stale, Unfinished}
-use Rattle.sample_looks.specs.LooksFirst.{LookingLife, IsLookingLife}
+use Rattle.sample_looks.specs.LooksFirst.{LookingLife, IsLookingLife, SampleLooks}
 use Rattle.sample_looks.proofs.OfRecord.{are_of_the_record}
 use Rattle.machine_load.specs.declared.looks.Looks.{Looks}
 use Rattle.machine_load.specs.declared.stubs.Stubs.{Stubs}
-use Rattle.machine_load.specs.Asked.{opened_as, ◌⇒◌}
+use Rattle.machine_load.specs.Asked.{opened_as, task, ◌⇒◌}
 use Rattle.machine_load.specs.Driving.{IsDrivenOn}
 use Rattle.machine_load.specs.Lives.{GoesOut, HostGoesOut, LooksGoOut, PartsGoOut, StubsGoOut, LoadsAreFastLives, LoadsAreLives, of_file}
-use Rattle.machine_load.specs.Load.{SurroundingsTold, Finish, IsBusyLife, IsHeldUp, IsIdleLife, IsLived, words_taken}
+use Rattle.machine_load.specs.Load.{SurroundingsTold, Finish, IsBusyLife, IsLoad, IsHeldUp, IsIdleLife, IsLived, words_taken}
 use Rattle.machine_load.specs.Looks.{AreLooks, vouched_for}
 use Rattle.machine_load.specs.Parts.{AreBrought, AreKept, AreParts, IsDrivenUnless, IsKeptBehind, Unless, course, stubs_of, told_by, turns_of}
 use Rattle.load_engine.specs.Driven.{IsDriven, IsKeptBy, turns_give}
@@ -119,8 +120,10 @@ less_patience patience spent long = omega (arith, long)
 of_record : (plan : PlanValue) (v patience : ℕ) (recorded : Progress) (looks : Looks) (before after : LineTold) (items : List Item) → patience < 2 ^ 32 → v ≤ recorded.verified → false ≡ recorded.going
     → (l : AreLooks (begun plan v false patience) looks before after) → LooksGoOut l items → HasLooked plan recorded items
 of_record plan v patience recorded looks before after items long fewer same l out =
-    let looked : HasLooked plan (record { verified = v; going = false }) items =
-    are_of_the_record plan (record { verified = v; going = false }) l.samples patience most_turns looks.stop l.looked.reader before.said after.said items refl l.of_record l.asked long l.looked.inquired.turns.session out in record {
+    let sampled : SampleLooks = record { plan = plan; recorded = record { verified = v; going = false }; samples = l.samples; patience = patience; items = items } in
+    let looked : HasLooked plan sampled.recorded items =
+    are_of_the_record sampled (record { unmarked = refl; samples = l.of_record; asked = l.asked; patient = long })
+    (record { turns = most_turns; stop = looks.stop; last = l.looked.reader; line = before.said; line' = after.said; inquired = l.looked.inquired.turns.session; out = out }) in record {
       unmarked = sym same;
       addresses = looked.addresses;
       asked = looked.asked;
@@ -334,20 +337,32 @@ module _ (plan : PlanValue) (v patience : ℕ) (told : Option (List ℕ)) (betwe
   fast_lived going goes (inr (inr life)) (looked, out) = driven_fast going goes life looked out
 
 pub loads_are_fast_lives : LoadsAreFastLives
-loads_are_fast_lives plan options before after finish load looks front rest old new fits long was is out passes =
-    subst (λ (core : Core). (life : IsLived (IsDrivenOn of_file) (opened_as core options.fast load.writable) (load.between ⇒ after) finish) → GoesOut life looks front rest → FastLives plan finish.core looks front rest old new) (sym load.opened.opening.core_is)
-    (fast_lived plan (words_taken options.recheck said) options.patience before.record_text load.between after finish looks front rest old new fits long was load.opened.record_read is passes said.going goes) load.life out
+loads_are_fast_lives load old new made passes = record { life = l.0; core = l.1; looks = l.2; front = l.3; rest = l.4; is_life = l.5 }
   where
+    plan : PlanValue
+    plan = load.plan
+
+    options : LoadOptions
+    options = load.options
+
+    promised : IsLoad (IsDrivenOn of_file) (task plan options) (load.before ⇒ load.after) load.finish
+    promised = made.promised
+
     said : Progress
-    said = load.opened.opening.said
+    said = promised.opened.opening.said
 
     goes : GoesOnFrom plan old.text (record { verified = words_taken options.recheck said; going = said.going })
     goes = record {
       recorded = said;
-      says = subst (λ text. Says plan text (Ok said)) (told_text before.record_text load.opened.opening.opened.text old.text load.opened.opening.opened.is_record was) load.opened.opening.opened.says;
+      says = subst (λ text. Says plan text (Ok said)) (told_text load.before.record_text promised.opened.opening.opened.text old.text promised.opened.opening.opened.is_record made.found) promised.opened.opening.opened.says;
       fewer = fewer (options.recheck && not said.going) said.verified;
       same_mark = refl;
     }
+
+    l : FastLives plan load.finish.core load.looks load.front load.rest old new
+    l =
+        subst (λ (core : Core). (life : IsLived (IsDrivenOn of_file) (opened_as core options.fast promised.writable) (promised.between ⇒ load.after) load.finish) → GoesOut life load.looks load.front load.rest → FastLives plan load.finish.core load.looks load.front load.rest old new) (sym promised.opened.opening.core_is)
+        (fast_lived plan (words_taken options.recheck said) options.patience load.before.record_text promised.between load.after load.finish load.looks load.front load.rest old new made.fits made.patient made.found promised.opened.record_read made.left passes said.going goes) promised.life made.out
 
 -- ---- a life at a machine
 
@@ -445,18 +460,33 @@ module _ (plan : PlanValue) (v patience : ℕ) (told : Option (List ℕ)) (betwe
   lived going goes (inr (inr life)) (looked, out) = driven_life going goes life looked out
 
 pub loads_are_lives : LoadsAreLives
-loads_are_lives plan options before after finish load looks items old new plain fits long was is out passes =
-    subst (λ (core : Core). (life : IsLived (IsDrivenOn of_file) (opened_as core options.fast load.writable) (load.between ⇒ after) finish) → GoesOut life looks [] items → Lives plan finish.core looks items old new) (sym load.opened.opening.core_is)
-    (subst (λ fast. (life : IsLived (IsDrivenOn of_file) (opened_as (begun plan (words_taken options.recheck said) said.going options.patience) fast load.writable) (load.between ⇒ after) finish) → GoesOut life looks [] items → Lives plan finish.core looks items old new) (sym plain)
-    (lived plan (words_taken options.recheck said) options.patience before.record_text load.between after finish looks items old new fits long was load.opened.record_read is passes said.going goes)) load.life out
+loads_are_lives load old new plain made passes = record { life = l.0; core = l.1; looks = l.2; rest = l.3; is_life = l.4 }
   where
+    plan : PlanValue
+    plan = load.plan
+
+    options : LoadOptions
+    options = load.options
+
+    promised : IsLoad (IsDrivenOn of_file) (task plan options) (load.before ⇒ load.after) load.finish
+    promised = made.promised
+
     said : Progress
-    said = load.opened.opening.said
+    said = promised.opened.opening.said
 
     goes : GoesOnFrom plan old.text (record { verified = words_taken options.recheck said; going = said.going })
     goes = record {
       recorded = said;
-      says = subst (λ text. Says plan text (Ok said)) (told_text before.record_text load.opened.opening.opened.text old.text load.opened.opening.opened.is_record was) load.opened.opening.opened.says;
+      says = subst (λ text. Says plan text (Ok said)) (told_text load.before.record_text promised.opened.opening.opened.text old.text promised.opened.opening.opened.is_record made.found) promised.opened.opening.opened.says;
       fewer = fewer (options.recheck && not said.going) said.verified;
       same_mark = refl;
     }
+
+    out : GoesOut promised.life load.looks [] load.rest
+    out = subst (λ front. GoesOut promised.life load.looks front load.rest) plain.unsaid made.out
+
+    l : Lives plan load.finish.core load.looks load.rest old new
+    l =
+        subst (λ (core : Core). (life : IsLived (IsDrivenOn of_file) (opened_as core options.fast promised.writable) (promised.between ⇒ load.after) load.finish) → GoesOut life load.looks [] load.rest → Lives plan load.finish.core load.looks load.rest old new) (sym promised.opened.opening.core_is)
+        (subst (λ fast. (life : IsLived (IsDrivenOn of_file) (opened_as (begun plan (words_taken options.recheck said) said.going options.patience) fast promised.writable) (promised.between ⇒ load.after) load.finish) → GoesOut life load.looks [] load.rest → Lives plan load.finish.core load.looks load.rest old new) (sym plain.unasked)
+        (lived plan (words_taken options.recheck said) options.patience load.before.record_text promised.between load.after load.finish load.looks load.rest old new made.fits made.patient made.found promised.opened.record_read made.left passes said.going goes)) promised.life out

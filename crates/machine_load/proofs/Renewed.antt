@@ -30,7 +30,7 @@ use Rattle.load_record.specs.RecordText.{record_text, second_piece}
 use Rattle.load_record.proofs.Keeping.{known_text, wrote_adds}
 use Rattle.load_record.proofs.RecordLaws.{record_made, record_short, whole_read}
 use Rattle.load_record.proofs.Sound.{sound-accepted}
-use Rattle.load_lives.specs.Keepers.{WentOutAt, HasLeft}
+use Rattle.load_lives.specs.Keepers.{WentOutAt, KeptLoad, HasLeft}
 use Rattle.load_lives.specs.Lives.{GoesOnFrom}
 use Rattle.load_lives.specs.Stops.{IsBeginning}
 use Rattle.load_lives.proofs.Keepers.{keepers_leave}
@@ -71,16 +71,25 @@ pub host_holds : (plan : PlanValue) (v patience : ℕ) (stop : Stop) (core : Cor
     → HoldsRecord keep plan v → (session : Session most_turns (driving (begun plan v false patience) core (Some stop)) before after) → WentOutAt stop (dialogue (begun plan v false patience) session.heard) session.said items
     → KeptBy of_file.calls (turns_give (driving (begun plan v false patience) core (Some stop))) keep keep' → HoldsFront plan core items keep'
 host_holds plan v patience stop core before after keep keep' items fits long within holds session out by =
-    let left : HasLeft plan progress core items (record_text Second plan v false) keep' =
-    keepers_leave plan progress patience most_turns stop core before after keep keep' items (record_text Second plan v false) fits long goes refl holds session out by in record {
-      text = left.0;
-      held = left.1;
-      front = front_of plan v core left.0 more left.2.cut;
-      whole = left.2.whole;
+    let kept : HasLeft load =
+    keepers_leave load (record { fits = fits; no_mark = refl; holds = holds }) (record { driven = record { patient = long; goes_on = goes; session = session }; out = out }) by in record {
+      text = kept.now;
+      held = kept.told;
+      front = front_of plan v core kept.now more kept.left.cut;
+      whole = kept.left.whole;
     }
   where
     progress : Progress
     progress = record { verified = v; going = false }
+
+    load : KeptLoad
+    load = record {
+      run = record { plan = plan; progress = progress; patience = patience; turns = most_turns; core = core; before = before; after = after; items = items };
+      stop = stop;
+      text = record_text Second plan v false;
+      keep = keep;
+      keep' = keep';
+    }
 
     goes : GoesOnFrom plan (record_text Second plan v false) progress
     goes = record { recorded = progress; says = written_says plan v fits within; fewer = omega arith; same_mark = refl }

@@ -71,24 +71,58 @@ GoesOut {life} {around} {finish} (inr (inl held)) looks front rest =
 GoesOut {life} {around} {finish} (inr (inr goes)) looks front rest =
     LooksGoOut goes.first_looks.looked looks × PartsGoOut goes.driven.parts.parts front rest
 
+-- a load whose keeper writes the record's file: what it is to do, what its surroundings tell before and after, what came of it, and what went out of its
+-- looks, of its stubs and of its host
+pub record FiledLoad : Type 0 where
+  pub plan : PlanValue
+  pub options : LoadOptions
+  pub before : SurroundingsTold
+  pub after : SurroundingsTold
+  pub finish : Finish
+  pub looks : List Item
+  pub front : List Item
+  pub rest : List Item
+
+-- it is as `load` promises, with one text in the record's file before it and one behind it
+pub record WasMade (load : FiledLoad) (old new : List ℕ) : Type 0 where
+  pub fits : IsPlan load.plan
+  pub patient : load.options.patience < 2 ^ 32
+  pub promised : IsLoad (IsDrivenOn of_file) (task load.plan load.options) (load.before ⇒ load.after) load.finish
+  pub found : load.before.record_text ≡ Some old
+  pub left : load.after.record_text ≡ Some new
+  pub out : GoesOut promised.life load.looks load.front load.rest
+
+-- it brings in no stub
+pub record IsWithoutStubs (load : FiledLoad) : Type 0 where
+  pub unasked : load.options.fast ≡ false
+  pub unsaid : load.front ≡ []
+
+-- it is a life at a station which may look first
+pub record CameToAFastLife (load : FiledLoad) (old new : LinkAndRecord) : Type 0 where
+  pub life : FastLookingLife
+  pub core : fast_core load.plan life.life ≡ load.finish.core
+  pub looks : life.looks ≡ load.looks
+  pub front : life.life.front ≡ load.front
+  pub rest : life.life.rest ≡ load.rest
+  pub is_life : IsFastLookingLife stub_program load.plan old life new
+
+-- or one at a machine
+pub record CameToALife (load : FiledLoad) (old new : WireAndRecord) : Type 0 where
+  pub life : LookingLife
+  pub core : last_core load.plan life.life ≡ load.finish.core
+  pub looks : life.looks ≡ load.looks
+  pub rest : life.life.items ≡ load.rest
+  pub is_life : IsLookingLife load.plan old life new
+
 -- a load whose keeper writes the record's file, with stubs or without, is a life at a station which may look first, from the line and the record that it
 -- found to those that it left
 abbrev pub LoadsAreFastLives : Type 0
 LoadsAreFastLives =
-    (plan : PlanValue) (options : LoadOptions) (before after : SurroundingsTold) (finish : Finish)
-    (load : IsLoad (IsDrivenOn of_file) (task plan options) (before ⇒ after) finish)
-    (looks front rest : List Item) (old new : LinkAndRecord) → IsPlan plan → options.patience < 2 ^ 32 →
-    before.record_text ≡ Some old.text → after.record_text ≡ Some new.text →
-    GoesOut load.life looks front rest → PassesAt stub_program old.link (looks ++ (front ++ rest)) new.link →
-    (l : FastLookingLife) × (fast_core plan l.life ≡ finish.core) × (l.looks ≡ looks) × (l.life.front ≡ front) × (l.life.rest ≡ rest)
-    × IsFastLookingLife stub_program plan old l new
+    (load : FiledLoad) (old new : LinkAndRecord) → WasMade load old.text new.text →
+    PassesAt stub_program old.link (load.looks ++ (load.front ++ load.rest)) new.link → CameToAFastLife load old new
 
 -- one without stubs is a life at a machine, too, of which more is promised
 abbrev pub LoadsAreLives : Type 0
 LoadsAreLives =
-    (plan : PlanValue) (options : LoadOptions) (before after : SurroundingsTold) (finish : Finish)
-    (load : IsLoad (IsDrivenOn of_file) (task plan options) (before ⇒ after) finish)
-    (looks items : List Item) (old new : WireAndRecord) → options.fast ≡ false → IsPlan plan → options.patience < 2 ^ 32 →
-    before.record_text ≡ Some old.text → after.record_text ≡ Some new.text →
-    GoesOut load.life looks [] items → PassesOver old.wire (looks ++ items) new.wire →
-    (l : LookingLife) × (last_core plan l.life ≡ finish.core) × (l.looks ≡ looks) × (l.life.items ≡ items) × IsLookingLife plan old l new
+    (load : FiledLoad) (old new : WireAndRecord) → IsWithoutStubs load → WasMade load old.text new.text →
+    PassesOver old.wire (load.looks ++ load.rest) new.wire → CameToALife load old new

@@ -338,12 +338,14 @@ stand_alone plan recorded looks old new says h line same = record {
 }
 
 pub may_follow : LoadsMayFollow
-may_follow plan recorded machine now looks items lost may h begins honest =
+may_follow load might =
+    let may = might.begins in
+    let h = might.looked in
     let run : Run = Look h.addresses h.patience h.heard in
     let runs : List Run = run ∷ [] in
-    let ready : IsReadyMachine machine = record { console = may.console; stopped = may.stopped } in
-    let f : AreHarmlessBefore machine runs items lost now =
-    others_follow machine now runs looks items lost ready (All-cons MayBeSuchAHost run [] (h.asked, h.patient) (All-nil MayBeSuchAHost)) (looks, [], h.told, refl, sym (append-nil looks)) begins honest in
+    let ready : IsReadyMachine load.before = record { console = may.console; stopped = may.stopped } in
+    let f : AreHarmlessBefore load.before runs load.items load.lost load.behind =
+    others_follow load.before load.behind runs load.looks load.items load.lost ready (All-cons MayBeSuchAHost run [] (h.asked, h.patient) (All-nil MayBeSuchAHost)) (load.looks, [], h.told, refl, sym (append-nil load.looks)) might.listens might.honest in
     record {
       between = f.between;
       lost_before = f.lost_before;
@@ -352,7 +354,7 @@ may_follow plan recorded machine now looks items lost may h begins honest =
         begun = refl;
         console = f.before.ready.console;
         stopped = f.before.ready.stopped;
-        verified = subst (FirstStand plan.words recorded.verified) (sym f.before.memory) may.verified;
+        verified = subst (FirstStand load.plan.words load.recorded.verified) (sym f.before.memory) may.verified;
       };
       memory = f.before.memory;
       after = f.after;

@@ -73,13 +73,13 @@ went_told all said looks (inl is) told = subst (IsToldOf all) (sym is) told
 went_told all said looks (inr is) told = inl is
 
 pub are_of_the_record : SamplesAreOfTheRecord
-are_of_the_record plan recorded samples patience turns stop last line line' looks unmarked are asked patient s went = record {
-  unmarked = unmarked;
-  addresses = addresses_of samples;
-  asked = asked;
-  of_record = of_record plan.words recorded.verified samples are;
-  patience = patience;
-  patient = patient;
-  heard = s.heard;
-  told = went_told _ s.said looks went (said_told stop (turns - length s.heard) _ s.said s.items);
+are_of_the_record looks are were = record {
+  unmarked = are.unmarked;
+  addresses = addresses_of looks.samples;
+  asked = are.asked;
+  of_record = of_record looks.plan.words looks.recorded.verified looks.samples are.samples;
+  patience = looks.patience;
+  patient = are.patient;
+  heard = were.inquired.heard;
+  told = went_told _ were.inquired.said looks.items were.out (said_told were.stop (were.turns - length were.inquired.heard) _ were.inquired.said were.inquired.items);
 }

@@ -83,28 +83,67 @@ LooksMayStandAlone =
     Says plan old.text (Ok recorded) → HasLooked plan recorded looks → PassesOver old.wire looks new.wire → new.text ≡ old.text →
     IsLookingLife plan old (record { looks = looks; life = idle recorded }) new
 
--- behind looks a load may begin on their line: at a machine whose memory is what it was, and with what is honest from there
-pub record MayFollow (plan : PlanValue) (verified : ℕ) (machine : Machine) (items : List Item) (lost : ℕ) (machine' : Machine) : Type 0 where
+-- looks, and then a load on their line: its plan, what its record says, the machine before and behind both, what was said of each, and how many characters
+-- were lost
+pub record LoadBehindLooks : Type 0 where
+  pub plan : PlanValue
+  pub recorded : Progress
+  pub before : Machine
+  pub behind : Machine
+  pub looks : List Item
+  pub items : List Item
+  pub lost : ℕ
+
+-- the load might have begun without the looks; it begins by listening, and the line is honest
+pub record MightBegin (load : LoadBehindLooks) : Type 0 where
+  pub begins : MayBegin (begun load.plan load.recorded.verified false 0) load.before
+  pub looked : HasLooked load.plan load.recorded load.looks
+  pub listens : BeginsByListening load.items
+  pub honest : IsHonest load.before (load.looks ++ load.items) load.lost load.behind
+
+-- behind the looks it may begin, too: at a machine whose memory is what it was, and with what is honest from there
+pub record MayFollow (load : LoadBehindLooks) : Type 0 where
   pub between : Machine
   pub lost_before : ℕ
   pub lost_after : ℕ
-  pub begins : MayBegin (begun plan verified false 0) between
-  pub memory : between.memory ≡ machine.memory
-  pub after : IsHonest between items lost_after machine'
-  pub losses : lost_before + lost_after ≡ lost
+  pub begins : MayBegin (begun load.plan load.recorded.verified false 0) between
+  pub memory : between.memory ≡ load.before.memory
+  pub after : IsHonest between load.items lost_after load.behind
+  pub losses : lost_before + lost_after ≡ load.lost
 
 -- so it is of every load that might have begun without them
 abbrev pub LoadsMayFollow : Type 0
-LoadsMayFollow =
-    (plan : PlanValue) (recorded : Progress) (machine machine' : Machine) (looks items : List Item) (lost : ℕ) →
-    MayBegin (begun plan recorded.verified false 0) machine → HasLooked plan recorded looks → BeginsByListening items →
-    IsHonest machine (looks ++ items) lost machine' → MayFollow plan recorded.verified machine items lost machine'
+LoadsMayFollow = (load : LoadBehindLooks) → MightBegin load → MayFollow load
 
--- what `look_at_samples` says, where it looks at a record's samples, is such a look; so it is where the call that failed sent its key after all
+-- looks at a record's samples before a load: its plan, what the record says, the samples, how many mishaps the looks survive, and what went out of them
+pub record SampleLooks : Type 0 where
+  pub plan : PlanValue
+  pub recorded : Progress
+  pub samples : List WordValue
+  pub patience : ℕ
+  pub items : List Item
+
+-- the host that looks, at its beginning
+abbrev pub looker_at : SampleLooks → Reader
+looker_at looks = reader_begun (addresses_of looks.samples) [] looks.patience
+
+-- the record has no mark, and these are samples of its words
+pub record AreOfARecord (looks : SampleLooks) : Type 0 where
+  pub unmarked : looks.recorded.going ≡ false
+  pub samples : AreSamples looks.plan.words looks.recorded.verified looks.samples
+  pub asked : AreAddresses (addresses_of looks.samples)
+  pub patient : looks.patience < 2 ^ 32
+
+-- they came about as `look_at_samples` promises, and this went out, also where the call that failed sent its key after all
+pub record WereMade (looks : SampleLooks) : Type 0 where
+  pub turns : ℕ
+  pub stop : LookStop
+  pub last : Reader
+  pub line : Option (List Item)
+  pub line' : Option (List Item)
+  pub inquired : Inquired turns (inquiry (looker_at looks) last (Some stop)) line line'
+  pub out : WentOut (looks_of (looker_at looks) inquired.heard) inquired.said looks.items
+
+-- what they said is such a look at words of the record
 abbrev pub SamplesAreOfTheRecord : Type 0
-SamplesAreOfTheRecord =
-    (plan : PlanValue) (recorded : Progress) (samples : List WordValue) (patience turns : ℕ) (stop : LookStop) (last : Reader)
-    (line line' : Option (List Item)) (looks : List Item) →
-    recorded.going ≡ false → AreSamples plan.words recorded.verified samples → AreAddresses (addresses_of samples) → patience < 2 ^ 32 →
-    (s : Inquired turns (inquiry (reader_begun (addresses_of samples) [] patience) last (Some stop)) line line') →
-    WentOut (looks_of (reader_begun (addresses_of samples) [] patience) s.heard) s.said looks → HasLooked plan recorded looks
+SamplesAreOfTheRecord = (looks : SampleLooks) → AreOfARecord looks → WereMade looks → HasLooked looks.plan looks.recorded looks.items

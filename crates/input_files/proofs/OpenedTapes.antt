@@ -5,7 +5,8 @@ use Rattle.host_devices.proofs.Told.{tells_none}
 use Rattle.endings.specs.declared.failure.Failure.{Failure}
 use Rattle.endings.specs.declared.failure.Failure.TheVariants.{NoMemory}
 use Rattle.endings.specs.Held.{Held}
-use Rattle.input_files.specs.Opening.{Name, InputStep, AreTried, AllOpen, HasOpened}
+use Rattle.host_devices.specs.Told.{HasAsked}
+use Rattle.input_files.specs.Opening.{Name, InputStep, AreTried, AllOpen}
 use Rattle.input_files.proofs.Tried.{no_room}
 use Rattle.input_files.specs.Inputs.{Known, Inputs, AreOpened, IsUnopened, FailsUnopened, OfFiles, OfTapes, files_of, inputs_of, means_input, only_input}
 use Rattle.input_files.specs.Intake.{Intake, intake}
@@ -43,4 +44,4 @@ unopened_named names before after failure is unopened read written = record {
 
 -- all were opened, and then memory was wanting
 pub opened_in_vain : (names : List Name) (opened opened' : Option (List InputStep)) → AreOpened names opened opened' → IsUnopened names opened opened' NoMemory
-opened_in_vain names opened opened' h = subst (λ l. HasOpened opened opened' (AreTried l (Some NoMemory))) (append-nil names) (no_room names [] opened opened' h)
+opened_in_vain names opened opened' h = subst (λ l. HasAsked opened opened' (AreTried l (Some NoMemory))) (append-nil names) (no_room names [] opened opened' h)

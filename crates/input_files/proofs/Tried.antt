@@ -8,10 +8,10 @@ use Rattle.std.specs.Prelude.{OnOk, OnErr}
 use Rattle.std.specs.Result.{IfOk, IfErr, IsErr, IsErrAnd}
 use Rattle.host_devices.specs.Failures.{fault_of}
 use Rattle.host_devices.proofs.Told.{tells_join, tells_none}
-use Rattle.host_devices.specs.Told.{Tells}
+use Rattle.host_devices.specs.Told.{HasAsked, Tells}
 use Rattle.endings.specs.declared.failure.Failure.{Failure}
 use Rattle.endings.specs.declared.failure.Failure.TheVariants.{CannotRead, NoMemory}
-use Rattle.input_files.specs.Opening.{Name, InputStep, NotOpened, opening, HasOpened, IsTried, Once, Again, AreTried, AllOpen, Opens, Shut, NoRoom, NoRoomToRetry, IsUnbuffered}
+use Rattle.input_files.specs.Opening.{Name, InputStep, NotOpened, opening, IsTried, Once, Again, AreTried, AllOpen, Opens, Shut, NoRoom, NoRoomToRetry, IsUnbuffered}
 
 -- a tape, a script and further tapes, without the script
 pub tapes_left : {X : Type 0} (first with_script all left : List X) (n : ℕ) → length first ≡ 1 → length with_script ≡ length first + 1 → length all ≡ length with_script + n →
@@ -35,7 +35,7 @@ on_true false x is = absurd (cc is)
 
 -- ---- one name
 
-pub once : (name : List ℕ) (opened : Bool) (a b : Option (List InputStep)) → Tells a b (opening name opened ∷ []) → HasOpened a b (IsTried name opened)
+pub once : (name : List ℕ) (opened : Bool) (a b : Option (List InputStep)) → Tells a b (opening name opened ∷ []) → HasAsked a b (IsTried name opened)
 once name opened a b told = (opening name opened ∷ [], told, Once opened)
 
 -- what is told of a file that did not open
@@ -43,7 +43,7 @@ pub refused : (name : List ℕ) (opened : Bool) (a b : Option (List InputStep)) 
 refused name opened a b is told = subst (λ o. Tells a b (opening name o ∷ [])) is told
 
 pub again : (name : List ℕ) (opened : Bool) (a b c : Option (List InputStep)) → Tells a b (NotOpened name ∷ []) → Tells b c (opening name opened ∷ [])
-    → HasOpened a c (IsTried name opened)
+    → HasAsked a c (IsTried name opened)
 again name opened a b c first second =
     (NotOpened name ∷ opening name opened ∷ [], tells_join a b c (NotOpened name ∷ []) (opening name opened ∷ []) first second, Again opened)
 
@@ -60,10 +60,10 @@ buffered_as name opened (Err other) steps ok err tried = absurd err
 
 -- a name that was tried, and its file put behind a buffer, or not
 pub buffered : {A : Type 0} (name : Name) (opened : Bool) (result : Result A Failure) (a b : Option (List InputStep)) → OnOk result (opened ≡ true)
-    → IfErr result (IsUnbuffered name opened) → HasOpened a b (IsTried name.now opened) → HasOpened a b (AreTried (name ∷ []) (fault_of result))
+    → IfErr result (IsUnbuffered name opened) → HasAsked a b (IsTried name.now opened) → HasAsked a b (AreTried (name ∷ []) (fault_of result))
 buffered name opened result a b ok err tried = (tried.0, tried.1, buffered_as name opened result tried.0 ok err tried.2)
 
-pub no_retry : (name : Name) (a b : Option (List InputStep)) → Tells a b (NotOpened name.now ∷ []) → HasOpened a b (AreTried (name ∷ []) (Some NoMemory))
+pub no_retry : (name : Name) (a b : Option (List InputStep)) → Tells a b (NotOpened name.now ∷ []) → HasAsked a b (AreTried (name ∷ []) (Some NoMemory))
 no_retry name a b told = (NotOpened name.now ∷ [], told, NoRoomToRetry name [])
 
 -- ---- several
@@ -89,63 +89,63 @@ behind_others xs ys end last a b (Shut name names tries t) is h = absurd (cc is)
 behind_others xs ys end last a b (NoRoom names) is h = absurd (cc is)
 behind_others xs ys end last a b (NoRoomToRetry name names) is h = absurd (cc is)
 
-failed_first : (xs ys : List Name) (failure : Failure) (a b : Option (List InputStep)) → HasOpened a b (AreTried xs (Some failure))
-    → HasOpened a b (AreTried (xs ++ ys) (Some failure))
+failed_first : (xs ys : List Name) (failure : Failure) (a b : Option (List InputStep)) → HasAsked a b (AreTried xs (Some failure))
+    → HasAsked a b (AreTried (xs ++ ys) (Some failure))
 failed_first xs ys failure a b h = (h.0, h.1, before_others xs ys (Some failure) failure h.0 h.2 refl)
 
-opened_first : (xs ys : List Name) (end : Option Failure) (a b c : Option (List InputStep)) → HasOpened a b (AreTried xs None)
-    → HasOpened b c (AreTried ys end) → HasOpened a c (AreTried (xs ++ ys) end)
+opened_first : (xs ys : List Name) (end : Option Failure) (a b c : Option (List InputStep)) → HasAsked a b (AreTried xs None)
+    → HasAsked b c (AreTried ys end) → HasAsked a c (AreTried (xs ++ ys) end)
 opened_first xs ys end a b c h k = (h.0 ++ k.0, tells_join a b c h.0 k.0 h.1 k.1, behind_others xs ys None end h.0 k.0 h.2 refl k.2)
 
 -- these are open, and then there is no room for them
-pub no_room : (xs ys : List Name) (a b : Option (List InputStep)) → HasOpened a b (AreTried xs None) → HasOpened a b (AreTried (xs ++ ys) (Some NoMemory))
+pub no_room : (xs ys : List Name) (a b : Option (List InputStep)) → HasAsked a b (AreTried xs None) → HasAsked a b (AreTried (xs ++ ys) (Some NoMemory))
 no_room xs ys a b h = opened_first xs ys (Some NoMemory) a b b h ([], tells_none b, NoRoom ys)
 
 -- what is known of the error that a result has
 pub failed_as : {T : Type 0} (names : List Name) (result : Result T Failure) (failure : Failure) (a b : Option (List InputStep)) → IsErrAnd result (λ e. e ≡ failure)
-    → HasOpened a b (AreTried names (Some failure)) → HasOpened a b (AreTried names (fault_of result))
+    → HasAsked a b (AreTried names (Some failure)) → HasAsked a b (AreTried names (fault_of result))
 failed_as names (Ok value) failure a b is h = absurd is
-failed_as names (Err error) failure a b is h = subst (λ f. HasOpened a b (AreTried names (Some f))) (sym is) h
+failed_as names (Err error) failure a b is h = subst (λ f. HasAsked a b (AreTried names (Some f))) (sym is) h
 
 -- ---- one name after another
 
-pub none_tried : (names : List Name) (a : Option (List InputStep)) → HasOpened a a (AreTried (take 0 names) None)
+pub none_tried : (names : List Name) (a : Option (List InputStep)) → HasAsked a a (AreTried (take 0 names) None)
 none_tried names a = ([], tells_none a, AllOpen)
 
 parts : (names : List Name) (i : ℕ) (d : Name) → i < length names → take i names ++ (get_or names i d ∷ drop (suc i) names) ≡ names
 parts names i d within = subst (λ rest. take i names ++ rest ≡ names) (drop-cons names i d within) (take-append-drop i names)
 
-pub one_more : (names : List Name) (i : ℕ) (d : Name) (a b c : Option (List InputStep)) → i < length names → HasOpened a b (AreTried (take i names) None)
-    → HasOpened b c (AreTried (get_or names i d ∷ []) None) → HasOpened a c (AreTried (take (i + 1) names) None)
+pub one_more : (names : List Name) (i : ℕ) (d : Name) (a b c : Option (List InputStep)) → i < length names → HasAsked a b (AreTried (take i names) None)
+    → HasAsked b c (AreTried (get_or names i d ∷ []) None) → HasAsked a c (AreTried (take (i + 1) names) None)
 one_more names i d a b c within before here =
-    subst (λ l. HasOpened a c (AreTried l None)) (sym (take_more names i d within)) (opened_first (take i names) (get_or names i d ∷ []) None a b c before here)
+    subst (λ l. HasAsked a c (AreTried l None)) (sym (take_more names i d within)) (opened_first (take i names) (get_or names i d ∷ []) None a b c before here)
 
 pub stops_here : (names : List Name) (i : ℕ) (d : Name) (failure : Failure) (a b c : Option (List InputStep)) → i < length names
-    → HasOpened a b (AreTried (take i names) None) → HasOpened b c (AreTried (get_or names i d ∷ []) (Some failure)) → HasOpened a c (AreTried names (Some failure))
+    → HasAsked a b (AreTried (take i names) None) → HasAsked b c (AreTried (get_or names i d ∷ []) (Some failure)) → HasAsked a c (AreTried names (Some failure))
 stops_here names i d failure a b c within before here =
-    subst (λ l. HasOpened a c (AreTried l (Some failure))) (parts names i d within)
+    subst (λ l. HasAsked a c (AreTried l (Some failure))) (parts names i d within)
     (opened_first (take i names) (get_or names i d ∷ drop (suc i) names) (Some failure) a b c before (failed_first (get_or names i d ∷ []) (drop (suc i) names) failure b c here))
 
 pub no_room_here : (names : List Name) (i : ℕ) (d : Name) (a b c : Option (List InputStep)) → i < length names
-    → HasOpened a b (AreTried (take i names) None) → HasOpened b c (AreTried (get_or names i d ∷ []) None) → HasOpened a c (AreTried names (Some NoMemory))
+    → HasAsked a b (AreTried (take i names) None) → HasAsked b c (AreTried (get_or names i d ∷ []) None) → HasAsked a c (AreTried names (Some NoMemory))
 no_room_here names i d a b c within before here =
-    subst (λ l. HasOpened a c (AreTried l (Some NoMemory))) (parts names i d within)
+    subst (λ l. HasAsked a c (AreTried l (Some NoMemory))) (parts names i d within)
     (opened_first (take i names) (get_or names i d ∷ drop (suc i) names) (Some NoMemory) a b c before (no_room (get_or names i d ∷ []) (drop (suc i) names) b c here))
 
-pub all_open : (names : List Name) (i : ℕ) (a b : Option (List InputStep)) → length names ≤ i → HasOpened a b (AreTried (take i names) None)
-    → HasOpened a b (AreTried names None)
-all_open names i a b over h = subst (λ l. HasOpened a b (AreTried l None)) (take_all i names over) h
+pub all_open : (names : List Name) (i : ℕ) (a b : Option (List InputStep)) → length names ≤ i → HasAsked a b (AreTried (take i names) None)
+    → HasAsked a b (AreTried names None)
+all_open names i a b over h = subst (λ l. HasAsked a b (AreTried l None)) (take_all i names over) h
 
 -- ---- a tape, a script and further tapes
 
-pub tape_fails : (tape script : Name) (more : List Name) (failure : Failure) (a b : Option (List InputStep)) → HasOpened a b (AreTried (tape ∷ []) (Some failure))
-    → HasOpened a b (AreTried (tape ∷ script ∷ more) (Some failure))
+pub tape_fails : (tape script : Name) (more : List Name) (failure : Failure) (a b : Option (List InputStep)) → HasAsked a b (AreTried (tape ∷ []) (Some failure))
+    → HasAsked a b (AreTried (tape ∷ script ∷ more) (Some failure))
 tape_fails tape script more failure a b h = failed_first (tape ∷ []) (script ∷ more) failure a b h
 
-pub script_fails : (tape script : Name) (more : List Name) (failure : Failure) (a b c : Option (List InputStep)) → HasOpened a b (AreTried (tape ∷ []) None)
-    → HasOpened b c (AreTried (script ∷ []) (Some failure)) → HasOpened a c (AreTried (tape ∷ script ∷ more) (Some failure))
+pub script_fails : (tape script : Name) (more : List Name) (failure : Failure) (a b c : Option (List InputStep)) → HasAsked a b (AreTried (tape ∷ []) None)
+    → HasAsked b c (AreTried (script ∷ []) (Some failure)) → HasAsked a c (AreTried (tape ∷ script ∷ more) (Some failure))
 script_fails tape script more failure a b c h k = opened_first (tape ∷ []) (script ∷ more) (Some failure) a b c h (failed_first (script ∷ []) more failure b c k)
 
-pub with_more : (tape script : Name) (more : List Name) (end : Option Failure) (a b c d : Option (List InputStep)) → HasOpened a b (AreTried (tape ∷ []) None)
-    → HasOpened b c (AreTried (script ∷ []) None) → HasOpened c d (AreTried more end) → HasOpened a d (AreTried (tape ∷ script ∷ more) end)
+pub with_more : (tape script : Name) (more : List Name) (end : Option Failure) (a b c d : Option (List InputStep)) → HasAsked a b (AreTried (tape ∷ []) None)
+    → HasAsked b c (AreTried (script ∷ []) None) → HasAsked c d (AreTried more end) → HasAsked a d (AreTried (tape ∷ script ∷ more) end)
 with_more tape script more end a b c d h k l = opened_first (tape ∷ []) (script ∷ more) end a b d h (opened_first (script ∷ []) more end b c d k l)

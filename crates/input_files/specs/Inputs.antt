@@ -7,7 +7,8 @@ use Rattle.endings.specs.declared.command_fault.CommandFault.{CommandFault}
 use Rattle.endings.specs.declared.failure.Failure.{Failure}
 use Rattle.endings.specs.Failure.{IsFailureOf}
 use Rattle.endings.specs.Held.{Held}
-use Rattle.input_files.specs.Opening.{Name, InputStep, AreTried, HasOpened}
+use Rattle.host_devices.specs.Told.{HasAsked}
+use Rattle.input_files.specs.Opening.{Name, InputStep, AreTried}
 use Rattle.input_files.specs.Intake.{Intake}
 
 -- what a reader has left or a writer holds, as far as its type tells
@@ -30,11 +31,11 @@ only_input input input' = record { names = []; held = input ∷ []; rests = inpu
 
 -- from one moment to another the files of these names were opened, in this order, and no others
 abbrev pub AreOpened : List Name → Option (List InputStep) → Option (List InputStep) → Type 0
-AreOpened names opened opened' = HasOpened opened opened' (AreTried names None)
+AreOpened names opened opened' = HasAsked opened opened' (AreTried names None)
 
 -- one of them was not: of those before it each was, and none behind it was tried
 abbrev pub IsUnopened : List Name → Option (List InputStep) → Option (List InputStep) → Failure → Type 0
-IsUnopened names opened opened' failure = HasOpened opened opened' (AreTried names (Some failure))
+IsUnopened names opened opened' failure = HasAsked opened opened' (AreTried names (Some failure))
 
 -- this is so of what the files of these names held and of what was left of it
 pub record OfFiles (names : List Name) (P : Inputs → Type 0) : Type 0 where

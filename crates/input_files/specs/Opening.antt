@@ -1,7 +1,6 @@
 -- The files that are opened by their names, in an order.
 use Rattle.std.specs.Prelude.{◌≡◌, ℕ, Bool, true, false, List, [], ◌∷◌, ◌++◌, Option, Some, None}
 use Rattle.std.specs.Borrow.{Bor}
-use Rattle.host_devices.specs.Told.{HasAsked}
 use Rattle.endings.specs.declared.failure.Failure.{Failure}
 use Rattle.endings.specs.declared.failure.Failure.TheVariants.{CannotRead, NoMemory}
 
@@ -18,10 +17,6 @@ pub data InputStep : Type 0 where
 abbrev pub opening : List ℕ → Bool → InputStep
 opening name true = Opened name
 opening name false = NotOpened name
-
--- where a system of files tells what it opened, that has grown by steps of which this holds
-abbrev pub HasOpened : Option (List InputStep) → Option (List InputStep) → (List InputStep → Type 0) → Type 0
-HasOpened = HasAsked
 
 -- a name is tried once, or once more where the first try failed; and the file is open in the end, or is not
 pub data IsTried (name : List ℕ) : Bool → List InputStep → Type 0 where

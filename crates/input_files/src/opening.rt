@@ -2,8 +2,8 @@
 ghost use Rattle.std.specs.Prelude.{◌≡◌, ◌+◌, ◌∷◌, [], length, true, false, is_ok, IfOk, IfErr, OnOk, OnErr};
 ghost use Rattle.std.specs.Bool.{OnTrue};
 ghost use Rattle.host_devices.specs.Failures.{fault_of};
-ghost use Rattle.host_devices.specs.Told.{Tells};
-ghost use Rattle.input_files.specs.Opening.{HasOpened, NotOpened, IsTried, AreTried, IsUnbuffered};
+ghost use Rattle.host_devices.specs.Told.{HasAsked, Tells};
+ghost use Rattle.input_files.specs.Opening.{NotOpened, IsTried, AreTried, IsUnbuffered};
 
 use crate::source::{Role, Source};
 use crate::system::InputFiles;
@@ -25,7 +25,7 @@ pub fn open<'a, F: InputFiles>(
     alloc: Global,
     name: &'a str,
 ) -> Result<BufReader<F::File>, Failure<'a>>
-    ensures tried { HasOpened (F.opened rt.old) (F.opened rt.new) (AreTried (name.entry ∷ []) (fault_of result)) }
+    ensures tried { HasAsked (F.opened rt.old) (F.opened rt.new) (AreTried (name.entry ∷ []) (fault_of result)) }
 {
     buffered(alloc, name, rt.open_input(name))
 }
@@ -37,7 +37,7 @@ pub(crate) fn open_all<'a, F: InputFiles>(
     names: &[&'a str],
 ) -> Result<Vec<Source<F::File>>, Failure<'a>>
     ensures ok { IfOk result (λ files. length files.items ≡ length names.now) }
-    ensures tried { HasOpened (F.opened rt.old) (F.opened rt.new) (AreTried names.now (fault_of result)) }
+    ensures tried { HasAsked (F.opened rt.old) (F.opened rt.new) (AreTried names.now (fault_of result)) }
 {
     let mut files = Vec::new(alloc);
     open_more(rt, alloc, names, Role::Tape, &mut files)?;
@@ -53,7 +53,7 @@ pub(crate) fn open_with_script<'a, F: InputFiles>(
     more: &[&'a str],
 ) -> Result<(Vec<Source<F::File>>, Source<F::File>), Failure<'a>>
     ensures ok { IfOk result (λ files. length files.0.items ≡ length (tape.entry ∷ more.now)) }
-    ensures tried { HasOpened (F.opened rt.old) (F.opened rt.new) (AreTried (tape.entry ∷ script.entry ∷ more.now) (fault_of result)) }
+    ensures tried { HasAsked (F.opened rt.old) (F.opened rt.new) (AreTried (tape.entry ∷ script.entry ∷ more.now) (fault_of result)) }
 {
     let mut tapes = open_all(rt, alloc, &[tape])?;
     open_more(rt, alloc, &[script], Role::Script, &mut tapes)?;
@@ -71,7 +71,7 @@ fn open_more<'a, F: InputFiles>(
     files: &mut Vec<Source<F::File>>,
 ) -> Result<(), Failure<'a>>
     ensures ok { OnOk result (length files.new.items ≡ length files.old.items + length names.now) }
-    ensures tried { HasOpened (F.opened rt.old) (F.opened rt.new) (AreTried names.now (fault_of result)) }
+    ensures tried { HasAsked (F.opened rt.old) (F.opened rt.new) (AreTried names.now (fault_of result)) }
 {
     for name in names {
         let file = open_beside(rt, alloc, name, files)?;
@@ -89,7 +89,7 @@ fn open_beside<'a, F: InputFiles>(
     name: &'a str,
     others: &mut [Source<F::File>],
 ) -> Result<BufReader<F::File>, Failure<'a>>
-    ensures tried { HasOpened (F.opened rt.old) (F.opened rt.new) (AreTried (name.entry ∷ []) (fault_of result)) }
+    ensures tried { HasAsked (F.opened rt.old) (F.opened rt.new) (AreTried (name.entry ∷ []) (fault_of result)) }
 {
     match opened_beside(rt, alloc, name, others) {
         Ok(opened) => buffered(alloc, name, opened),
@@ -105,7 +105,7 @@ fn opened_beside<F: InputFiles>(
     name: &str,
     others: &mut [Source<F::File>],
 ) -> Result<io::Result<F::File>, AllocError>
-    ensures tried { IfOk result (λ opened. HasOpened (F.opened rt.old) (F.opened rt.new) (IsTried name.now (is_ok opened))) }
+    ensures tried { IfOk result (λ opened. HasAsked (F.opened rt.old) (F.opened rt.new) (IsTried name.now (is_ok opened))) }
     ensures starved { OnErr result (Tells (F.opened rt.old) (F.opened rt.new) (NotOpened name.now ∷ [])) }
 {
     let opened = rt.open_input(name);

@@ -2,8 +2,8 @@
 //!
 //! They show what no clause can say: that a record is held before it is read; that it is on the disk before it
 //! replaces the old one, and what is left where a step of that fails; that a device that failed is not asked
-//! again; with what a load goes on; that the room of a saved tape goes where the tape can't be put there; and that
-//! the engine loads over a stream.
+//! again; with what a load and a save go on; that the room of a saved tape goes where the tape can't be put there; and
+//! that the engine loads over a stream.
 //!
 //! They need no request, so that they stand apart from those of the commands: both are long to prove.
 #![tactic(auto)]
@@ -22,6 +22,8 @@ mod reading;
 mod record_steps;
 #[cfg(test)]
 mod replacing;
+#[cfg(test)]
+mod resuming;
 #[cfg(test)]
 mod saving;
 #[cfg(test)]

@@ -29,4 +29,6 @@ mod telling;
 #[cfg(test)]
 mod terminals;
 #[cfg(test)]
+mod told_devices;
+#[cfg(test)]
 mod told_outlets;

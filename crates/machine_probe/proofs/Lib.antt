@@ -9,4 +9,4 @@ mod Noting
 mod OneLine
 mod OneWord
 mod PuttingBack
-mod Reports
+pub mod Reports

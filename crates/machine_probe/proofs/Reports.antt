@@ -21,10 +21,10 @@ use Rattle.machine_probe.specs.Follow.{IsProbe}
 use Rattle.machine_probe.specs.Noted.{AreNotesSince}
 use Rattle.console_lines.specs.Console.{ConsoleTold}
 use Rattle.host_devices.specs.Devices.{line_told}
-use Rattle.machine_probe.specs.Probe.{IsProbeCutShort, IsReport, IsProbeReported, IsProbeReportedOver, OverLine}
-use Rattle.machine_probe.specs.ProbeFault.{WayTold, way_of, IsProbeFault, IsUnreported, IsWanting, IsWantOfMemory}
+use Rattle.machine_probe.specs.Probe.{IsProbeCutShort, IsReport, IsProbeReported, OverLine, OverSome}
+use Rattle.machine_probe.specs.ProbeFault.{way_of, IsProbeFault, IsUnreported}
 use Rattle.machine_probe.specs.declared.probe_fault.ProbeFault.{ProbeFault}
-use Rattle.machine_probe.specs.declared.probe_fault.ProbeFault.TheVariants.{Connect, Memory}
+use Rattle.machine_probe.specs.declared.probe_fault.ProbeFault.TheVariants.{Connect, Memory, WriteOutput}
 use Rattle.machine_probe.specs.Runs.{OnLine}
 use Rattle.machine_probe.proofs.Believed.{believes}
 use Rattle.machine_probe.proofs.OneLine.{believes_over}
@@ -59,40 +59,36 @@ report_from options line line' first f notes pace text end address long fresh op
 
 -- ---- what is written of it
 
-pub over_of : {L : Type 0} (tell : Line L) (options : ProbeOptions) (before after : ConsoleTold) (text written : List ℕ) (end : ProbeEnd) →
+pub reported_of : {L : Type 0} (tell : Line L) (options : ProbeOptions) (before after : ConsoleTold) (text written : List ℕ) (end : ProbeEnd) →
     Gains before.asked after.asked (asked_once before.call) → OverLine tell (before.lines ⇒ after.lines) (λ line. IsReport options line text end) → written ≡ text → Appends before.out after.out written →
-    IsProbeReportedOver tell options (before ⇒ after) end
-over_of {L} tell options before after text written end asks (line, last, given, report) is appended =
+    IsProbeReported (OverLine tell) options (before ⇒ after) end
+reported_of {L} tell options before after text written end asks (line, last, given, report) is appended =
     (line, last, given, record { asked = asks; text = text; report = report; reported = subst (Appends before.out after.out) is appended })
-
-pub some_of : {L : Type 0} (tell : Line L) (options : ProbeOptions) (before after : ConsoleTold) (end : ProbeEnd) → IsProbeReportedOver tell options (before ⇒ after) end → IsProbeReported options before after end
-some_of {L} tell options before after end (line, last, given, reported) = (tell.told line, line_told tell last, given, reported)
 
 pub cut_of : {L : Type 0} (tell : Line L) (options : ProbeOptions) (before after : ConsoleTold) (text written : List ℕ) (end : ProbeEnd) →
     Gains before.asked after.asked (asked_once before.call) → OverLine tell (before.lines ⇒ after.lines) (λ line. IsReport options line text end) → written ≡ text → WritesPrefix before.out after.out written →
-    IsProbeCutShort options before after
+    IsProbeCutShort (OverLine tell) options (before ⇒ after)
 cut_of {L} tell options before after text written end asks (line, last, given, report) is (left, cut) = (
-  tell.told line,
-  line_told tell last,
+  line,
+  last,
   given,
   record { asked = asks; text = text; end = end; report = report; missing = left; reported = subst (λ (t : List ℕ). WritesAllBut before.out after.out t left) is cut },
 )
 
--- ---- what fails before there is a report
-
-some_wanting : {L : Type 0} (tell : Line L) (options : ProbeOptions) (way : Change WayTold) → IsWanting tell options way → IsWantOfMemory options way
-some_wanting {L} tell options way (inl unasked) = inl unasked
-some_wanting {L} tell options way (inr (line, last, broken)) = inr (tell.told line, line_told tell last, broken)
-
 -- a fault that came before there was a report
-pub unreported_is : {L : Type 0} (tell : Line L) (options : ProbeOptions) (before after : ConsoleTold) (fault : ProbeFault) → after.out ≡ before.out → IsUnreported tell options (way_of before ⇒ way_of after) fault →
-    IsProbeFault options before after fault
-unreported_is {L} tell options before after Connect same (asked, lines) = (asked, lines, subst (Keeps before.out) (sym same) (Keeps-refl before.out))
-unreported_is {L} tell options before after Memory same is = (some_wanting tell options (way_of before ⇒ way_of after) is, subst (Keeps before.out) (sym same) (Keeps-refl before.out))
-unreported_is {L} tell options before after other same is = absurd is
+pub unreported_is : {L : Type 0} (tell : Line L) (options : ProbeOptions) (before after : ConsoleTold) (fault : ProbeFault) → after.out ≡ before.out →
+    IsUnreported (OverLine tell) options (way_of before ⇒ way_of after) fault → IsProbeFault (OverLine tell) options (before ⇒ after) fault
+unreported_is {L} tell options before after Connect same is = (is, subst (Keeps before.out) (sym same) (Keeps-refl before.out))
+unreported_is {L} tell options before after Memory same is = (is, subst (Keeps before.out) (sym same) (Keeps-refl before.out))
+unreported_is {L} tell options before after WriteOutput same is = absurd is
 
--- where memory is wanting
-pub wanting_is : {L : Type 0} (tell : Line L) (options : ProbeOptions) (way : Change WayTold) (fault : ProbeFault) → IsUnreported tell options way fault → fault ≡ Memory → IsWanting tell options way
-wanting_is {L} tell options way Memory is same = is
-wanting_is {L} tell options way Connect is same = absurd (cc same)
-wanting_is {L} tell options way other is same = absurd is
+-- ---- a line of a type is some line
+
+pub some_reported : {L : Type 0} (tell : Line L) (options : ProbeOptions) (console : Change ConsoleTold) (end : ProbeEnd) → IsProbeReported (OverLine tell) options console end → IsProbeReported OverSome options console end
+some_reported {L} tell options console end (line, last, given, reported) = (tell.told line, line_told tell last, given, reported)
+
+pub some_fault : {L : Type 0} (tell : Line L) (options : ProbeOptions) (console : Change ConsoleTold) (fault : ProbeFault) → IsProbeFault (OverLine tell) options console fault → IsProbeFault OverSome options console fault
+some_fault {L} tell options console Connect is = is
+some_fault {L} tell options console WriteOutput (line, last, given, cut) = (tell.told line, line_told tell last, given, cut)
+some_fault {L} tell options console Memory (inl unasked, kept) = (inl unasked, kept)
+some_fault {L} tell options console Memory (inr (line, last, given, broken), kept) = (inr (tell.told line, line_told tell last, given, broken), kept)

@@ -59,23 +59,23 @@ pub record IsCutShortOn (options : ProbeOptions) (line : Change (Option (List It
   pub missing : List ℕ
   pub reported : WritesAllBut console.before.out console.after.out text missing
 
--- over a line on which nothing more was said until it was given back
-abbrev pub IsProbeReported : ProbeOptions → ConsoleTold → ConsoleTold → ProbeEnd → Type 0
-IsProbeReported options before after end =
-    (line : Option (List Item)) × (last : LineTold) × Gains before.lines after.lines (last ∷ [])
-    × IsReportedOn options (line ⇒ last.said) (before ⇒ after) end
+-- what is said of a line that was given back: of what it told before, and of what it tells since
+abbrev pub OfLine : Type 1
+OfLine = (lines : Change (Option (List LineTold))) (holds : Change (Option (List Item)) → Type 0) → Type 0
 
--- the same, with a report that may be cut short
-abbrev pub IsProbeCutShort : ProbeOptions → ConsoleTold → ConsoleTold → Type 0
-IsProbeCutShort options before after =
-    (line : Option (List Item)) × (last : LineTold) × Gains before.lines after.lines (last ∷ []) × IsCutShortOn options (line ⇒ last.said) (before ⇒ after)
-
--- a line of this type was given back, and this holds of what it told before, and of what it tells since
-abbrev pub OverLine : {L : Type 0} → Line L → Change (Option (List LineTold)) → (Change (Option (List Item)) → Type 0) → Type 0
+-- it is said of a line of this type
+abbrev pub OverLine : {L : Type 0} → Line L → OfLine
 OverLine {L} tell lines holds =
     (line : L) × (last : L) × Gains lines.before lines.after (line_told tell last ∷ []) × holds (tell.told line ⇒ tell.told last)
 
--- a probe was reported over a line of this type
-abbrev pub IsProbeReportedOver : {L : Type 0} → Line L → ProbeOptions → Change ConsoleTold → ProbeEnd → Type 0
-IsProbeReportedOver {L} tell options console end =
-    OverLine tell (console.before.lines ⇒ console.after.lines) (λ line. IsReportedOn options line console end)
+-- it is said of some line
+abbrev pub OverSome : OfLine
+OverSome lines holds = (line : Option (List Item)) × (last : LineTold) × Gains lines.before lines.after (last ∷ []) × holds (line ⇒ last.said)
+
+-- a probe was reported, over a line on which nothing more was said until it was given back
+abbrev pub IsProbeReported : OfLine → ProbeOptions → Change ConsoleTold → ProbeEnd → Type 0
+IsProbeReported over options console end = over (console.before.lines ⇒ console.after.lines) (λ line. IsReportedOn options line console end)
+
+-- the same, with a report that may be cut short
+abbrev pub IsProbeCutShort : OfLine → ProbeOptions → Change ConsoleTold → Type 0
+IsProbeCutShort over options console = over (console.before.lines ⇒ console.after.lines) (λ line. IsCutShortOn options line console)

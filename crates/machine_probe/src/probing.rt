@@ -6,8 +6,8 @@ ghost use Rattle.tape_values.specs.Told.{IsAsTold};
 ghost use Rattle.reading_core.specs.Addresses.{IsAddress};
 ghost use Rattle.console_lines.specs.Console.{console_told};
 ghost use Rattle.machine_probe.specs.Follow.{IsBrokenOff};
-ghost use Rattle.machine_probe.specs.Probe.{IsReport, IsProbeReported, IsProbeReportedOver, OverLine};
-ghost use Rattle.machine_probe.specs.ProbeFault.{way_told, IsProbeFault, IsUnreported, IsWanting};
+ghost use Rattle.machine_probe.specs.Probe.{IsReport, IsProbeReported, OverLine};
+ghost use Rattle.machine_probe.specs.ProbeFault.{way_told, IsProbeFault, IsUnreported};
 ghost use Rattle.machine_probe.specs.Rooms.{AreLookers};
 ghost use Rattle.machine_probe.specs.Runs.{OnLine};
 ghost use Rattle.request_values.specs.Change.{◌⇒◌};
@@ -45,17 +45,11 @@ pub fn probe<R: Reach, W: Write, C: Clock>(
     clock: &C,
 ) -> Result<ProbeEnd, ProbeFault>
     requires { IsAddress options.address }
-    ensures reported { IfOk result (IsProbeReported options
-        (console_told R.Reach W.Write console.old out.old)
-        (console_told R.Reach W.Write console.new out.new)) }
-    ensures over_line { IfOk result (IsProbeReportedOver R.Line.Line options
+    ensures ok { IfOk result (IsProbeReported (OverLine R.Line.Line) options
+        (console_told R.Reach W.Write console.old out.old ⇒ console_told R.Reach W.Write console.new out.new)) }
+    ensures err { IfErr result (IsProbeFault (OverLine R.Line.Line) options
         (console_told R.Reach W.Write console.old out.old ⇒ console_told R.Reach W.Write console.new out.new)) }
     ensures call { R.call console.new ≡ R.call console.old }
-    ensures fault { IfErr result (IsProbeFault options
-        (console_told R.Reach W.Write console.old out.old)
-        (console_told R.Reach W.Write console.new out.new)) }
-    ensures wanting { IfErr result (λ fault. fault ≡ ProbeFault.Memory →
-        IsWanting R.Line.Line options (way_told R.Reach console.old ⇒ way_told R.Reach console.new)) }
 {
     let mut report = Report::new();
     let end = gather(alloc, options, console, clock, &mut report)?;
@@ -78,7 +72,7 @@ fn gather<R: Reach, C: Clock>(
         (λ line. IsReport options line report.new.items end)) }
     ensures asked { OnOk result (Gains (R.asked console.old) (R.asked console.new) (asked_once (R.call console.old))) }
     ensures call { R.call console.new ≡ R.call console.old }
-    ensures fault { IfErr result (IsUnreported R.Line.Line options (way_told R.Reach console.old ⇒ way_told R.Reach console.new)) }
+    ensures fault { IfErr result (IsUnreported (OverLine R.Line.Line) options (way_told R.Reach console.old ⇒ way_told R.Reach console.new)) }
 {
     let lookers = Lookers::new(alloc, options)?;
     let line = console.reach()?;

@@ -3,7 +3,7 @@ use Rattle.std.proofs.Common.{◌≡◌, Result, Ok, Err, IfOk, IfErr, inr, sym,
 use Rattle.tape_image.specs.Plan.{PlanValue}
 use Rattle.machine_look.specs.Verify.{IsVerifyReported}
 use Rattle.machine_look.specs.declared.verify_end.VerifyEnd.{VerifyEnd}
-use Rattle.machine_probe.specs.Probe.{IsProbeReported}
+use Rattle.machine_probe.specs.Probe.{IsProbeReported, OverSome}
 use Rattle.probe_report.specs.declared.probe_end.ProbeEnd.{ProbeEnd}
 use Rattle.endings.specs.declared.failure.Failure.{Failure}
 use Rattle.endings.specs.declared.status.Status.{Status}
@@ -29,7 +29,7 @@ module _ (names : List Name) (look : Look) (before after : Moment) (plan : PlanV
 
 module _ (request : Probe) (before after : Moment) (no_disk : AsksNoDisk (before ⇒ after)) (no_file : after.asked.inputs ≡ before.asked.inputs)
     (nothing_read : after.held.input ≡ before.held.input) (end : ProbeEnd)
-    (reported : IsProbeReported (probe_options request) (console_at request.look before) (console_at request.look after) end) where
+    (reported : IsProbeReported OverSome (probe_options request) (console_at request.look before ⇒ console_at request.look after) end) where
   pub probed : (result : Result Status Failure) → result ≡ after_probe end → IfOk result (IsConsoleProbed request (before ⇒ after))
   probed (Ok status) is = record { probed = (end, reported, sym is); no_disk = no_disk; no_file = no_file; nothing_read = nothing_read }
   probed (Err failure) is = tt

@@ -2,7 +2,7 @@
 use Rattle.std.specs.Prelude.{◌⊎◌, ◌≡◌, Ok, Err}
 use Rattle.probe_report.specs.declared.probe_end.ProbeEnd.{ProbeEnd}
 use Rattle.console_lines.specs.Console.{ConsoleTold}
-use Rattle.machine_probe.specs.Probe.{IsProbeReported}
+use Rattle.machine_probe.specs.Probe.{IsProbeReported, OverSome}
 use Rattle.machine_probe.specs.ProbeFault.{IsProbeFault}
 use Rattle.machine_probe.specs.declared.probe_fault.ProbeFault.{ProbeFault}
 use Rattle.machine_probe.specs.declared.probe_options.ProbeOptions.{ProbeOptions}
@@ -22,19 +22,19 @@ probe_options request = record { address = request.address; patience = request.l
 -- a console was probed
 abbrev pub IsProbeOver : Probe → Change ConsoleTold → Status → Type 0
 IsProbeOver request console status =
-    (end : ProbeEnd) × IsProbeReported (probe_options request) console.before console.after end × (after_probe end ≡ Ok status)
+    (end : ProbeEnd) × IsProbeReported OverSome (probe_options request) console end × (after_probe end ≡ Ok status)
 
 -- a probe came to nothing
 pub record IsProbeCutShort (request : Probe) (console : Change ConsoleTold) (failure : Failure) : Type 0 where
   pub fault : ProbeFault
-  pub is_so : IsProbeFault (probe_options request) console.before console.after fault
+  pub is_so : IsProbeFault OverSome (probe_options request) console fault
   pub is_called : IsFailureOf (request_fault.Probe fault) request.look.line.now request.look.line.now failure
 
 -- a probe failed: it came to nothing, or it was reported and its line had failed
 abbrev pub IsProbeFailure : Probe → Change ConsoleTold → Failure → Type 0
 IsProbeFailure request console failure =
     IsProbeCutShort request console failure
-    ⊎ ((end : ProbeEnd) × IsProbeReported (probe_options request) console.before console.after end × (after_probe end ≡ Err failure))
+    ⊎ ((end : ProbeEnd) × IsProbeReported OverSome (probe_options request) console end × (after_probe end ≡ Err failure))
 
 -- the console that is named was probed, and nothing else was asked or read
 pub record IsConsoleProbed (request : Probe) (moments : Change Moment) (status : Status) : Type 0 where

@@ -6,7 +6,7 @@ use Rattle.console_lines.proofs.Asked.{in_vain}
 use Rattle.request_values.specs.Change.{◌⇒◌}
 use Rattle.machine_probe.specs.declared.probe_fault.ProbeFault.TheVariants.{Connect, Memory}
 use Rattle.machine_probe.specs.Follow.{IsBrokenOff}
-use Rattle.machine_probe.specs.Probe.{IsReport}
+use Rattle.machine_probe.specs.Probe.{IsReport, OverLine}
 use Rattle.machine_probe.specs.ProbeFault.{IsUnreported, way_told}
 use Rattle.machine_probe.specs.Runs.{OnLine}
 use Rattle.machine_probe.proofs.Faults.{error_is, no_ok, no_value}
@@ -21,7 +21,7 @@ returns-in_err-lookers-clause-asked g c = no_ok c.from_residual.result _ _ c.fro
 pub returns-in_err-lookers-clause-fault : goal.returns-in_err-lookers-clause-fault
 returns-in_err-lookers-clause-fault g c =
     let told = way_told g.R.Reach c.args.console.now in
-    error_is c.from_residual.result Memory (IsUnreported g.R.Line.Line c.args.options (told ⇒ told)) c.from_residual.ensures.1 (inl (record { not_asked = refl; no_line = refl }))
+    error_is c.from_residual.result Memory (IsUnreported (OverLine g.R.Line.Line) c.args.options (told ⇒ told)) c.from_residual.ensures.1 (inl (record { not_asked = refl; no_line = refl }))
 
 pub returns-in_err-line-clause-report : goal.returns-in_err-line-clause-report
 returns-in_err-line-clause-report g c = no_value c.from_residual-in_err-line.result _ _ c.from_residual-in_err-line.ensures.1
@@ -31,7 +31,7 @@ returns-in_err-line-clause-asked g c = no_ok c.from_residual-in_err-line.result 
 
 pub returns-in_err-line-clause-fault : goal.returns-in_err-line-clause-fault
 returns-in_err-line-clause-fault g c =
-    error_is c.from_residual-in_err-line.result Connect (IsUnreported g.R.Line.Line c.args.options (way_told g.R.Reach c.args.console.now ⇒ way_told g.R.Reach c.reach.new.self))
+    error_is c.from_residual-in_err-line.result Connect (IsUnreported (OverLine g.R.Line.Line) c.args.options (way_told g.R.Reach c.args.console.now ⇒ way_told g.R.Reach c.reach.new.self))
     c.from_residual-in_err-line.ensures.1 (in_vain _ _ _ c.in_err-line.field-0.0 c.in_err-line.ensures.asked, c.in_err-line.ensures.lines)
 
 pub returns-in-Ok-clause-report : goal.returns-in-Ok-clause-report
@@ -51,10 +51,10 @@ returns-in-Err-clause-fault g c =
     inr (
       c.in_ok-line.line,
       last,
+      subst (λ lines. Gains lines (g.R.Reach.lines c.let_go.new.self) (line_told g.R.Line.Line last ∷ [])) c.in_ok-line.ensures.lines c.let_go.ensures.lines,
       record {
         asked = subst (λ asked. Gains (g.R.Reach.asked c.args.console.now) asked (asked_once (g.R.Reach.call c.args.console.now))) (sym c.let_go.ensures.asked) c.in_ok-line.ensures.asked;
         fresh = c.in_ok-line.ensures.fresh.nothing_said;
         runs = subst (λ outcome. OnErr outcome (OnLine (IsBrokenOff c.args.options) (told c.in_ok-line.line) (told last))) c.in-Err.is c.report_noted-outcome.ensures.wanting;
-        given_back = subst (λ lines. Gains lines (g.R.Reach.lines c.let_go.new.self) (line_told g.R.Line.Line last ∷ [])) c.in_ok-line.ensures.lines c.let_go.ensures.lines;
       },
     )

@@ -1,8 +1,11 @@
 use Rattle.std.proofs.Common.{inl, refl, ap}
 use Rattle.endings.specs.Held.{Held}
-use Rattle.machine_probe.specs.Probe.{IsProbeReported}
+use Rattle.machine_probe.specs.Probe.{IsProbeReported, OverLine, OverSome}
 use Rattle.machine_probe.specs.ProbeFault.{IsProbeFault}
+use Rattle.machine_probe.proofs.Reports.{some_fault, some_reported}
+use Rattle.request_values.specs.Change.{◌⇒◌}
 use Rattle.requests.specs.Asked.{asked_of}
+use Rattle.requests.specs.Looking.{consoles_at}
 use Rattle.requests.specs.Moment.{moment}
 use Rattle.requests.specs.Probing.{probe_options}
 use Rattle.requests.proofs.Looked.{probed, unprobed}
@@ -32,7 +35,7 @@ returns g c =
     let quiet = ap (λ (h : Held). h.err) c.streams.view_is in
     rw (← c.system.view_is) (elim c.match-probed.branch [
       | in-Ok w ↦
-          let reported = said (λ x y. IsProbeReported (probe_options request) x y w.in-Ok.end) w.in-Ok.ensures.reported in
+          let reported = said (λ x y. IsProbeReported OverSome (probe_options request) (x ⇒ y) w.in-Ok.end) (some_reported g.K.Consoles.Line.Line _ _ w.in-Ok.end w.in-Ok.ensures.ok) in
           rw (w.result-is, c.new-system.ensures) (record {
             ok = probed request before after refl refl read w.in-Ok.end reported w.after_probe.result w.after_probe.ensures;
             err = unprobed request before after refl refl read w.in-Ok.end reported w.after_probe.result w.after_probe.ensures;
@@ -43,7 +46,8 @@ returns g c =
         err = record {
           failed = inl (record {
             fault = w.in-Err.fault;
-            is_so = said (λ x y. IsProbeFault (probe_options request) x y w.in-Err.fault) w.in-Err.ensures.fault;
+            is_so = some_fault g.K.Consoles.Line.Line (probe_options request) (consoles_at request.look (before ⇒ after)) w.in-Err.fault
+                (said (λ x y. IsProbeFault (OverLine g.K.Consoles.Line.Line) (probe_options request) (x ⇒ y) w.in-Err.fault) w.in-Err.ensures.err);
             is_called = w.failure-failure.ensures;
           });
           no_disk = refl;

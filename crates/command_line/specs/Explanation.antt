@@ -2,7 +2,7 @@
 use Rattle.std.specs.Prelude.{◌≡◌, ℕ, List, codes}
 use Rattle.std.specs.String.{string_bytes}
 use Rattle.endings.specs.Explained.{IsShown}
-use Rattle.endings.specs.Failure.{IsTold}
+use Rattle.endings.specs.Failure.{IsPrinted}
 use Rattle.endings.specs.FaultOutput.{IsSaidOnError}
 use Rattle.endings.specs.Held.{Held}
 use Rattle.endings.specs.declared.failure.Failure.TheVariants as failure
@@ -21,7 +21,7 @@ pub record AreWordsRefused (text : List ℕ) (before after : Held) (ended : Stat
 -- memory was wanting, and standard error says so
 pub record IsMemoryWanting (before after : Held) (ended : Status) : Type 0 where
   pub status : ended ≡ status.NoMemory
-  pub told : IsTold before.err after.err failure.NoMemory
+  pub told : IsPrinted before.err after.err failure.NoMemory
   pub out : after.out ≡ before.out
   pub input : after.input ≡ before.input
 

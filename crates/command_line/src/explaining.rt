@@ -2,7 +2,7 @@
 ghost use Rattle.command_line.specs.Explanation.{IsExplained};
 
 use crate::no_request::NoRequest;
-use endings::{Failure, FaultOutput, Output, Status, Streams, refuse, show, tell};
+use endings::{Failure, FaultOutput, Output, Status, Streams, print_failure, refuse, show};
 use std::alloc::Global;
 use std::io::Read;
 
@@ -22,6 +22,6 @@ pub fn explain<R: Read, W: Output, E: FaultOutput>(
         NoRequest::Help(text) => show(alloc, &text, streams),
         NoRequest::Refused(text) => refuse(&text, &mut streams.err),
         NoRequest::Meaningless => refuse(MEANINGLESS, &mut streams.err),
-        NoRequest::NoMemory => tell(alloc, Failure::NoMemory, &mut streams.err),
+        NoRequest::NoMemory => print_failure(alloc, Failure::NoMemory, &mut streams.err),
     }
 }

@@ -1,9 +1,9 @@
 //! Lines of faults and texts that explain, help and refusals, over outputs that fail once.
 ghost use Rattle.std.specs.Prelude.{Some};
-ghost use Rattle.endings.specs.Failure.{IsTold};
+ghost use Rattle.endings.specs.Failure.{IsPrinted};
 ghost use Rattle.endings.specs.FaultOutput.{IsSaidOnError};
 
-use endings::{Failure, FaultOutput, Output, Status, Streams, refuse, show, tell};
+use endings::{Failure, FaultOutput, Output, Status, Streams, print_failure, refuse, show};
 use simulated_system::{BrokenOutput, UnflushedOutput};
 use std::alloc::Global;
 
@@ -83,12 +83,12 @@ fn what_can_not_be_told_is_not(rt: HostRuntime) {
 
 // Tells a fault on such an output.
 fn tell_on(alloc: Global, failure: Failure<'_>, err: &mut BrokenOutput) -> Status
-    ensures { IsTold
+    ensures { IsPrinted
         (record { text = Some err.old.written.items; failures = Some err.old.refused })
         (record { text = Some err.new.written.items; failures = Some err.new.refused })
         failure.entry }
 {
-    tell(alloc, failure, err)
+    print_failure(alloc, failure, err)
 }
 
 // Whether the line of a fault, which can't be told from the write of this number on, ends there.

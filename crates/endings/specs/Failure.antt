@@ -136,13 +136,13 @@ abbrev pub fault_line : Failure → List ℕ
 fault_line failure = codes "ldaodt: " ++ (failure_words failure ++ (failure_name failure ++ failure_end failure))
 
 -- standard error tells of a failure: its line was said there and nothing else
-abbrev pub IsTold : StandardError → StandardError → Failure → Type 0
-IsTold err err' failure = IsSaidOnError err err' (fault_line failure)
+abbrev pub IsPrinted : StandardError → StandardError → Failure → Type 0
+IsPrinted err err' failure = IsSaidOnError err err' (fault_line failure)
 
 -- standard error tells of a failure, unless nobody is to hear of it: then it is as it was
-abbrev pub IsToldUnless : Bool → StandardError → StandardError → Failure → Type 0
-IsToldUnless true err err' failure = err' ≡ err
-IsToldUnless false err err' failure = IsTold err err' failure
+abbrev pub IsPrintedUnless : Bool → StandardError → StandardError → Failure → Type 0
+IsPrintedUnless true err err' failure = err' ≡ err
+IsPrintedUnless false err err' failure = IsPrinted err err' failure
 
 -- nobody is to hear of this failure, of what does nothing but print or does more: output that nobody reads any more can't be written
 abbrev pub is_unheard : Bool → Bool → Failure → Bool

@@ -4,7 +4,7 @@ use Rattle.std.specs.declared.io.ErrorKind.{ErrorKind}
 use Rattle.std.specs.declared.io.ErrorKind.TheVariants.{NotFound, PermissionDenied, ConnectionRefused, WouldBlock, InvalidInput, ResourceBusy, Unsupported}
 use Rattle.endings.specs.declared.failure.Failure.{Failure}
 use Rattle.endings.specs.declared.failure.Failure.TheVariants.{CannotRead, CannotWriteFile, CannotConnect}
-use Rattle.endings.specs.Failure.{IsToldUnless}
+use Rattle.endings.specs.Failure.{IsPrintedUnless}
 use Rattle.endings.specs.FaultOutput.{StandardError, IsSaidOnError}
 
 -- whether it is the system that has the reason of a failure: something can't be read, written or connected to
@@ -41,13 +41,13 @@ abbrev pub reason_line : Failure → ErrorKind → List ℕ → List ℕ
 reason_line failure kind words = codes "ldaodt: " ++ (reason_words failure kind words ++ (reason_hint failure kind ++ codes "\n"))
 
 -- behind the line of a failure nothing more was said, as there is no room for more, or no reason; or the failure is one of which the system has the
--- reason, and that was told by a line of its own, where the system has called it so
-abbrev pub IsReasonTold : Failure → StandardError → StandardError → Type 0
-IsReasonTold failure err err' =
+-- reason, and that was printed as a line of its own, where the system has called it so
+abbrev pub IsReasonPrinted : Failure → StandardError → StandardError → Type 0
+IsReasonPrinted failure err err' =
     (err' ≡ err) ⊎ ((is_systems failure ≡ true) × ((kind : ErrorKind) × (words : List ℕ) × IsSaidOnError err err' (reason_line failure kind words)))
 
 -- standard error tells of a failure, unless nobody is to hear of it, and behind that of the system's reason, where there is one
-pub record IsToldWithReason (unheard : Bool) (err err' : StandardError) (failure : Failure) : Type 0 where
+pub record IsPrintedWithReason (unheard : Bool) (err err' : StandardError) (failure : Failure) : Type 0 where
   pub between : StandardError
-  pub told : IsToldUnless unheard err between failure
-  pub reason : IsReasonTold failure between err'
+  pub printed : IsPrintedUnless unheard err between failure
+  pub reason : IsReasonPrinted failure between err'

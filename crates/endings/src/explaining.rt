@@ -5,9 +5,9 @@ ghost use Rattle.endings.specs.FaultOutput.{IsSaidOnError};
 
 use crate::fault_output::{FaultOutput, say};
 use crate::output::Output;
+use crate::printing::print_unwritten;
 use crate::status::Status;
 use crate::streams::Streams;
-use crate::telling::tell_unwritten;
 use byte_io::write_and_flush;
 use std::alloc::Global;
 use std::io::Read;
@@ -23,7 +23,7 @@ pub fn show<R: Read, W: Output, E: FaultOutput>(
 {
     match write_and_flush(&mut streams.out, text.as_bytes()) {
         Ok(()) => Status::Done,
-        Err(_) => tell_unwritten(alloc, &streams.out, &mut streams.err),
+        Err(_) => print_unwritten(alloc, &streams.out, &mut streams.err),
     }
 }
 

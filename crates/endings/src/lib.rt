@@ -1,7 +1,7 @@
 //! How the program ends: its exit status, and what it says where it did not do what it was asked.
 //!
 //! A `CommandFault` says why a command about tapes did not do what it was asked; by the names of its inputs it is a
-//! `Failure`. A `Failure` has one line on standard error and one status. `tell` prints the line, in one write, and
+//! `Failure`. A `Failure` has one line on standard error and one status. `print_failure` prints the line, in one write, and
 //! answers the status; a file's name in it can't break the line. Words of the command line that ask for
 //! nothing to be done are explained: `show` prints help to standard output, `refuse` says on standard
 //! error what is wrong with them. `Streams` are the three standard streams, as one value; an `Output` knows
@@ -16,10 +16,10 @@ mod fault_output;
 mod line_words;
 mod output;
 mod place;
+mod printing;
 mod status;
 mod streams;
 mod system_reason;
-mod telling;
 
 pub use command_fault::CommandFault;
 pub use explaining::{refuse, show};
@@ -27,7 +27,7 @@ pub use failure::{Failure, STANDARD_INPUT};
 pub use fault_output::{FaultOutput, say};
 pub use output::{Output, PipedOutput};
 pub use place::Place;
+pub use printing::{print_failure, write_name};
 pub use status::Status;
 pub use streams::Streams;
-pub use system_reason::tell_with_reason;
-pub use telling::{tell, write_name};
+pub use system_reason::print_with_reason;

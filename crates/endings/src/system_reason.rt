@@ -1,23 +1,23 @@
 //! What the system says of why something failed: a line of its own behind the line of the failure.
 ghost use Rattle.std.specs.Prelude.{◌≡◌, ◌++◌, true, IfSome};
 ghost use Rattle.std.specs.String.{string_bytes};
-ghost use Rattle.endings.specs.Failure.{status_of, is_unheard, IsTold};
+ghost use Rattle.endings.specs.Failure.{status_of, is_unheard, IsPrinted};
 ghost use Rattle.endings.specs.FaultOutput.{StandardError};
-ghost use Rattle.endings.specs.SystemReason.{connect_hint, is_systems, reason_hint, reason_line, reason_words, IsReasonTold, IsToldWithReason};
+ghost use Rattle.endings.specs.SystemReason.{connect_hint, is_systems, reason_hint, reason_line, reason_words, IsReasonPrinted, IsPrintedWithReason};
 
 use crate::failure::Failure;
 use crate::fault_output::{FaultOutput, say};
 use crate::output::Output;
+use crate::printing::{print_unless_unheard, write_at_once};
 use crate::status::Status;
-use crate::telling::{tell_unless_unheard, write_at_once};
 use std::alloc::Global;
 use std::io;
 use std::io::ErrorKind;
 
-/// Tells a failure as `tell_unless_unheard` does, and behind its line, where that could be written whole, the system's
+/// Prints a failure as `print_unless_unheard` does, and behind its line, where that could be written whole, the system's
 /// reason, where the failure is one that has such: what can't be read, written or connected to. A reason that there
-/// is no memory for is not told.
-pub fn tell_with_reason<W: Output, E: FaultOutput>(
+/// is no memory for is not printed.
+pub fn print_with_reason<W: Output, E: FaultOutput>(
     alloc: Global,
     only_prints: bool,
     failure: Failure<'_>,
@@ -26,11 +26,11 @@ pub fn tell_with_reason<W: Output, E: FaultOutput>(
     err: &mut E,
 ) -> Status
     ensures status { result ≡ status_of failure.entry }
-    ensures told { IsToldWithReason (is_unheard only_prints (W.unread out.now) failure.entry) (E.said err.old) (E.said err.new) failure.entry }
+    ensures printed { IsPrintedWithReason (is_unheard only_prints (W.unread out.now) failure.entry) (E.said err.old) (E.said err.new) failure.entry }
 {
     match reason {
-        Some(error) if is_systems(failure) => tell_systems(alloc, failure, error, err),
-        _ => tell_unless_unheard(alloc, only_prints, failure, out, err),
+        Some(error) if is_systems(failure) => print_with_systems_reason(alloc, failure, error, err),
+        _ => print_unless_unheard(alloc, only_prints, failure, out, err),
     }
 }
 
@@ -45,7 +45,7 @@ fn is_systems(failure: Failure<'_>) -> bool
 }
 
 // Tells a failure of which the system has the reason, and then that.
-fn tell_systems<E: FaultOutput>(
+fn print_with_systems_reason<E: FaultOutput>(
     alloc: Global,
     failure: Failure<'_>,
     error: io::Error,
@@ -53,7 +53,7 @@ fn tell_systems<E: FaultOutput>(
 ) -> Status
     requires { is_systems failure ≡ true }
     ensures status { result ≡ status_of failure.entry }
-    ensures told { (between : StandardError) × IsTold (E.said err.old) between failure.entry × IsReasonTold failure.entry between (E.said err.new) }
+    ensures printed { (between : StandardError) × IsPrinted (E.said err.old) between failure.entry × IsReasonPrinted failure.entry between (E.said err.new) }
 {
     if write_at_once(alloc, failure, err).is_ok() {
         say_reason(alloc, failure, error, err);
@@ -61,10 +61,10 @@ fn tell_systems<E: FaultOutput>(
     failure.status()
 }
 
-// Says the reason of a failure on a line of its own, in one write. What can't be written is not told.
+// Says the reason of a failure on a line of its own, in one write. What can't be written is not printed.
 fn say_reason<E: FaultOutput>(alloc: Global, failure: Failure<'_>, error: io::Error, err: &mut E)
     requires { is_systems failure ≡ true }
-    ensures { IsReasonTold failure.entry (E.said err.old) (E.said err.new) }
+    ensures { IsReasonPrinted failure.entry (E.said err.old) (E.said err.new) }
 {
     let Ok(text) = format!(in alloc; "{error}") else {
         return;

@@ -6,7 +6,7 @@ use Rattle.requests.specs.Moment.{Moment}
 use Rattle.request_values.specs.Change.{◌⇒◌}
 use Rattle.request_values.specs.declared.request.Request.{Request}
 use Rattle.request_values.specs.declared.request.Request.TheVariants.{Tape, Machine}
-use Rattle.endings.specs.Failure.{IsTold}
+use Rattle.endings.specs.Failure.{IsPrinted}
 use Rattle.endings.specs.Held.{Held}
 use Rattle.endings.specs.declared.failure.Failure.TheVariants.{Misplaced}
 use Rattle.endings.specs.declared.place.Place.{Place}
@@ -23,7 +23,7 @@ use Rattle.run_log.specs.Report.{Noted}
 pub record IsMisplaced (before after : Moment) (ended : Status) : Type 0 where
   pub name : Bor (List ℕ)
   pub place : Place
-  pub told : IsTold before.held.err after.held.err (Misplaced name place)
+  pub told : IsPrinted before.held.err after.held.err (Misplaced name place)
   pub quiet : after ≡ record before { held = record before.held { err = after.held.err } }
   pub status_is : ended ≡ BadCommandLine
 

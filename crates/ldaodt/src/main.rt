@@ -6,7 +6,7 @@ mod misplaced;
 mod program;
 
 use command_line::words_of;
-use endings::{PipedOutput, Streams, tell};
+use endings::{PipedOutput, Streams, print_failure};
 use requests::WatchedSystem;
 use run_log::NotedOutput;
 use std::fs;
@@ -29,7 +29,11 @@ fn main(rt: HostRuntime) -> ExitCode {
     };
     let words = match words_of(&rt) {
         Ok(words) => words,
-        Err(failure) => return ExitCode::from(tell(alloc, failure, &mut streams.err).code()),
+        Err(failure) => return ExitCode::from(print_failure(
+            alloc,
+            failure,
+            &mut streams.err,
+        ).code()),
     };
     if words.is_empty() && is_typed {
         say_what_is_read(&rt);

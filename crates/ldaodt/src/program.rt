@@ -14,7 +14,7 @@ ghost use Rattle.ldaodt.specs.Answer.{IsAnswered, IsLoggedIf};
 
 use crate::misplaced::misplaced;
 use command_line::{Wanted, explain, parse};
-use endings::{FaultOutput, Output, Status, Streams, tell};
+use endings::{FaultOutput, Output, Status, Streams, print_failure};
 use request_values::Request;
 use requests::{Kinds, System, attempt};
 use run_log::{NotedOutput, Run, log_run};
@@ -52,7 +52,7 @@ pub(crate) fn program<K: Kinds, R: Read, W: Output, E: FaultOutput, T: Print>(
             let request = &wanted.request;
             // A name that can't be what its place asks for is told, and nothing is done.
             let (system, status) = match misplaced(rt, request) {
-                Some(failure) => (system, tell(alloc, failure, &mut streams.err)),
+                Some(failure) => (system, print_failure(alloc, failure, &mut streams.err)),
                 None => attempt(system, alloc, request, streams, terminal, witness),
             };
             log_if_wanted(alloc, &system, &wanted, status, streams);

@@ -3,7 +3,7 @@ use Rattle.std.proofs.Common.{◌≡◌, ◌∙◌, Bool, Result, Ok, Err, IfOk,
 use Rattle.endings.specs.declared.failure.Failure.{Failure}
 use Rattle.endings.specs.declared.status.Status.{Status}
 use Rattle.endings.specs.Failure.{is_unheard}
-use Rattle.endings.specs.SystemReason.{IsToldWithReason}
+use Rattle.endings.specs.SystemReason.{IsPrintedWithReason}
 use Rattle.endings.specs.FaultOutput.{StandardError}
 use Rattle.endings.specs.Held.{Held}
 use Rattle.request_values.specs.Change.{◌⇒◌}
@@ -24,9 +24,9 @@ attempted request before asked held last (Ok ended) status prints p ok err quiet
 attempted request before asked held last (Err failure) status prints p ok err quiet end = inr (record {
   failure = failure;
   failed = subst (λ h. IsFailed request (before ⇒ moment asked h) failure) (sym end.0) (failed_whatever before asked held last.err failure request err);
-  told = subst (λ b. IsToldWithReason (is_unheard b last.unread failure) before.held.err last.err failure) p
-      (subst (λ b. IsToldWithReason (is_unheard prints b failure) before.held.err last.err failure) (sym (ap (λ (h : Held). h.unread) end.0))
-      (subst (λ (e : StandardError). IsToldWithReason (is_unheard prints held.unread failure) e last.err failure) quiet end.1));
+  told = subst (λ b. IsPrintedWithReason (is_unheard b last.unread failure) before.held.err last.err failure) p
+      (subst (λ b. IsPrintedWithReason (is_unheard prints b failure) before.held.err last.err failure) (sym (ap (λ (h : Held). h.unread) end.0))
+      (subst (λ (e : StandardError). IsPrintedWithReason (is_unheard prints held.unread failure) e last.err failure) quiet end.1));
   status_is = end.2;
 })
 

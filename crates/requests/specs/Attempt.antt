@@ -5,7 +5,7 @@ use Rattle.endings.specs.declared.failure.Failure.{Failure}
 use Rattle.endings.specs.declared.status.Status.{Status}
 use Rattle.endings.specs.Held.{Held}
 use Rattle.endings.specs.Failure.{status_of, is_unheard}
-use Rattle.endings.specs.SystemReason.{IsToldWithReason}
+use Rattle.endings.specs.SystemReason.{IsPrintedWithReason}
 use Rattle.requests.specs.Loading.{AreLoaded, AreUnloaded}
 use Rattle.requests.specs.Looking.{AreVerified, AreUnverified}
 use Rattle.requests.specs.Probing.{IsConsoleProbed, IsConsoleUnprobed}
@@ -47,7 +47,7 @@ pub record IsDoneQuietly (request : Request) (moments : Change Moment) (status :
 pub record IsFailedAloud (request : Request) (moments : Change Moment) (status : Status) : Type 0 where
   pub failure : Failure
   pub failed : IsFailed request moments failure
-  pub told : IsToldWithReason (is_unheard (only_prints request) moments.after.held.unread failure) moments.before.held.err moments.after.held.err failure
+  pub told : IsPrintedWithReason (is_unheard (only_prints request) moments.after.held.unread failure) moments.before.held.err moments.after.held.err failure
   pub status_is : status ≡ status_of failure
 
 -- a request was attempted from one moment to another, and the program ends so
@@ -60,5 +60,5 @@ abbrev pub IsEndOf : Bool → Result Status Failure → Change Held → Status �
 IsEndOf prints (Ok done) held status = (held.after ≡ held.before) × (status ≡ done)
 IsEndOf prints (Err failure) held status =
     (held.after ≡ record held.before { err = held.after.err })
-    × IsToldWithReason (is_unheard prints held.before.unread failure) held.before.err held.after.err failure
+    × IsPrintedWithReason (is_unheard prints held.before.unread failure) held.before.err held.after.err failure
     × (status ≡ status_of failure)

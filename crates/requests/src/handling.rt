@@ -12,7 +12,7 @@ use crate::probing::probe_console;
 use crate::saving::save_words;
 use crate::system::{Kinds, System};
 use crate::verifying::verify_tapes;
-use endings::{Failure, FaultOutput, Output, Status, Streams, tell_with_reason};
+use endings::{Failure, FaultOutput, Output, Status, Streams, print_with_reason};
 use request_values::{MachineRequest, Request, TapeRequest};
 use std::alloc::Global;
 use std::io::{Print, Read};
@@ -87,7 +87,7 @@ fn end<R: Read, W: Output, E: FaultOutput, T: Print>(
         Ok(status) => status,
         Err(failure) => {
             let (out, err) = (&streams.out, &mut streams.err);
-            let status = tell_with_reason(alloc, only_prints, failure, witness.error(), out, err);
+            let status = print_with_reason(alloc, only_prints, failure, witness.error(), out, err);
             say_instead(terminal, failure, witness.front());
             status
         }

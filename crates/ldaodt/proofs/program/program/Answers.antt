@@ -1,6 +1,6 @@
 use Rattle.std.proofs.Common.{◌≡◌, ◌∙◌, inl, inr, refl, sym, subst, ap}
 use Rattle.endings.specs.FaultOutput.{StandardError}
-use Rattle.endings.specs.Failure.{IsTold, status_of}
+use Rattle.endings.specs.Failure.{IsPrinted, status_of}
 use Rattle.endings.specs.Held.{Held}
 use Rattle.endings.specs.declared.failure.Failure.{Failure}
 use Rattle.endings.specs.declared.failure.Failure.TheVariants.{Misplaced}
@@ -28,11 +28,11 @@ checks_input : (wanted : Wanted) → wanted ≡ unlogged (Tape (Print CheckInput
 checks_input wanted is = ap (λ w. w.request) is
 
 -- a name that is out of place was told of
-told_misplaced : (asked : SystemAsked) (held : Held) (err : StandardError) (failure : Failure) (ended : Status) → IsOfPlace failure → IsTold held.err err failure
+printed_misplaced : (asked : SystemAsked) (held : Held) (err : StandardError) (failure : Failure) (ended : Status) → IsOfPlace failure → IsPrinted held.err err failure
     → ended ≡ status_of failure → IsMisplaced (moment asked held) (moment asked (record held { err = err })) ended
-told_misplaced asked held err (Misplaced name place) ended of_place told is =
+printed_misplaced asked held err (Misplaced name place) ended of_place told is =
     record { name = name; place = place; told = told; quiet = refl; status_is = is }
-told_misplaced asked held err _ ended of_place told is = absurd of_place
+printed_misplaced asked held err _ ended of_place told is = absurd of_place
 
 pub returns-after-misplaced-clause-checked : goal.returns-after-misplaced-clause-checked
 returns-after-misplaced-clause-checked g c no_words =
@@ -58,7 +58,7 @@ returns-after-misplaced-clause-answered g c = (
     between = c.match-misplaced.streams;
     tried = elim c.match-misplaced.branch [
       | in-Some w ↦ rw (w.system-is, w.streams-is, ← w.streams.view_is)
-          (inr (told_misplaced _ _ _ w.in-Some.failure w.tell.result w.in-Some.ensures.misplaced w.tell.ensures.told w.tell.ensures.status))
+          (inr (printed_misplaced _ _ _ w.in-Some.failure w.print_failure.result w.in-Some.ensures.misplaced w.print_failure.ensures.printed w.print_failure.ensures.status))
       | in-None w ↦ rw (w.system-is, w.streams-is) (inl w.attempt.ensures)
     ];
     logged = c.log_if_wanted.ensures;

@@ -3,7 +3,7 @@ use Rattle.std.proofs.lemmas.Result.{on_err_weaker, on_ok_weaker}
 use Rattle.endings.specs.Failure.{shown_name, stale_names}
 use Rattle.endings.specs.FaultOutput.{StandardError}
 use Rattle.endings.proofs.Lines.{IsSaidBut, all_said, on_any_err, none_said, piece_said, piece_cut}
-use Rattle.endings.proofs.telling.write_twice.Goals as goal
+use Rattle.endings.proofs.printing.write_twice.Goals as goal
 
 -- both, before anything is said
 unsaid : (a : StandardError) (name : List ℕ) → IsSaidBut a a (stale_names name) (shown_name name ++ (codes ".part says: remove " ++ shown_name name))

@@ -3,7 +3,7 @@ use Rattle.std.proofs.Common.{IsUtf8}
 use Rattle.std.specs.Str.Iter.{chars_rest}
 use Rattle.endings.proofs.Lines.{IsSaidBut}
 use Rattle.endings.proofs.Names.{shown_text}
-use Rattle.endings.proofs.telling.write_name.Given as goal
+use Rattle.endings.proofs.printing.write_name.Given as goal
 
 abbrev pub invariant-loop-character : goal.invariant-loop-character
 invariant-loop-character g l = record {

@@ -4,7 +4,7 @@ use Rattle.endings.specs.declared.failure.Failure.{Failure}
 use Rattle.endings.specs.Failure.{failure_words, failure_name, failure_end, fault_line}
 use Rattle.endings.specs.FaultOutput.{StandardError}
 use Rattle.endings.proofs.Lines.{IsSaidBut, on_any_err, none_said, piece_said, piece_cut, line_pieces}
-use Rattle.endings.proofs.telling.write_line.Goals as goal
+use Rattle.endings.proofs.printing.write_line.Goals as goal
 
 -- the line, before any of its three pieces is said
 unsaid : (a : StandardError) (f : Failure) (words : List ℕ) → words ≡ codes "ldaodt: " ++ failure_words f → IsSaidBut a a (fault_line f) (words ++ (failure_name f ++ failure_end f))

@@ -6,7 +6,7 @@ ghost use Rattle.std.specs.Char.{is_control, digit_char};
 ghost use Rattle.std.specs.Char.Escape.{escape_default};
 ghost use Rattle.endings.specs.FaultOutput.{IsSaidInPart, IsSaidWhole};
 ghost use Rattle.endings.specs.Failure.{status_of, failure_end, failure_name, fault_line, misplaced_end, shown_char, shown_name, stale_names};
-ghost use Rattle.endings.specs.Failure.{is_unheard, IsTold, IsToldUnless};
+ghost use Rattle.endings.specs.Failure.{is_unheard, IsPrinted, IsPrintedUnless};
 
 use crate::failure::Failure;
 use crate::fault_output::{FaultOutput, say};
@@ -21,38 +21,38 @@ use std::alloc::Global;
 // A character as it is shown: four bytes, or an escape of six.
 type Shown = ArrayVec<u8, 6>;
 
-/// Prints the line of a failure, in one write, and answers the status that tells of it.
+/// Prints the line of a failure, in one write, and answers the status that says so.
 ///
 /// In a name a control character is shown by its escape, and an empty name by two quotes. A line that
-/// there is no memory for is written in pieces. What can't be written is not told.
-pub fn tell<E: FaultOutput>(alloc: Global, failure: Failure<'_>, err: &mut E) -> Status
+/// there is no memory for is written in pieces. What can't be written is not printed.
+pub fn print_failure<E: FaultOutput>(alloc: Global, failure: Failure<'_>, err: &mut E) -> Status
     ensures status { result ≡ status_of failure.entry }
-    ensures told { IsTold (E.said err.old) (E.said err.new) failure.entry }
+    ensures printed { IsPrinted (E.said err.old) (E.said err.new) failure.entry }
 {
     let _ = write_at_once(alloc, failure, err);
     failure.status()
 }
 
-/// Tells that an output can't be written, unless nobody reads it any more: whoever left doesn't wait for
-/// the rest. The status tells of it in either case.
-pub(crate) fn tell_unwritten<W: Output, E: FaultOutput>(
+/// Prints that an output can't be written, unless nobody reads it any more: whoever left doesn't wait for
+/// the rest. The status says so in either case.
+pub(crate) fn print_unwritten<W: Output, E: FaultOutput>(
     alloc: Global,
     out: &W,
     err: &mut E,
 ) -> Status
     ensures status { result ≡ Status.DeviceFailed }
-    ensures told { IsToldUnless (W.unread out.now) (E.said err.old) (E.said err.new) Failure.CannotWrite }
+    ensures printed { IsPrintedUnless (W.unread out.now) (E.said err.old) (E.said err.new) Failure.CannotWrite }
 {
     if out.is_unread() {
         Status::DeviceFailed
     } else {
-        tell(alloc, Failure::CannotWrite, err)
+        print_failure(alloc, Failure::CannotWrite, err)
     }
 }
 
-/// Tells a failure of what does nothing but print, or of what does more. That the output can't be written is
-/// not told of the former where nobody reads any more.
-pub(crate) fn tell_unless_unheard<W: Output, E: FaultOutput>(
+/// Prints a failure of what does nothing but print, or of what does more. That the output can't be written is
+/// not printed of the former where nobody reads any more.
+pub(crate) fn print_unless_unheard<W: Output, E: FaultOutput>(
     alloc: Global,
     only_prints: bool,
     failure: Failure<'_>,
@@ -60,11 +60,11 @@ pub(crate) fn tell_unless_unheard<W: Output, E: FaultOutput>(
     err: &mut E,
 ) -> Status
     ensures status { result ≡ status_of failure.entry }
-    ensures told { IsToldUnless (is_unheard only_prints (W.unread out.now) failure.entry) (E.said err.old) (E.said err.new) failure.entry }
+    ensures printed { IsPrintedUnless (is_unheard only_prints (W.unread out.now) failure.entry) (E.said err.old) (E.said err.new) failure.entry }
 {
     match failure {
-        Failure::CannotWrite if only_prints => tell_unwritten(alloc, out, err),
-        _ => tell(alloc, failure, err),
+        Failure::CannotWrite if only_prints => print_unwritten(alloc, out, err),
+        _ => print_failure(alloc, failure, err),
     }
 }
 

@@ -4,7 +4,7 @@ use Rattle.std.proofs.lemmas.Str.{IsUtf8-past_char}
 use Rattle.endings.specs.FaultOutput.{IsSaidInPart, IsSaidWhole}
 use Rattle.endings.proofs.Lines.{IsSaidBut, on_any_err, piece_said, piece_cut, all_said}
 use Rattle.endings.proofs.Names.{shown_text, shown_text-char, shown_text-none, shown_name-some}
-use Rattle.endings.proofs.telling.write_name.Goals as goal
+use Rattle.endings.proofs.printing.write_name.Goals as goal
 
 pub loop-character-preserved : goal.loop-character-preserved
 loop-character-preserved g c =

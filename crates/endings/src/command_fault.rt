@@ -1,6 +1,6 @@
 use byte_io::WriteFault;
 use std::alloc::AllocError;
-use tape_blocks::{Fault, Memory};
+use tape_blocks::Fault;
 
 /// Why a command did not do what it was asked.
 #[derive(Clone, Copy, Debug, PartialEq, Eq)]
@@ -49,16 +49,5 @@ impl From<WriteFault> for CommandFault {
 
     fn from(_failed: WriteFault) -> CommandFault {
         CommandFault::Write
-    }
-}
-
-impl From<Memory> for CommandFault {
-    ghost use Rattle.std.specs.Prelude.{◌≡◌};
-    ghost use Rattle.endings.specs.declared.command_fault.CommandFault.TheVariants.{Memory};
-
-    ghost from_gives = { λ _ fault. fault ≡ Memory };
-
-    fn from(_refused: Memory) -> CommandFault {
-        CommandFault::Memory
     }
 }

@@ -3,9 +3,9 @@ use Rattle.std.proofs.Common.{◌≡◌, ℕ, zero, suc, ◌+◌, ◌-◌, ◌/�
 use Rattle.std.specs.Prelude.{◌==◌, ◌&&◌, slice_get, IfOk, Result, Ok, Err}
 use Rattle.std.proofs.lemmas.Bool.{eq-eqb, ne_eqb, lt-leb, le-leb, leb-true, leb-false}
 use Rattle.std.proofs.lemmas.List.Elements.{All-nil, All-cons}
+use Rattle.std.specs.declared.alloc.AllocError.{AllocError}
 use Rattle.tape_values.specs.Block.{block_at}
 use Rattle.tape_values.specs.Tape.{TapeValue}
-use Rattle.tape_values.specs.declared.memory.Memory.{Memory}
 use Rattle.tape_image.specs.Image.{Image, IsImageOf, byte_in}
 use Rattle.tape_image.specs.Memory.{half}
 use Rattle.tape_image.specs.Word.{IsWord, covers, whole_word}
@@ -87,7 +87,7 @@ plan_of_word address old plan is fits image words start = record {
 }
 
 -- the plan of the tape that has this word alone
-pub plan_made : (address old : ℕ) (tape : TapeValue) (made : Result PlanValue Memory) → IsAddress address → old < 65536 → tape ≡ record { blocks = block_at address (two_bytes old) ∷ []; start = 1 } →
+pub plan_made : (address old : ℕ) (tape : TapeValue) (made : Result PlanValue AllocError) → IsAddress address → old < 65536 → tape ≡ record { blocks = block_at address (two_bytes old) ∷ []; start = 1 } →
     IfOk made (λ plan. plan ≡ plan_of tape) → IfOk made (λ plan. IsImageOf tape.blocks plan.image) → IfOk made (λ plan. AreTheWordsOf plan.image plan.words) → IfOk made (IsPlanOfWord address old)
 plan_made address old tape (Err memory) is fits tape_is made image words = tt
 plan_made address old tape (Ok plan) is fits tape_is made image words =

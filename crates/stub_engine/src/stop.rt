@@ -1,7 +1,6 @@
 use host_core::End;
 use host_devices::{KeepFault, LineFault};
 use std::alloc::AllocError;
-use tape_values::Memory;
 
 /// Why no more stubs are brought in.
 #[derive(Clone, Copy, Debug, PartialEq, Eq)]
@@ -38,17 +37,6 @@ impl From<AllocError> for Stop {
     ghost from_gives = { λ _ stop. stop ≡ Memory };
 
     fn from(_e: AllocError) -> Stop {
-        Stop::Memory
-    }
-}
-
-impl From<Memory> for Stop {
-    ghost use Rattle.std.specs.Prelude.{◌≡◌};
-    ghost use Rattle.stub_engine.specs.declared.stop.Stop.TheVariants.{Memory};
-
-    ghost from_gives = { λ _ stop. stop ≡ Memory };
-
-    fn from(_e: Memory) -> Stop {
         Stop::Memory
     }
 }

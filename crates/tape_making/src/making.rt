@@ -6,9 +6,9 @@ use crate::refusal::{Refusal, WordsFault};
 use crate::tape::tape_from;
 use crate::text::WORDS_LIMIT;
 use byte_io::{InputFault, read_up_to};
-use std::alloc::Global;
+use std::alloc::{AllocError, Global};
 use std::io::Read;
-use tape_blocks::{Memory, write_tape};
+use tape_blocks::write_tape;
 
 // The most bytes that are taken: one more than words may have, so that a longer text is seen.
 const INPUT_LIMIT: usize = WORDS_LIMIT + 1;
@@ -54,13 +54,13 @@ impl From<WordsFault> for MakeFault {
     }
 }
 
-impl From<Memory> for MakeFault {
+impl From<AllocError> for MakeFault {
     ghost use Rattle.std.specs.Prelude.{◌≡◌};
     ghost use Rattle.tape_making.specs.declared.making.MakeFault.TheVariants.{Memory as no_memory};
 
     ghost from_gives = { λ _ made. made ≡ no_memory };
 
-    fn from(_refused: Memory) -> MakeFault {
+    fn from(_refused: AllocError) -> MakeFault {
         MakeFault::Memory
     }
 }

@@ -6,8 +6,7 @@
 //! to say of memory only what was read; over an honest line that is what memory holds, and it is what it was. Of
 //! the words that a save found it says that they are what was found there, and that samples of them stood.
 //!
-//! The crate `requests` calls them, and their tests stand in `load_tests`, `record_tests` and
-//! `command_tests`.
+//! The crate `requests` calls them, and their tests stand in `load_tests` and `command_tests`.
 #![tactic(auto)]
 
 mod behind;

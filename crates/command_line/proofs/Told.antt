@@ -8,7 +8,7 @@ use Rattle.clap.specs.Walk.{Rule, Text}
 use Rattle.clap.specs.declared.builder.arg.Arg.{Arg}
 use Rattle.clap.specs.declared.builder.command.Command.{Command}
 use Rattle.command_line.specs.Arguments.{rule_told}
-use Rattle.command_line.specs.Commands.{command_told, known_words, program_told, shape_with}
+use Rattle.command_line.specs.Commands.{IsToldAll, command_told, known_words, shape_with, with_command}
 use Rattle.command_line.specs.declared.arguments.Argument.{Argument}
 use Rattle.command_line.specs.declared.commands.KnownCommand.{KnownCommand}
 
@@ -28,16 +28,18 @@ third true true true d all = absurd (cc all)
 third true false c d all = absurd (cc all)
 third false b c d all = absurd (cc all)
 
--- one command more
-abbrev pub with_command : App → KnownCommand → App
-with_command app command = with_subcommand app (command_told command)
-
--- the program has one command more
-pub told_command : (old sub new : Command) (all : List KnownCommand) (i : ℕ) (d : KnownCommand) → i < length all
+-- a program has one command more
+pub told_command : (first : App) (old sub new : Command) (all : List KnownCommand) (i : ℕ) (d : KnownCommand) → i < length all
     → AddsSubcommand old sub new → (app_of sub).top ≡ command_told (get_or all i d)
-    → app_of old ≡ fold with_command program_told (take i all) → app_of new ≡ fold with_command program_told (take (i + 1) all)
-told_command old sub new all i d more adds told so_far =
-    adds.shape (third _ _ _ _ (ap (λ (s : Shape). s.is_plain) told)) ∙ ap₂ with_subcommand so_far told ∙ sym (fold_more with_command program_told all i d more)
+    → app_of old ≡ fold with_command first (take i all) → app_of new ≡ fold with_command first (take (i + 1) all)
+told_command first old sub new all i d more adds told so_far =
+    adds.shape (third _ _ _ _ (ap (λ (s : Shape). s.is_plain) told)) ∙ ap₂ with_subcommand so_far told ∙ sym (fold_more with_command first all i d more)
+
+-- a program that was told of some commands, and then of others, was told of both
+pub told_both : (bare some all program : App) (first second : List KnownCommand) → IsToldAll some all second → IsToldAll bare some first → bare ≡ program
+    → all ≡ fold with_command (fold with_command program first) second
+told_both bare some all program first second last before begun =
+    last.told ∙ ap (λ app. fold with_command app second) (before.told ∙ ap (λ app. fold with_command app first) begun)
 
 -- all that the program knows is of the kind of which the parser says what it finds
 pub known_is_simple : is_simple known_words ≡ true

@@ -37,6 +37,14 @@ abbrev pub program_told : App
 program_told =
     on_top (λ s. record s { no_binary_name = true; has_version = true; subcommand_required = true }) (new_app (codes "ldaodt"))
 
+-- the parser is told of one command more
+abbrev pub with_command : App → KnownCommand → App
+with_command app command = with_subcommand app (command_told command)
+
+-- and of these commands, one behind the other
+pub record IsToldAll (before after : App) (commands : List KnownCommand) : Type 0 where
+  pub told : after ≡ fold with_command before commands
+
 -- all commands: the word of each, its arguments and its options
 abbrev pub all_commands : List Shape
 all_commands =

@@ -10,12 +10,14 @@ mod addresses;
 mod arguments;
 mod commands;
 mod explaining;
+mod machine_words;
 mod names;
 mod no_request;
 mod parsing;
 mod process_words;
 mod refusals;
 mod shown_words;
+mod tape_words;
 mod values;
 mod wanted;
 

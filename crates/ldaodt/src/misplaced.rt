@@ -14,6 +14,7 @@ use std::fs;
 use std::fs::File;
 use std::io::IsTerminal;
 use std::os::unix::fs::FileTypeExt;
+use tape_commands::{InputNames, names_of};
 
 /// The first name of a request that can't be what its place asks for. Nothing is read for that.
 ///
@@ -32,18 +33,10 @@ pub(crate) fn misplaced<'a>(rt: &HostRuntime, request: &Request<'a>) -> Option<F
         Request::Machine(MachineRequest::Load(tapes, load)) => {
             terminal_among(rt, tapes).or(terminal_as_record(rt, load.record))
         }
-        Request::Machine(MachineRequest::Verify(tapes, _))
-        | Request::Tape(TapeRequest::Print(PrintRequest::Check(tapes, _)))
-        | Request::Tape(TapeRequest::Print(PrintRequest::Dialogue(tapes, _))) => {
-            terminal_among(rt, tapes)
-        }
-        Request::Tape(TapeRequest::Print(PrintRequest::Rehearse(rehearsal))) => {
-            terminal_among(rt, &[rehearsal.tape])
-                .or(terminal(rt, rehearsal.script, Place::Script))
-                .or(terminal_among(rt, &rehearsal.more))
-        }
+        Request::Machine(MachineRequest::Verify(tapes, _)) => terminal_among(rt, tapes),
+        Request::Machine(MachineRequest::Save(_) | MachineRequest::Probe(_)) => None,
         Request::Tape(TapeRequest::Make(make)) => terminal_as_words(rt, make.words),
-        Request::Tape(_) | Request::Machine(_) => None,
+        Request::Tape(TapeRequest::Print(request)) => terminal_as_input(rt, request),
     }
 }
 
@@ -87,6 +80,22 @@ fn terminal_among<'a>(rt: &HostRuntime, tapes: &[&'a str]) -> Option<Failure<'a>
         }
     }
     None
+}
+
+// The first name of a request that only prints which is a terminal's.
+fn terminal_as_input<'a>(rt: &HostRuntime, request: &PrintRequest<'a>) -> Option<Failure<'a>>
+    ensures misplaced { IfSome result IsOfPlace }
+    ensures checked { request.now ≡ PrintRequest.CheckInput → result ≡ None }
+{
+    match names_of(request) {
+        InputNames::Nothing => None,
+        InputNames::Tapes(tapes) => terminal_among(rt, tapes),
+        InputNames::Scripted(rehearsal) => {
+            terminal_among(rt, &[rehearsal.tape])
+                .or(terminal(rt, rehearsal.script, Place::Script))
+                .or(terminal_among(rt, &rehearsal.more))
+        }
+    }
 }
 
 // That octal words have a terminal's name. Standard input may be one.

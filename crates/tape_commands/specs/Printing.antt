@@ -1,6 +1,6 @@
 -- What becomes of a request that does nothing but print: what the files that it names and standard input held decides what is written, and the
 -- status or the failure.
-use Rattle.std.specs.Prelude.{◌≡◌}
+use Rattle.std.specs.Prelude.{◌≡◌, ⊤}
 use Rattle.endings.specs.declared.failure.Failure.{Failure}
 use Rattle.endings.specs.declared.status.Status.{Status}
 use Rattle.endings.specs.declared.status.Status.TheVariants.{Done}
@@ -9,9 +9,20 @@ use Rattle.request_values.specs.Change.{◌⇒◌}
 use Rattle.request_values.specs.declared.request.PrintRequest.{PrintRequest}
 use Rattle.request_values.specs.declared.request.PrintRequest.TheVariants.{CheckInput, Check, Dialogue, Rehearse, «Type» as TypeKeys}
 use Rattle.tape_commands.specs.Checking.{AreChecked, AreUnchecked, IsInputChecked, IsInputUnchecked}
+use Rattle.tape_commands.specs.declared.printing.InputNames.{InputNames}
+use Rattle.tape_commands.specs.declared.printing.InputNames.TheVariants.{Nothing, Tapes, Scripted}
 use Rattle.tape_commands.specs.Rehearsing.{AreRehearsed, AreUnrehearsed}
 use Rattle.tape_commands.specs.Showing.{AreShown, AreUnshown}
 use Rattle.tape_commands.specs.Typing.{IsTypedThrough, IsTypingFailure}
+
+-- these are the names of a request
+abbrev pub AreNamesOf : PrintRequest → InputNames → Type 0
+AreNamesOf CheckInput Nothing = ⊤
+AreNamesOf (Check names options) (Tapes tapes) = tapes.now ≡ names.items
+AreNamesOf (Dialogue names stage) (Tapes tapes) = tapes.now ≡ names.items
+AreNamesOf (Rehearse rehearsal) (Scripted scripted) = scripted.now ≡ rehearsal
+AreNamesOf (TypeKeys console) Nothing = ⊤
+AreNamesOf request names = ⊥
 
 -- no file was opened
 abbrev pub OpensNothing : Intake → Intake → Type 0

@@ -5,8 +5,8 @@
 //! writes is exactly the text that its contract names, and every refusal comes before the first byte of it. Worlds are
 //! moved by the calls of `line_world::World` alone. `print_answer` does a request: it opens the files that are named, in
 //! their order, reads standard input only where a tape or the keys are it, and answers the exit status or the `Failure`
-//! that names what was at fault; it says nothing on standard error. `tape_of_words` makes the bytes of a tape of octal
-//! words, for `make`. Used by `requests`.
+//! that names what was at fault; it says nothing on standard error. `names_of` has the names that it opens. `tape_of_words` makes the bytes of a tape of octal
+//! words, for `make`. Used by `requests` and `ldaodt`.
 #![tactic(auto)]
 
 mod block_list;
@@ -26,6 +26,6 @@ mod worlds;
 pub use check::check_to;
 pub use dialogue::dialogue_to;
 pub use make::tape_of_words;
-pub use printing::print_answer;
+pub use printing::{InputNames, names_of, print_answer};
 pub use rehearse::rehearse_to;
 pub use type_keys::type_to;

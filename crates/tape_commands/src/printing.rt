@@ -2,7 +2,7 @@
 ghost use Rattle.std.specs.Prelude.{◌≡◌, IfOk, IfErr};
 ghost use Rattle.std.specs.Mem.{FitsInMemory};
 ghost use Rattle.input_files.specs.Intake.{intake};
-ghost use Rattle.tape_commands.specs.Printing.{IsPrinted, IsUnprinted};
+ghost use Rattle.tape_commands.specs.Printing.{AreNamesOf, IsPrinted, IsUnprinted};
 
 use crate::check::{check_input, check_tapes};
 use crate::dialogue::show_dialogue;
@@ -10,9 +10,34 @@ use crate::rehearse::rehearse;
 use crate::type_keys::type_input;
 use endings::{Failure, FaultOutput, Output, Status, Streams};
 use input_files::InputFiles;
-use request_values::PrintRequest;
+use request_values::{PrintRequest, Rehearsal};
 use std::alloc::Global;
 use std::io::Read;
+
+/// What a request that does nothing but print has names of.
+pub enum InputNames<'r, 'a> {
+    /// Of nothing: it reads standard input.
+    Nothing,
+
+    /// Of tapes.
+    Tapes(&'r [&'a str]),
+
+    /// Of tapes and a script.
+    Scripted(&'r Rehearsal<'a>),
+}
+
+/// What a request that does nothing but print names.
+pub fn names_of<'r, 'a>(request: &'r PrintRequest<'a>) -> InputNames<'r, 'a>
+    ensures { AreNamesOf request.now result }
+{
+    match request {
+        PrintRequest::CheckInput | PrintRequest::Type(_) => InputNames::Nothing,
+        PrintRequest::Check(tapes, _) | PrintRequest::Dialogue(tapes, _) => {
+            InputNames::Tapes(tapes)
+        }
+        PrintRequest::Rehearse(rehearsal) => InputNames::Scripted(rehearsal),
+    }
+}
 
 /// Does a request that does nothing but print, with these files, and answers the exit status.
 ///

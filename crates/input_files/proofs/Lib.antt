@@ -4,4 +4,3 @@ pub mod Taken
 pub mod TapeInput
 mod TapesInput
 pub mod Tried
-pub mod Whatever

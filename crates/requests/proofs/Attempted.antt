@@ -12,7 +12,11 @@ use Rattle.request_values.specs.Request.{only_prints}
 use Rattle.requests.specs.Asked.{SystemAsked}
 use Rattle.requests.specs.Attempt.{IsAttempted, IsDone, IsEndOf, IsFailed}
 use Rattle.requests.specs.Moment.{Moment, moment}
-use Rattle.requests.proofs.Whatever.{failed_whatever}
+
+-- the streams held this before standard error was told anything
+before_telling : (before : Moment) (held last : Held) → held.err ≡ before.held.err → last ≡ record held { err = last.err } → record last { err = before.held.err } ≡ held
+before_telling before held last quiet told =
+    ap (λ (h : Held). record h { err = before.held.err }) told ∙ ap (λ (e : StandardError). record held { err = e }) (sym quiet)
 
 pub attempted : (request : Request) (before : Moment) (asked : SystemAsked) (held last : Held) (outcome : Result Status Failure) (status : Status) (prints : Bool)
     → prints ≡ only_prints request → IfOk outcome (IsDone request (before ⇒ moment asked held)) → IfErr outcome (IsFailed request (before ⇒ moment asked held))
@@ -23,7 +27,7 @@ attempted request before asked held last (Ok ended) status prints p ok err quiet
 })
 attempted request before asked held last (Err failure) status prints p ok err quiet end = inr (record {
   failure = failure;
-  failed = subst (λ h. IsFailed request (before ⇒ moment asked h) failure) (sym end.0) (failed_whatever before asked held last.err failure request err);
+  failed = subst (λ h. IsFailed request (before ⇒ moment asked h) failure) (sym (before_telling before held last quiet end.0)) err;
   told = subst (λ b. IsPrintedWithReason (is_unheard b last.unread failure) before.held.err last.err failure) p
       (subst (λ b. IsPrintedWithReason (is_unheard prints b failure) before.held.err last.err failure) (sym (ap (λ (h : Held). h.unread) end.0))
       (subst (λ (e : StandardError). IsPrintedWithReason (is_unheard prints held.unread failure) e last.err failure) quiet end.1));

@@ -4,4 +4,3 @@ mod Looked
 mod Made
 mod Saved
 mod Ways
-mod Whatever

@@ -13,4 +13,3 @@ mod Dialogues
 mod Reports
 pub mod Kept
 mod Untaken
-pub mod Whatever

@@ -1,12 +1,13 @@
-"""The commands, as the tests from outside have to know them: a row for each, and one for each end of a run at a console.
+"""The commands, as the tests from outside have to know them: each that tests/help.md has, and a row for each end of a run at a console.
 
-What is asked of each command, or of each of a kind, is asked in a loop over these rows. That none is missing here, and that each is
-made of these words, test_words.py looks for in the program's help.
+What is asked of each command, or of each of a kind, is asked in a loop over them. The help there is compared with the program's to the
+last byte, and README with that (test_pages.py).
 """
+import re
 from typing import Callable, NamedTuple
 
 from cases import Console
-from outside import HELLO, Answer, bytes_of, line_failed
+from outside import HELLO, TOP, Answer, bytes_of, line_failed
 
 # What stands in the place of a word where a test names nothing else: the word at 001000, a console's line, and files of the test's.
 USUAL = {"LINE": "LINE", "SCRIPT": "a.script", "FILE": "new.lda", "FROM": "1000", "TO": "1000"}
@@ -46,19 +47,26 @@ class Command(NamedTuple):
         return place in self.order.split()
 
 
-# In the order of the program's help. Without a name the tape on standard input is checked.
-COMMANDS = (
-    Command("load", "TAPE LINE [MORE]..", end="Started", sent=16, counts="verified {} of 1"),
-    Command("verify", "TAPE LINE [MORE]..", end="Same", sent=9, counts="looked {} of 1 differ 0"),
-    Command("save", "FILE LINE FROM TO", end="Saved", sent=9, counts="read {} of 1"),
-    Command("probe", "LINE", end="Probed"),
-    Command("make", "FILE [WORDS]", keys=b"1000/11064\n"),
-    Command("check", "TAPE [MORE].."),
-    Command("dialogue", "TAPE [MORE].."),
-    Command("rehearse", "TAPE SCRIPT [MORE].."),
-    Command("type", "", keys=b"001000/011064\n"),
-    Command("", "", keys=bytes_of(HELLO)),
-)
+# What there is to say of some beside their words.
+MORE = {
+    "load": {"end": "Started", "sent": 16, "counts": "verified {} of 1"},
+    "verify": {"end": "Same", "sent": 9, "counts": "looked {} of 1 differ 0"},
+    "save": {"end": "Saved", "sent": 9, "counts": "read {} of 1"},
+    "probe": {"end": "Probed"},
+    "make": {"keys": b"1000/11064\n"},
+    "type": {"keys": b"001000/011064\n"},
+}
+
+
+def named_commands():
+    """Each that has a name, in the order of the program's help, with the words that the help says."""
+    for name, usage in re.findall(r"^Usage: ldaodt (\w+)(.*)$", bytes_of(f"{TOP}/tests/help.md").decode(), re.MULTILINE):
+        order = re.sub(r"\[OPTIONS\]|[<>]", "", usage).replace("...", "..").strip()
+        yield Command(name, order, **MORE.get(name, {}))
+
+
+# Without a name the tape on standard input is checked.
+COMMANDS = (*named_commands(), Command("", "", keys=bytes_of(HELLO)))
 
 AT_A_MACHINE = tuple(it for it in COMMANDS if it.takes("LINE"))
 COUNTING = tuple(it for it in AT_A_MACHINE if it.counts)

@@ -112,7 +112,7 @@ class Words(Case):
 
 
 class Commands(Case):
-    """Each command's words, by the table of them, and as the page of help has them, which is compared with the program's to the last byte."""
+    """Each command's words, as the page of help has them, which is compared with the program's to the last byte."""
 
     NAMED = [it for it in COMMANDS if it.name]
     USAGES = dict(re.findall(r"^Usage: ldaodt (\w+)(.*)$", bytes_of(f"{TOP}/tests/help.md").decode(), re.MULTILINE))
@@ -120,10 +120,6 @@ class Commands(Case):
     def is_refused(self, words, why, usage):
         with self.subTest(words):
             self.ends(self.ldaodt(words), 2, "", f"error: {why}\n\nUsage: ldaodt {words[0]}{usage}\n\nFor more information, try '--help'.\n")
-
-    def test_the_table_has_each_command(self):
-        orders = [(name, re.sub(r"\[OPTIONS\]|[<>]", "", usage).replace("...", "..").strip()) for name, usage in self.USAGES.items()]
-        self.is_so([(it.name, it.order) for it in self.NAMED], orders)
 
     def test_none_at_all(self):
         """`--` alone asks for nothing."""

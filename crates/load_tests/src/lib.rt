@@ -2,9 +2,10 @@
 //!
 //! A `Bench` tells what the record is, what its keepers write and what is said on its lines: it is the witness that
 //! what `load` promises of its devices can be met, and that the laws of loads in a row speak of something; a
-//! `ToldBench` that of the order of its steps, `load_on_disk` and `save_on_disk` those of what is promised of a disk. Loads are stopped at each call of their
-//! line and begun again, and what the disk was asked is compared with docs/RECORD.md and docs/DECISIONS.md. A trial is
-//! tried to the end over a console that forgets digits, also where the line loses characters.
+//! `ToldBench` that of the order of its steps, `load_on_disk` and `save_on_disk` those of what is promised of a
+//! disk. Loads are stopped at each call of their line and begun again, and what the disk was asked is compared
+//! with docs/RECORD.md and docs/DECISIONS.md. A trial is tried to the end over a console that forgets digits,
+//! also where the line loses characters.
 #![tactic(auto)]
 
 #[cfg(test)]

@@ -194,10 +194,6 @@ pub record Ending : Type 0 where
   pub marked : Bool
   pub line : Option LineTold
 
--- what it gives back
-abbrev pub ending_of : LoadEnd → Bool → Option LineTold → Ending
-ending_of end marked line = record { end = end; marked = marked; line = line }
-
 -- a load that was reported: the report is of the host that the life ended with, and counts what its looks and its stubs sent and met, too; its line was
 -- not given back yet
 pub record IsReported (GoesSo : HowItGoesOn) (task : LoadTask) (setting : Change Setting) (ending : Ending) : Type 0 where

@@ -54,4 +54,5 @@ IsUnreported over options way other = ⊥
 -- a console that can't be reached and want of memory before anything is written, a report that can't be written whole last
 abbrev pub IsProbeFault : OfLine → ProbeOptions → Change ConsoleTold → ProbeFault → Type 0
 IsProbeFault over options console WriteOutput = IsProbeCutShort over options console
-IsProbeFault over options console fault = IsUnreported over options (way_of console.before ⇒ way_of console.after) fault × Keeps console.before.out console.after.out
+IsProbeFault over options console fault =
+    IsUnreported over options (way_of console.before ⇒ way_of console.after) fault × Keeps console.before.out console.after.out

@@ -5,8 +5,8 @@
 //! writes is exactly the text that its contract names, and every refusal comes before the first byte of it. Worlds are
 //! moved by the calls of `line_world::World` alone. `print_answer` does a request: it opens the files that are named, in
 //! their order, reads standard input only where a tape or the keys are it, and answers the exit status or the `Failure`
-//! that names what was at fault; it says nothing on standard error. `names_of` has the names that it opens. `tape_of_words` makes the bytes of a tape of octal
-//! words, for `make`. Used by `requests` and `ldaodt`.
+//! that names what was at fault; it says nothing on standard error. `names_of` has the names that it opens.
+//! `tape_of_words` makes the bytes of a tape of octal words, for `make`. Used by `requests` and `ldaodt`.
 #![tactic(auto)]
 
 mod block_list;

@@ -19,7 +19,7 @@ use Rattle.host_devices.specs.Told.{Gains}
 use Rattle.host_devices.proofs.Told.{gains_join, gains_none}
 use Rattle.load_engine.specs.declared.stop.Stop.{Stop}
 use Rattle.load_engine.specs.declared.stop.Stop.TheVariants.{Ended, LineFailed, KeepFailed, TurnsOver}
-use Rattle.load_engine.specs.Run.{driving}
+use Rattle.load_engine.specs.Driving.{driving}
 use Rattle.load_engine.specs.Session.{GoesOn, IsSaid, IsKeptNews, Session, SessionTold, HasGained, KeepsMarkFirst, IsFailure}
 use Rattle.load_engine.proofs.News.{IsForward, news_none, news_join, led_forward}
 

@@ -16,7 +16,7 @@ use Rattle.host_devices.specs.Failures.{fault_of}
 use Rattle.host_devices.specs.Told.{Gains, SaysNothing}
 use Rattle.load_engine.specs.declared.stop.Stop.{Stop}
 use Rattle.load_engine.specs.declared.stop.Stop.TheVariants.{LineFailed, KeepFailed}
-use Rattle.load_engine.specs.Run.{driving}
+use Rattle.load_engine.specs.Driving.{driving}
 use Rattle.load_engine.specs.Session.{Session, session_told}
 use Rattle.load_engine.proofs.News.{news_none}
 use Rattle.host_devices.proofs.Told.{gains_none, gains_kept, gains_join}

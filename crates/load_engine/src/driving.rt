@@ -8,7 +8,7 @@ ghost use Rattle.host_devices.specs.Dialogue.{news_between};
 ghost use Rattle.host_devices.specs.Failures.{count_after, fault_of};
 ghost use Rattle.host_devices.specs.Told.{Gains, SaysNothing};
 ghost use Rattle.load_engine.specs.Driven.{IsDriven, IsKeptBy, IsTurn, turns_give};
-ghost use Rattle.load_engine.specs.Run.{driving};
+ghost use Rattle.load_engine.specs.Driving.{driving};
 
 use crate::stop::Stop;
 use host_core::{Heard, HostCore, Progress};

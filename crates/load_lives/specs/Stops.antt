@@ -9,7 +9,7 @@ use Rattle.host_core.specs.Core.{Core, begun}
 use Rattle.host_devices.specs.declared.item.Item.{Item}
 use Rattle.host_devices.specs.Dialogue.{said, dialogue}
 use Rattle.load_engine.specs.declared.stop.Stop.{Stop}
-use Rattle.load_engine.specs.Run.{Driving, driving}
+use Rattle.load_engine.specs.Driving.{Driving, driving}
 use Rattle.load_engine.specs.Session.{Session, SessionTold}
 use Rattle.load_record.specs.declared.version.Version.TheVariants.{Second}
 use Rattle.load_record.specs.RecordText.{mark_text, open_run, record_text, second_piece}

@@ -5,5 +5,6 @@ pub mod Inquired
 pub mod Lent
 pub mod Session
 pub mod Stopping
+pub mod Turns
 pub mod Ways
 pub use Rattle.honest_line.specs.Honest

@@ -6,7 +6,7 @@ use Rattle.host_devices.specs.Told.{Gains}
 use Rattle.host_devices.specs.Turns.{most_turns}
 use Rattle.load_engine.specs.declared.stop.Stop.{Stop}
 use Rattle.load_engine.specs.Driven.{IsDriven, IsKeptBy, turns_give}
-use Rattle.load_engine.specs.Run.{driving}
+use Rattle.load_engine.specs.Driving.{driving}
 use Rattle.console_lines.specs.Dialling.{Call, LineRequest, asked_once}
 use Rattle.machine_load.specs.Asked.{Change, LoadTask, Opened, opened_as, ◌⇒◌}
 use Rattle.machine_load.specs.Called.{asked_by}

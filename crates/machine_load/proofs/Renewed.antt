@@ -18,8 +18,8 @@ use Rattle.host_devices.specs.Dialogue.{dialogue, keys_of}
 use Rattle.host_devices.specs.Turns.{most_turns}
 use Rattle.load_engine.specs.declared.stop.Stop.{Stop}
 use Rattle.load_engine.specs.Driven.{turns_give}
+use Rattle.load_engine.specs.Driving.{driving}
 use Rattle.load_engine.specs.Keeping.{AllOrFront, KeepsEach, KeptBy}
-use Rattle.load_engine.specs.Run.{driving}
 use Rattle.load_engine.specs.Session.{Session, SessionTold}
 use Rattle.load_engine.proofs.News.{led_forward}
 use Rattle.byte_io.specs.Output.{WritesPrefix}

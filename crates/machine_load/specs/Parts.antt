@@ -5,7 +5,7 @@ use Rattle.host_devices.specs.Devices.{Devices, KeeperCalls, LineTold, devices}
 use Rattle.host_devices.specs.Turns.{most_turns}
 use Rattle.load_engine.specs.declared.stop.Stop.{Stop}
 use Rattle.load_engine.specs.Driven.{IsDriven, IsKeptBy, turns_give}
-use Rattle.load_engine.specs.Run.{Driving, driving}
+use Rattle.load_engine.specs.Driving.{Driving, driving}
 use Rattle.stub_engine.specs.Brought.{AreAllStubs, stubs_give}
 use Rattle.stub_engine.specs.Keeping.{IsKeptBy as StubsAreKeptBy}
 use Rattle.stub_engine.specs.Parts.{Bringing, bringing}

@@ -60,7 +60,7 @@ looks_hold samples patience looked line are long s kept machine now lost ready h
     let first : Reader = begun (addresses_of samples) [] patience in
     let reads = fresh_kept (addresses_of samples) patience are long in
     let same : looks.addresses ≡ first.addresses = ap (λ (r : Reader). r.addresses) s.inquired.host ∙ led_addresses first s.inquired.heard in
-    let over : IsBelievableOver stop first looks (Some []) (Some s.inquired.said) =
+    let over : IsBelievableOver (inquiry first looks (Some stop)) (Some []) (Some s.inquired.said) =
     inquired_believable most_turns stop first looks (Some []) (Some s.inquired.said) reads (told_by_itself most_turns stop first looks line.before line.after s.inquired) in
     let seen : IsSeen samples looked.finding machine now =
     so_over samples first looks stop looked.finding (Some []) (Some s.inquired.said) refl kept same s.end s.found over s.inquired.said ([], refl, refl) machine now lost ready honest in

@@ -12,7 +12,7 @@ use Rattle.honest_line.specs.Honest.{IsHonest}
 use Rattle.looking_law.specs.Belief.{IsReadyMachine}
 use Rattle.load_engine.specs.declared.stop.Stop.{Stop}
 use Rattle.load_engine.specs.declared.stop.Stop.TheVariants.{Ended}
-use Rattle.load_engine.specs.Run.{driving}
+use Rattle.load_engine.specs.Driving.{driving}
 use Rattle.load_engine.specs.Session.{Session, TellsEnd, session_told}
 use Rattle.machine_probe.specs.declared.probe_options.ProbeOptions.{ProbeOptions}
 use Rattle.machine_probe.specs.declared.putting_back.Deposit.{Deposit}

@@ -17,7 +17,7 @@ use Rattle.host_devices.specs.Turns.{most_turns}
 use Rattle.host_devices.proofs.Told.{gains_join, gains_none}
 use Rattle.load_engine.specs.declared.stop.Stop.{Stop as LoadStop}
 use Rattle.load_engine.specs.declared.stop.Stop.TheVariants.{Ended as LoadEnded, LineFailed as LoadLineFailed, KeepFailed as LoadKeepFailed, TurnsOver as LoadTurnsOver}
-use Rattle.load_engine.specs.Run.{driving}
+use Rattle.load_engine.specs.Driving.{driving}
 use Rattle.load_engine.specs.Session.{IsSaid as IsLoadSaid, Session, SessionTold, TellsEnd}
 use Rattle.exchange_core.specs.declared.chunk.Chunk.{Chunk}
 use Rattle.exchange_core.specs.declared.exchange.Exchange.{Exchange}

@@ -7,9 +7,9 @@ use Rattle.host_devices.specs.Failures.{CountsFault, IsLastFault}
 use Rattle.host_devices.specs.Turns.{most_turns}
 use Rattle.load_engine.specs.declared.stop.Stop.{Stop as LoadStop}
 use Rattle.load_engine.specs.Driven.{IsDriven}
+use Rattle.load_engine.specs.Driving.{driving}
 use Rattle.load_engine.specs.Failing.{keep_fault as load_keep_fault}
 use Rattle.load_engine.specs.Keeping.{Keeping, keeping}
-use Rattle.load_engine.specs.Run.{driving}
 use Rattle.stub_engine.specs.declared.stop.Stop.{Stop}
 use Rattle.stub_engine.specs.declared.stop.Stop.TheVariants.{InVain}
 use Rattle.stub_engine.specs.declared.tally.Tally.{Tally}

@@ -1,8 +1,8 @@
 use Rattle.std.proofs.Common.{◌≡◌, ◌+◌, Some, None, refl, sym, subst, ◌∙◌, arith}
 use Rattle.host_devices.specs.Devices.{calls_of, devices_of}
 use Rattle.host_devices.specs.Failures.{CountsFault}
+use Rattle.load_engine.specs.Driving.{driving}
 use Rattle.load_engine.specs.Failing.{line_fault}
-use Rattle.load_engine.specs.Run.{driving}
 use Rattle.load_engine.specs.Session.{Session, told_by}
 use Rattle.load_engine.proofs.Driven.{driven, failed_tells}
 use Rattle.load_engine.proofs.Keepings.{kept_none, kept_then}

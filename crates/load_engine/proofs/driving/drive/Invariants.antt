@@ -3,7 +3,7 @@ use Rattle.host_core.specs.Core.{ended}
 use Rattle.host_core.specs.Host.{IsHost}
 use Rattle.host_devices.specs.Devices.{calls_of, devices_of}
 use Rattle.load_engine.specs.Driven.{IsKeptBy, turns_give}
-use Rattle.load_engine.specs.Run.{driving}
+use Rattle.load_engine.specs.Driving.{driving}
 use Rattle.load_engine.specs.Session.{Session, told_by}
 use Rattle.load_engine.proofs.driving.drive.Given as goal
 

@@ -6,8 +6,8 @@ use Rattle.host_devices.specs.Failures.{one_more}
 use Rattle.host_devices.specs.Told.{Gains}
 use Rattle.host_devices.proofs.Told.{gains_none}
 use Rattle.load_engine.specs.Driven.{IsKeptBy, turns_give}
+use Rattle.load_engine.specs.Driving.{driving}
 use Rattle.load_engine.specs.Keeping.{KeepsEach}
-use Rattle.load_engine.specs.Run.{driving}
 use Rattle.load_engine.proofs.Keepings.{keeps_one, keeps_no_news, fails_one, kept_none}
 use Rattle.load_engine.specs.declared.stop.Stop.TheVariants.{LineFailed, KeepFailed}
 use Rattle.load_engine.proofs.Turns.{IsStep, stop_is, kept_one, kept_none as told_none, turn_deaf, turn_unkept, turn_unsent, turn_done}

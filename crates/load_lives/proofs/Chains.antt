@@ -31,6 +31,7 @@ use Rattle.host_devices.specs.declared.item.Item.{Item}
 use Rattle.host_devices.specs.declared.item.Item.TheVariants.{Sent, Heard as Came}
 use Rattle.host_devices.specs.Dialogue.{said, dialogue, keys_of}
 use Rattle.honest_line.specs.Moves.{Passes}
+use Rattle.honest_line.specs.Starts.{RunsByGo}
 use Rattle.honest_line.specs.Trust.{IsTrusted}
 use Rattle.honest_line.proofs.Wires.{passes_lost}
 use Rattle.honest_line.proofs.Runs.{dialogue_leads}
@@ -38,7 +39,7 @@ use Rattle.honest_line.proofs.Trusted.{keys_of-dialogue, ends_front}
 use Rattle.load_engine.proofs.Sessions.{keys_join, led_join}
 use Rattle.load_record.specs.Reading.{Says}
 use Rattle.load_record.proofs.Sound.{IsSound}
-use Rattle.load_lives.specs.Lives.{WireAndRecord, Life, first_core, last_core, IsLife, Lived, typed, MayOpen, IsLatestTrusted, LivesAreTrusted}
+use Rattle.load_lives.specs.Lives.{WireAndRecord, Life, first_core, last_core, IsLife, AreLives, typed, MayOpen, AreTrusted, IsLatestTrusted, LivesAreTrusted}
 use Rattle.load_lives.proofs.Renewals.{place, standing, Rests, rests_of, fewer_stand, reopened_machine, renewed}
 use Rattle.load_lives.proofs.Running.{Ran, ran}
 use Rattle.load_lives.proofs.LastTurns.{Broken, broken, back, mark_verifies_none}
@@ -292,27 +293,32 @@ opens plan old fits may =
     none : Contains [] go → ⊥
     none h = let below = h.1 in omega arith
 
-stood : (plan : PlanValue) (before : List ℕ) (lives : List Life) (old new : WireAndRecord) → IsPlan plan → Stood plan before [] old → Lived plan old lives new → Stood plan before (typed lives) new
+stood : (plan : PlanValue) (before : List ℕ) (lives : List Life) (old new : WireAndRecord) → IsPlan plan → Stood plan before [] old → AreLives plan old lives new → Stood plan before (typed lives) new
 stood plan before [] old new fits s same = subst (Stood plan before []) (sym same) s
 stood plan before (life ∷ earlier) old new fits s lived = (went plan before (typed earlier) lived.0 life new fits (stood plan before earlier old lived.0 fits s lived.1) lived.2).stood
 
-latest : (plan : PlanValue) (before : List ℕ) (lives : List Life) (old new : WireAndRecord) → IsPlan plan → Stood plan before [] old → Lived plan old lives new → IsLatestTrusted plan before lives new
+latest : (plan : PlanValue) (before : List ℕ) (lives : List Life) (old new : WireAndRecord) → IsPlan plan → Stood plan before [] old → AreLives plan old lives new → IsLatestTrusted plan before lives new
 latest plan before [] old new fits s lived = tt
 latest plan before (life ∷ earlier) old new fits s lived = (went plan before (typed earlier) lived.0 life new fits (stood plan before earlier old lived.0 fits s lived.1) lived.2).trusted
 
+-- what stands may be trusted, where no program runs but by `G`
+pub trusted : (plan : PlanValue) (before keys : List ℕ) (now : WireAndRecord) → IsPlan plan → Stood plan before keys now → RunsByGo now.wire.machine keys → AreTrusted plan before keys now
+trusted plan before keys now fits s by_go = record {
+  progress = s.progress;
+  says = s.says;
+  safe = safe_of before (over (begun plan s.progress.verified s.progress.going 0) (forgiven now.wire))
+      (renewed plan s.progress s.progress 0 now.wire (forgiven now.wire) fits (says_sound plan now.text s.progress s.says) (omega arith) refl (omega arith) s.rests (inl refl)) s.bytes;
+  last = s.last;
+  marked = s.marked;
+  by_go = by_go;
+}
+
 pub lives_are_trusted : LivesAreTrusted
 lives_are_trusted plan old new lives fits may lived =
-    let first = opens plan old fits may in
-    let s = stood plan old.wire.machine.memory lives old new fits first lived in record {
-      progress = s.progress;
-      says = s.says;
-      safe = safe_of old.wire.machine.memory (over (begun plan s.progress.verified s.progress.going 0) (forgiven new.wire))
-          (renewed plan s.progress s.progress 0 new.wire (forgiven new.wire) fits (says_sound plan new.text s.progress s.says) (omega arith) refl (omega arith) s.rests (inl refl)) s.bytes;
-      last = s.last;
-      marked = s.marked;
-      by_go = λ runs. typed_run plan lives old new still lived (inl runs);
-      latest = latest plan old.wire.machine.memory lives old new fits first lived;
-    }
+    let first = opens plan old fits may in (
+      trusted plan old.wire.machine.memory (typed lives) new fits (stood plan old.wire.machine.memory lives old new fits first lived) (λ runs. typed_run plan lives old new still lived (inl runs)),
+      latest plan old.wire.machine.memory lives old new fits first lived,
+    )
   where
     none : (down : List ℕ) → down ≡ [] → Contains down go → ⊥
     none down is has = let below = (subst (λ (l : List ℕ). Contains l go) is has).1 in omega (arith, below)

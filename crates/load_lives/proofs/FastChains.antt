@@ -48,7 +48,7 @@ use Rattle.exchange_law.proofs.Passing.{losses_aside}
 use Rattle.exchange_law.specs.Recovery.{IsLater, IsPaid}
 use Rattle.exchange_law.specs.Start.{program as stub_program}
 use Rattle.load_lives.specs.Between.{Between, KeepsOutside}
-use Rattle.load_lives.specs.FastLives.{AreFastTrusted, FastLife, FastLived, FastLivesAreTrusted, IsFastLife, IsLatestPaid, LinkAndRecord, MayOpenAt, PassesAt, ReopensAt, StopsBehindStubs, StopsWithStubs, last_core, typed}
+use Rattle.load_lives.specs.FastLives.{AreFastTrusted, AreFastLives, FastLife, FastLivesAreTrusted, IsFastLife, IsLatestPaid, LinkAndRecord, MayOpenAt, PassesAt, ReopensAt, StopsBehindStubs, StopsWithStubs, last_core, typed}
 use Rattle.load_lives.specs.FastLoads.{IsLoadedOn}
 use Rattle.load_lives.specs.StubParts.{AreStubParts, stubs_said, verified_by}
 use Rattle.load_lives.proofs.Backs.{back}
@@ -443,11 +443,11 @@ went program tape before keys between life new is s l = by life.progress.going r
 
 -- ---- all lives
 
-stood : (program : Program) (tape : PlanValue) (before : List ℕ) (lives : List FastLife) (old new : LinkAndRecord) → IsPlan tape → Stood program tape before [] old → FastLived program tape old lives new → Stood program tape before (typed lives) new
+stood : (program : Program) (tape : PlanValue) (before : List ℕ) (lives : List FastLife) (old new : LinkAndRecord) → IsPlan tape → Stood program tape before [] old → AreFastLives program tape old lives new → Stood program tape before (typed lives) new
 stood program tape before [] old new is s same = subst (Stood program tape before []) (sym same) s
 stood program tape before (life ∷ earlier) old new is s lived = (went program tape before (typed earlier) lived.0 life new is (stood program tape before earlier old lived.0 is s lived.1) lived.2).stood
 
-latest : (program : Program) (tape : PlanValue) (before : List ℕ) (lives : List FastLife) (old new : LinkAndRecord) → IsPlan tape → Stood program tape before [] old → FastLived program tape old lives new → IsLatestPaid tape lives new.link
+latest : (program : Program) (tape : PlanValue) (before : List ℕ) (lives : List FastLife) (old new : LinkAndRecord) → IsPlan tape → Stood program tape before [] old → AreFastLives program tape old lives new → IsLatestPaid tape lives new.link
 latest program tape before [] old new is s lived = tt
 latest program tape before (life ∷ earlier) old new is s lived = (went program tape before (typed earlier) lived.0 life new is (stood program tape before earlier old lived.0 is s lived.1) lived.2).paid
 
@@ -473,7 +473,7 @@ still : (R : ℕ → Type 0) (mode : Mode) (stub : Option Stub) → MayFill R mo
 still R mode stub may none runs = not_both (is_running mode) runs (subst (MayFill R mode) none may)
 
 -- a program that is no stub was started by `G`
-pub started : (program : Program) (tape : PlanValue) (before keys : List ℕ) (new : LinkAndRecord) → Stood program tape before keys new → new.link.station.stub ≡ None → RunsByGo new.link.station.machine keys
+started : (program : Program) (tape : PlanValue) (before keys : List ℕ) (new : LinkAndRecord) → Stood program tape before keys new → new.link.station.stub ≡ None → RunsByGo new.link.station.machine keys
 started program tape before keys new s none runs = by s.progress.going refl
   where
     by : (test : Bool) → s.progress.going ≡ test → Contains keys go
@@ -483,22 +483,27 @@ started program tape before keys new s none runs = by s.progress.going refl
       | inr (has, idle) ↦ has
     ]
 
-any_lives : (program : Program) (tape : PlanValue) (old new : LinkAndRecord) (lives : List FastLife) → IsPlan tape → MayOpenAt tape old → FastLived program tape old lives new →
-    AreFastTrusted program tape old.link.station.machine.memory lives new
+-- what stands may be trusted
+pub trusted : (program : Program) (tape : PlanValue) (before keys : List ℕ) (now : LinkAndRecord) → IsPlan tape → Stood program tape before keys now → AreFastTrusted program tape before keys now
+trusted program tape before keys now is s = record {
+  progress = s.progress;
+  says = s.says;
+  stand = s.stand;
+  kept = s.kept;
+  last = s.last;
+  marked = s.marked;
+  loaded = λ set. loaded_by tape before now.link.station.machine.memory is s.kept (s.all set);
+  unsettled = λ unset. (s.next unset).line;
+  by_go = started program tape before keys now s;
+}
+
+any_lives : (program : Program) (tape : PlanValue) (old new : LinkAndRecord) (lives : List FastLife) → IsPlan tape → MayOpenAt tape old → AreFastLives program tape old lives new →
+    AreFastTrusted program tape old.link.station.machine.memory (typed lives) new × IsLatestPaid tape lives new.link
 any_lives program tape old new lives is may lived =
-    let first = opens program tape old may in
-    let s = stood program tape old.link.station.machine.memory lives old new is first lived in record {
-      progress = s.progress;
-      says = s.says;
-      stand = s.stand;
-      kept = s.kept;
-      last = s.last;
-      marked = s.marked;
-      loaded = λ set. loaded_by tape old.link.station.machine.memory new.link.station.machine.memory is s.kept (s.all set);
-      unsettled = λ unset. (s.next unset).line;
-      by_go = started program tape old.link.station.machine.memory (typed lives) new s;
-      latest = latest program tape old.link.station.machine.memory lives old new is first lived;
-    }
+    let first = opens program tape old may in (
+      trusted program tape old.link.station.machine.memory (typed lives) new is (stood program tape old.link.station.machine.memory lives old new is first lived),
+      latest program tape old.link.station.machine.memory lives old new is first lived,
+    )
 
 pub fast_lives_are_trusted : FastLivesAreTrusted
 fast_lives_are_trusted tape old new lives is may lived = any_lives stub_program tape old new lives is may lived

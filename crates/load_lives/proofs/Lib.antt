@@ -15,5 +15,5 @@ mod Loads
 mod Backs
 mod FastChains
 mod Looking
-mod First
+mod FastFirst
 pub mod Planning

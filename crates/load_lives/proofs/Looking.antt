@@ -1,10 +1,9 @@
 -- A host that only looks, at a line on which a stub was at work: first it waits, then a machine answers. It changes nothing.
-use Rattle.std.proofs.Common.{◌≡◌, ℕ, zero, suc, ◌+◌, ◌^◌, ◌<◌, ◌≤◌, Bool, true, false, List, [], ◌∷◌, ◌++◌, length, Option, Some, None, inl, inr, refl, arith, ap, sym, subst, ◌∙◌, append-nil}
+use Rattle.std.proofs.Common.{◌≡◌, ℕ, ◌+◌, ◌^◌, ◌<◌, Bool, true, false, List, [], ◌∷◌, length, Option, None, inl, inr, refl, arith, ap, sym, subst, ◌∙◌}
 use Rattle.std.specs.Prelude.{◌⊎◌, option_to_list}
-use Rattle.odt_machine.specs.KeyTable.{after_key, take_of}
+use Rattle.odt_machine.specs.KeyTable.{after_key}
 use Rattle.odt_machine.specs.Laws.{is_running}
 use Rattle.odt_machine.specs.Machine.{Machine}
-use Rattle.odt_machine.specs.declared.mode.Mode.{Mode}
 use Rattle.host_core.specs.declared.heard.Heard.{Heard}
 use Rattle.host_core.specs.declared.heard.Heard.TheVariants.{Got, Quiet as Silence}
 use Rattle.host_core.specs.declared.phase.Phase.TheVariants.{Sync as LoadSync}
@@ -17,7 +16,6 @@ use Rattle.line_world.specs.Invariant.{IsKept}
 use Rattle.line_world.specs.Scene.{over as load_over}
 use Rattle.line_world.specs.Wire.{Wire, sent}
 use Rattle.host_devices.specs.declared.item.Item.{Item}
-use Rattle.host_devices.specs.declared.item.Item.TheVariants.{Sent}
 use Rattle.tape_image.specs.Plan.{IsPlan}
 use Rattle.tape_image.specs.Word.{WordValue}
 use Rattle.reading_core.specs.declared.phase.Phase.{Phase}
@@ -30,7 +28,7 @@ use Rattle.reading_core.specs.Reader.{Reader, begun}
 use Rattle.reading_core.specs.ReadingTable.{ReaderStep, ask, taken, turn_of, values_after}
 use Rattle.reading_core.proofs.Lives.{asked}
 use Rattle.looking_law.specs.Belief.{dialogue}
-use Rattle.looking_law.specs.Inquiry.{Inquiry, happens, over}
+use Rattle.looking_law.specs.Inquiry.{over}
 use Rattle.looking_law.specs.Trying.{IsToldOf}
 use Rattle.looking_law.proofs.Believed.{run_mirrored, stopped_with}
 use Rattle.looking_law.proofs.Events.{dialogue_leads, gives_lead}
@@ -44,8 +42,8 @@ use Rattle.exchange_law.proofs.Links.{later, passes_unsent}
 use Rattle.exchange_law.proofs.Passing.{losses_aside}
 use Rattle.exchange_law.specs.Mirror.{IsJustAMachine, wire_at}
 use Rattle.exchange_law.proofs.Mirrors.{gives_just, gives_mirrored, none_begun, passes_said, times_mirrored}
-use Rattle.exchange_law.proofs.Recovering.{Next', Region, Settled, Waiting, Waits, heard_waiting, waiting_at_first, waiting_times}
-use Rattle.exchange_law.proofs.Resettling.{untouched_same, untouched_then}
+use Rattle.exchange_law.proofs.Recovering.{Next', Settled, Waiting, Waits, heard_waiting, waiting_at_first, waiting_times}
+use Rattle.exchange_law.proofs.Resettling.{untouched_same}
 
 -- ---- while it waits it does what a loading host does
 

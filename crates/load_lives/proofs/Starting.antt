@@ -8,7 +8,7 @@ use Rattle.line_world.specs.Wire.{Wire, sent}
 use Rattle.host_devices.specs.Dialogue.{keys_of}
 use Rattle.honest_line.specs.Honest.{resting}
 use Rattle.honest_line.proofs.Going.{MayRun, passes_back}
-use Rattle.load_lives.specs.Lives.{WireAndRecord, Life, Reopens, Lived, typed}
+use Rattle.load_lives.specs.Lives.{WireAndRecord, Life, Reopens, AreLives, typed}
 
 behind_keys : (left : Wire) (keys : List ℕ) → MayRun (sent left keys) → MayRun left ⊎ Contains keys go
 behind_keys left keys (inl runs) = inl (inl runs)
@@ -23,7 +23,7 @@ pub reopened_run : (left found : Wire) (keys : List ℕ) → Reopens left found 
 reopened_run left found keys (inl same) may = behind_keys left keys (subst (λ (x : Wire). MayRun (sent x keys)) same may)
 reopened_run left found keys (inr (waiting, few, new)) may = at_rest left waiting keys (subst (λ (x : Wire). MayRun (sent x keys)) new may)
 
-pub typed_run : (plan : PlanValue) (lives : List Life) (old new : WireAndRecord) → (MayRun old.wire → ⊥) → Lived plan old lives new → MayRun new.wire → Contains (typed lives) go
+pub typed_run : (plan : PlanValue) (lives : List Life) (old new : WireAndRecord) → (MayRun old.wire → ⊥) → AreLives plan old lives new → MayRun new.wire → Contains (typed lives) go
 typed_run plan [] old new still same may = absurd (still (subst (λ (s : WireAndRecord). MayRun s.wire) same may))
 typed_run plan (life ∷ earlier) old new still (between, lived, l) may =
     elim (reopened_run between.wire l.line.found (keys_of life.items) l.line.reopens (passes_back life.items l.line.found new.wire l.line.passes may)) [

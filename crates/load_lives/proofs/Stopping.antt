@@ -3,7 +3,6 @@ use Rattle.std.proofs.Common.{◌≡◌, ℕ, ◌+◌, ◌-◌, ◌≤◌, Bool,
 use Rattle.std.proofs.Math.Seq.{take-add}
 use Rattle.tape_image.specs.Plan.{PlanValue}
 use Rattle.tape_image.specs.Word.{WordValue}
-use Rattle.host_core.specs.declared.heard.Heard.{Heard}
 use Rattle.host_core.specs.Core.{Core}
 use Rattle.host_devices.specs.declared.item.Item.{Item}
 use Rattle.host_devices.specs.declared.item.Item.TheVariants.{Sent, Heard as Came}

@@ -96,10 +96,10 @@ pub record IsFastLife (program : Program) (tape : PlanValue) (old : LinkAndRecor
   pub renews : life.progress.going ≡ false → Renews tape life goes_on.recorded old.text new.text
 
 -- lives one after another, the latest first: each finds what the one before it left
-abbrev pub FastLived : Program → PlanValue → LinkAndRecord → List FastLife → LinkAndRecord → Type 0
-FastLived program tape old [] new = new ≡ old
-FastLived program tape old (life ∷ earlier) new =
-    (between : LinkAndRecord) × FastLived program tape old earlier between × IsFastLife program tape between life new
+abbrev pub AreFastLives : Program → PlanValue → LinkAndRecord → List FastLife → LinkAndRecord → Type 0
+AreFastLives program tape old [] new = new ≡ old
+AreFastLives program tape old (life ∷ earlier) new =
+    (between : LinkAndRecord) × AreFastLives program tape old earlier between × IsFastLife program tape between life new
 
 -- the keys that all these lives sent behind their stubs, in their order: the program's `G` is one of them, a stub's is not
 abbrev pub typed : List FastLife → List ℕ
@@ -122,8 +122,8 @@ abbrev pub IsLatestPaid : PlanValue → List FastLife → Link → Type 0
 IsLatestPaid tape [] now = ⊤
 IsLatestPaid tape (life ∷ earlier) now = IsPaid (last_core tape life) now.station.machine.memory (length life.unsent + now.lost + 1)
 
--- what came of all these lives; `before` is memory before the first
-pub record AreFastTrusted (program : Program) (tape : PlanValue) (before : List ℕ) (lives : List FastLife) (now : LinkAndRecord) : Type 0 where
+-- what came of lives that sent these keys behind their stubs; `before` is memory before the first
+pub record AreFastTrusted (program : Program) (tape : PlanValue) (before keys : List ℕ) (now : LinkAndRecord) : Type 0 where
   -- the record that is left says a progress, which is true of memory
   pub progress : Progress
   pub says : Says tape now.text (Ok progress)
@@ -131,18 +131,17 @@ pub record AreFastTrusted (program : Program) (tape : PlanValue) (before : List 
   -- outside the image memory is what it was
   pub kept : KeepsOutside before tape.image now.link.station.machine.memory
   -- the program's `G`, if it was sent, was the last key of all, and then the record has the mark
-  pub last : EndsAtGo (typed lives)
-  pub marked : Contains (typed lives) go → progress.going ≡ true
+  pub last : EndsAtGo keys
+  pub marked : Contains keys go → progress.going ≡ true
   -- with the mark memory is the earlier one with the whole image laid over it
   pub loaded : progress.going ≡ true → IsLoaded before tape now.link.station.machine.memory
   -- without it only bytes of words that do not count as verified may still change, by a stub
   pub unsettled : progress.going ≡ false → IsUnsettled program (IsLater tape progress.verified) now.link
   -- no program runs but a stub, or by that `G`
-  pub by_go : now.link.station.stub ≡ None → RunsByGo now.link.station.machine (typed lives)
-  pub latest : IsLatestPaid tape lives now.link
+  pub by_go : now.link.station.stub ≡ None → RunsByGo now.link.station.machine keys
 
 -- lives may be trusted, however many they are and wherever each was stopped, with stubs or without: which stub stands at an address is read out of memory
 abbrev pub FastLivesAreTrusted : Type 0
 FastLivesAreTrusted =
-    (tape : PlanValue) (old new : LinkAndRecord) (lives : List FastLife) → IsPlan tape → MayOpenAt tape old → FastLived stub_program tape old lives new →
-    AreFastTrusted stub_program tape old.link.station.machine.memory lives new
+    (tape : PlanValue) (old new : LinkAndRecord) (lives : List FastLife) → IsPlan tape → MayOpenAt tape old → AreFastLives stub_program tape old lives new →
+    AreFastTrusted stub_program tape old.link.station.machine.memory (typed lives) new × IsLatestPaid tape lives new.link

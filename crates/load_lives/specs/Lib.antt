@@ -1,9 +1,9 @@
+pub mod Between
+pub mod FastLives
+pub mod FastLoads
+pub mod FastLooksFirst
 pub mod Keepers
 pub mod Lives
-pub mod Stops
-pub mod Between
-pub mod StubParts
-pub mod FastLoads
-pub mod FastLives
 pub mod Planned
-pub mod LooksFirst
+pub mod Stops
+pub mod StubParts

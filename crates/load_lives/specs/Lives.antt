@@ -79,9 +79,9 @@ pub record IsLife (plan : PlanValue) (old : WireAndRecord) (life : Life) (new : 
   pub left : IsLeft plan life.progress (last_core plan life) life.items old.text new.text
 
 -- lives one after another, the latest first: each finds what the one before it left
-abbrev pub Lived : PlanValue → WireAndRecord → List Life → WireAndRecord → Type 0
-Lived plan old [] new = new ≡ old
-Lived plan old (life ∷ earlier) new = (between : WireAndRecord) × Lived plan old earlier between × IsLife plan between life new
+abbrev pub AreLives : PlanValue → WireAndRecord → List Life → WireAndRecord → Type 0
+AreLives plan old [] new = new ≡ old
+AreLives plan old (life ∷ earlier) new = (between : WireAndRecord) × AreLives plan old earlier between × IsLife plan between life new
 
 -- the keys that all these lives sent, in their order
 abbrev pub typed : List Life → List ℕ
@@ -105,19 +105,18 @@ IsLatestTrusted plan before [] now = ⊤
 IsLatestTrusted plan before (life ∷ earlier) now =
     IsTrusted before (last_core plan life) now.wire.machine.memory (typed (life ∷ earlier)) (length (option_to_list life.unsent) + now.wire.lost)
 
--- what came of all these lives: the record that is left says a progress, which is true of memory; memory is safe against the one
--- before the first life; `G`, if it was sent, was the last key of all, and then the record has the mark; and no program runs but by it
-pub record AreTrusted (plan : PlanValue) (before : List ℕ) (lives : List Life) (now : WireAndRecord) : Type 0 where
+-- what came of lives that sent these keys, in their order: the record that is left says a progress, which is true of memory; memory is safe against the
+-- one before the first life; `G`, if it was sent, was the last key of all, and then the record has the mark; and no program runs but by it
+pub record AreTrusted (plan : PlanValue) (before keys : List ℕ) (now : WireAndRecord) : Type 0 where
   pub progress : Progress
   pub says : Says plan now.text (Ok progress)
   pub safe : IsSafe before (begun plan progress.verified progress.going 0) now.wire.machine.memory
-  pub last : EndsAtGo (typed lives)
-  pub marked : Contains (typed lives) go → progress.going ≡ true
-  pub by_go : RunsByGo now.wire.machine (typed lives)
-  pub latest : IsLatestTrusted plan before lives now
+  pub last : EndsAtGo keys
+  pub marked : Contains keys go → progress.going ≡ true
+  pub by_go : RunsByGo now.wire.machine keys
 
 -- lives may be trusted, however many they are and wherever each was stopped
 abbrev pub LivesAreTrusted : Type 0
 LivesAreTrusted =
-    (plan : PlanValue) (old new : WireAndRecord) (lives : List Life) → IsPlan plan →
-    MayOpen plan old → Lived plan old lives new → AreTrusted plan old.wire.machine.memory lives new
+    (plan : PlanValue) (old new : WireAndRecord) (lives : List Life) → IsPlan plan → MayOpen plan old → AreLives plan old lives new →
+    AreTrusted plan old.wire.machine.memory (typed lives) new × IsLatestTrusted plan old.wire.machine.memory lives new

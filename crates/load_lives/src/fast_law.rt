@@ -1,6 +1,6 @@
 ghost use Rattle.load_lives.specs.FastLives.{FastLivesAreTrusted};
 ghost use Rattle.load_lives.specs.FastLoads.{FastLoadsAreTrusted};
-ghost use Rattle.load_lives.specs.LooksFirst.{FastLivesMayLookFirst};
+ghost use Rattle.load_lives.specs.FastLooksFirst.{FastLivesMayLookFirst};
 ghost use Rattle.load_lives.specs.Planned.{PlannedStubsAreStubs};
 
 /// A load that brings in stubs may be trusted as every load, wherever it stops, and leaves a line at

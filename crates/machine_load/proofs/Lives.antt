@@ -34,7 +34,7 @@ use Rattle.stub_engine.specs.declared.stop.Stop.{Stop as StubStop}
 use Rattle.stub_engine.specs.declared.stop.Stop.TheVariants as stub
 use Rattle.stub_engine.specs.Parts.{failure_of}
 use Rattle.load_lives.specs.FastLives.{FastLife, LinkAndRecord, PassesAt, last_core as fast_core}
-use Rattle.load_lives.specs.LooksFirst.{LookingLife as FastLookingLife, IsLookingLife as IsFastLookingLife}
+use Rattle.load_lives.specs.FastLooksFirst.{FastLookingLife, IsFastLookingLife}
 use Rattle.load_lives.specs.StubParts.{AreStubParts, StubPart, stubs_said, verified_by}
 use Rattle.host_devices.specs.Devices.{Devices, LineTold, devices}
 use Rattle.looking_law.specs.RecordLook.{HasLooked}

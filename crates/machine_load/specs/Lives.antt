@@ -14,7 +14,7 @@ use Rattle.load_lives.specs.Stops.{WentOut}
 use Rattle.exchange_law.specs.Law.{said_all}
 use Rattle.exchange_law.specs.Start.{program as stub_program}
 use Rattle.load_lives.specs.FastLives.{LinkAndRecord, PassesAt, last_core as fast_core}
-use Rattle.load_lives.specs.LooksFirst.{LookingLife as FastLookingLife, IsLookingLife as IsFastLookingLife}
+use Rattle.load_lives.specs.FastLooksFirst.{FastLookingLife, IsFastLookingLife}
 use Rattle.looking_law.specs.Belief.{dialogue as looks_of}
 use Rattle.stub_engine.specs.Parts.{Bringing}
 use Rattle.machine_load.specs.declared.looks.Looks.{Looks}

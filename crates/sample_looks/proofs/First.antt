@@ -17,7 +17,6 @@ use Rattle.line_world.specs.Safe.{FirstStand, OnlyImage}
 use Rattle.line_world.specs.Scene.{over}
 use Rattle.line_world.specs.Site.{Ground, IsThere}
 use Rattle.line_world.specs.Wire.{Wire, forgiven, sent}
-use Rattle.line_world.proofs.Events.{safe_of}
 use Rattle.line_world.proofs.Starts.{ends_join}
 use Rattle.host_devices.specs.declared.item.Item.{Item}
 use Rattle.host_devices.specs.declared.item.Item.TheVariants.{Sent, Heard as Came}
@@ -31,7 +30,7 @@ use Rattle.load_engine.proofs.Sessions.{keys_join}
 use Rattle.load_record.specs.Reading.{Says}
 use Rattle.load_record.proofs.Sound.{IsSound}
 use Rattle.load_lives.specs.Lives.{IsLife, Life, PassesOver, Reopens, WireAndRecord, last_core}
-use Rattle.load_lives.proofs.Chains.{Stood, Went, opens, went}
+use Rattle.load_lives.proofs.Chains.{Stood, Went, opens, trusted, went}
 use Rattle.load_lives.proofs.Records.{says_once, says_sound}
 use Rattle.load_lives.proofs.Renewals.{Rests, old_key, place, renewed}
 use Rattle.load_lives.proofs.Starting.{reopened_run}
@@ -51,7 +50,7 @@ use Rattle.looking_law.proofs.Runs.{may_begin, others_follow}
 use Rattle.looking_law.proofs.Saying.{length_for, merged_for, nr_for, plan_for}
 use Rattle.looking_law.proofs.Splits.{HasRested, heard_rests, nothing_lost, passes_fewer, passes_split}
 use Rattle.looking_law.proofs.Told.{reading_begins, told_begins, told_passes, way_before}
-use Rattle.sample_looks.specs.LooksFirst.{IsLatestTrusted, IsLookingLife, LoadsMayFollow, LookedAndLived, LookingLife, LooksMayComeFirst, LooksMayStandAlone, idle, typed}
+use Rattle.sample_looks.specs.LooksFirst.{AreLookingLives, IsLatestTrusted, IsLookingLife, LoadsMayFollow, LookingLife, LooksMayComeFirst, LooksMayStandAlone, idle, typed}
 
 -- ---- a key that a look left under way
 
@@ -287,18 +286,18 @@ one_more plan before keys between l new fits s is =
 
 -- ---- all of them
 
-stood : (plan : PlanValue) (before : List ℕ) (lives : List LookingLife) (old new : WireAndRecord) → IsPlan plan → Stood plan before [] old → LookedAndLived plan old lives new → Stood plan before (typed lives) new
+stood : (plan : PlanValue) (before : List ℕ) (lives : List LookingLife) (old new : WireAndRecord) → IsPlan plan → Stood plan before [] old → AreLookingLives plan old lives new → Stood plan before (typed lives) new
 stood plan before [] old new fits s same = subst (Stood plan before []) (sym same) s
 stood plan before (l ∷ earlier) old new fits s lived = (one_more plan before (typed earlier) lived.0 l new fits (stood plan before earlier old lived.0 fits s lived.1) lived.2).stood
 
-latest : (plan : PlanValue) (before : List ℕ) (lives : List LookingLife) (old new : WireAndRecord) → IsPlan plan → Stood plan before [] old → LookedAndLived plan old lives new → IsLatestTrusted plan before lives new
+latest : (plan : PlanValue) (before : List ℕ) (lives : List LookingLife) (old new : WireAndRecord) → IsPlan plan → Stood plan before [] old → AreLookingLives plan old lives new → IsLatestTrusted plan before lives new
 latest plan before [] old new fits s lived = tt
 latest plan before (l ∷ earlier) old new fits s lived =
     let w = one_more plan before (typed earlier) lived.0 l new fits (stood plan before earlier old lived.0 fits s lived.1) lived.2 in
     (w.lost, w.fewer, w.trusted)
 
 -- a program runs only where `G` was among the keys
-typed_run : (plan : PlanValue) (lives : List LookingLife) (old new : WireAndRecord) → (MayRun old.wire → ⊥) → LookedAndLived plan old lives new → MayRun new.wire → Contains (typed lives) 71
+typed_run : (plan : PlanValue) (lives : List LookingLife) (old new : WireAndRecord) → (MayRun old.wire → ⊥) → AreLookingLives plan old lives new → MayRun new.wire → Contains (typed lives) 71
 typed_run plan [] old new still same may = absurd (still (subst (λ (s : WireAndRecord). MayRun s.wire) same may))
 typed_run plan (l ∷ earlier) old new still (between, lived, is) may =
     let keys : List ℕ = keys_of (l.looks ++ l.life.items) in
@@ -309,17 +308,10 @@ typed_run plan (l ∷ earlier) old new still (between, lived, is) may =
 
 pub come_first : LooksMayComeFirst
 come_first plan old new lives fits may lived =
-    let first = opens plan old fits may in
-    let s = stood plan old.wire.machine.memory lives old new fits first lived in record {
-      progress = s.progress;
-      says = s.says;
-      safe = safe_of old.wire.machine.memory (over (begun plan s.progress.verified s.progress.going 0) (forgiven new.wire))
-          (renewed plan s.progress s.progress 0 new.wire (forgiven new.wire) fits (says_sound plan new.text s.progress s.says) (omega arith) refl (omega arith) s.rests (inl refl)) s.bytes;
-      last = s.last;
-      marked = s.marked;
-      by_go = λ runs. typed_run plan lives old new still lived (inl runs);
-      latest = latest plan old.wire.machine.memory lives old new fits first lived;
-    }
+    let first = opens plan old fits may in (
+      trusted plan old.wire.machine.memory (typed lives) new fits (stood plan old.wire.machine.memory lives old new fits first lived) (λ runs. typed_run plan lives old new still lived (inl runs)),
+      latest plan old.wire.machine.memory lives old new fits first lived,
+    )
   where
     still : MayRun old.wire → ⊥
     still (inl runs) = marked_not (is_running old.wire.machine.mode) runs may.begins.stopped

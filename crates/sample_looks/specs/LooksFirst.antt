@@ -1,20 +1,16 @@
 -- Looks in front of a load, on its line: lives in a row, of which each may look first.
-use Rattle.std.specs.Prelude.{◌≡◌, ℕ, ◌+◌, ◌^◌, ◌<◌, ◌≤◌, ◌⊎◌, true, false, List, [], ◌∷◌, ◌++◌, length, Contains, None, Ok, option_to_list, ⊤, Option, Some}
+use Rattle.std.specs.Prelude.{◌≡◌, ℕ, ◌+◌, ◌^◌, ◌<◌, ◌≤◌, ◌⊎◌, false, List, [], ◌∷◌, ◌++◌, length, None, Ok, option_to_list, ⊤, Option, Some}
 use Rattle.tape_image.specs.Plan.{PlanValue, IsPlan}
 use Rattle.tape_image.specs.Word.{WordValue}
 use Rattle.odt_machine.specs.Machine.{Machine}
 use Rattle.host_core.specs.declared.progress.Progress.{Progress}
-use Rattle.host_core.specs.Console.{go}
 use Rattle.host_core.specs.Core.{begun}
-use Rattle.line_world.specs.Safe.{IsSafe}
-use Rattle.line_world.specs.Promises.{EndsAtGo}
 use Rattle.host_devices.specs.declared.item.Item.{Item}
 use Rattle.host_devices.specs.Dialogue.{dialogue, keys_of, said}
 use Rattle.honest_line.specs.Honest.{IsHonest}
-use Rattle.honest_line.specs.Starts.{RunsByGo}
 use Rattle.honest_line.specs.Trust.{IsTrusted, MayBegin}
 use Rattle.load_record.specs.Reading.{Says}
-use Rattle.load_lives.specs.Lives.{GoesOnFrom, IsLeft, Life, MayOpen, PassesOver, WireAndRecord, first_core, last_core}
+use Rattle.load_lives.specs.Lives.{AreTrusted, GoesOnFrom, IsLeft, Life, MayOpen, PassesOver, WireAndRecord, first_core, last_core}
 use Rattle.load_lives.specs.Stops.{WentOut}
 use Rattle.reading_core.specs.Addresses.{AreAddresses, addresses_of}
 use Rattle.reading_core.specs.Reader.{Reader, begun as reader_begun}
@@ -40,9 +36,9 @@ pub record IsLookingLife (plan : PlanValue) (old : WireAndRecord) (l : LookingLi
   pub left : IsLeft plan l.life.progress (last_core plan l.life) l.life.items old.text new.text
 
 -- such lives one after another, the latest first: each finds what the one before it left
-abbrev pub LookedAndLived : PlanValue → WireAndRecord → List LookingLife → WireAndRecord → Type 0
-LookedAndLived plan old [] new = new ≡ old
-LookedAndLived plan old (l ∷ earlier) new = (between : WireAndRecord) × LookedAndLived plan old earlier between × IsLookingLife plan between l new
+abbrev pub AreLookingLives : PlanValue → WireAndRecord → List LookingLife → WireAndRecord → Type 0
+AreLookingLives plan old [] new = new ≡ old
+AreLookingLives plan old (l ∷ earlier) new = (between : WireAndRecord) × AreLookingLives plan old earlier between × IsLookingLife plan between l new
 
 -- the keys that all of them sent, the looks' too, in their order
 abbrev pub typed : List LookingLife → List ℕ
@@ -56,21 +52,11 @@ IsLatestTrusted plan before (l ∷ earlier) now =
     (lost : ℕ) × (lost ≤ now.wire.lost)
     × IsTrusted before (last_core plan l.life) now.wire.machine.memory (typed (l ∷ earlier)) (length (option_to_list l.life.unsent) + lost)
 
--- what came of them all, as of lives that do not look: `G`, if it was sent, was the last key of all, behind every look
-pub record AreTrusted (plan : PlanValue) (before : List ℕ) (lives : List LookingLife) (now : WireAndRecord) : Type 0 where
-  pub progress : Progress
-  pub says : Says plan now.text (Ok progress)
-  pub safe : IsSafe before (begun plan progress.verified progress.going 0) now.wire.machine.memory
-  pub last : EndsAtGo (typed lives)
-  pub marked : Contains (typed lives) go → progress.going ≡ true
-  pub by_go : RunsByGo now.wire.machine (typed lives)
-  pub latest : IsLatestTrusted plan before lives now
-
--- lives in a row may be trusted, also where each looks first
+-- lives in a row may be trusted, also where each looks first: `G`, if it was sent, was the last key of all, behind every look
 abbrev pub LooksMayComeFirst : Type 0
 LooksMayComeFirst =
-    (plan : PlanValue) (old new : WireAndRecord) (lives : List LookingLife) → IsPlan plan →
-    MayOpen plan old → LookedAndLived plan old lives new → AreTrusted plan old.wire.machine.memory lives new
+    (plan : PlanValue) (old new : WireAndRecord) (lives : List LookingLife) → IsPlan plan → MayOpen plan old → AreLookingLives plan old lives new →
+    AreTrusted plan old.wire.machine.memory (typed lives) new × IsLatestTrusted plan old.wire.machine.memory lives new
 
 -- the life of a load that came to no more than its looks
 abbrev pub idle : Progress → Life

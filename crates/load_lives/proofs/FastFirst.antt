@@ -1,6 +1,6 @@
 -- Looks in front of a life, at a station's line: what they leave is a line at which the life may begin.
-use Rattle.std.proofs.Common.{◌≡◌, ℕ, zero, suc, ◌+◌, ◌≤◌, ◌⊎◌, Bool, true, false, List, [], ◌∷◌, ◌++◌, length, None, inl, inr, refl, arith, ap, sym, subst, ◌∙◌, append_assoc}
-use Rattle.std.specs.Prelude.{Ok, Contains}
+use Rattle.std.proofs.Common.{◌≡◌, ℕ, zero, suc, ◌+◌, ◌≤◌, ◌⊎◌, Bool, true, false, List, [], ◌∷◌, ◌++◌, length, inl, inr, refl, arith, ap, sym, subst, ◌∙◌, append_assoc}
+use Rattle.std.specs.Prelude.{Ok}
 use Rattle.std.specs.List.{remove}
 use Rattle.std.proofs.lemmas.List.Elements.{Contains-append_cases}
 use Rattle.tape_image.specs.Plan.{PlanValue, IsPlan}
@@ -20,12 +20,11 @@ use Rattle.exchange_law.specs.Station.{Program}
 use Rattle.exchange_law.proofs.Links.{later, passes_split}
 use Rattle.exchange_law.specs.Recovery.{IsLater, IsPaid}
 use Rattle.exchange_law.specs.Start.{program as stub_program}
-use Rattle.load_lives.specs.Between.{Between, KeepsOutside}
-use Rattle.load_lives.specs.FastLives.{FastLife, IsFastLife, LinkAndRecord, MayOpenAt, PassesAt, last_core}
-use Rattle.load_lives.specs.LooksFirst.{AreTrusted, IsLatestPaid, IsLookingLife, LookedAndLived, LookingLife, FastLivesMayLookFirst, typed}
+use Rattle.load_lives.specs.Between.{Between}
+use Rattle.load_lives.specs.FastLives.{FastLife, IsFastLife, LinkAndRecord, PassesAt, last_core}
+use Rattle.load_lives.specs.FastLooksFirst.{AreFastLookingLives, FastLivesMayLookFirst, FastLookingLife, IsFastLookingLife, IsLatestPaid, typed}
 use Rattle.load_lives.proofs.Calm.{Rested, kept_on, stands_on}
-use Rattle.load_lives.proofs.FastChains.{Stood, Went, opens, started, went}
-use Rattle.load_lives.proofs.Going.{loaded_by}
+use Rattle.load_lives.proofs.FastChains.{Stood, Went, opens, trusted, went}
 use Rattle.load_lives.proofs.Growing.{between_reopened}
 use Rattle.load_lives.proofs.Looking.{IsLeft, looks_leave}
 use Rattle.exchange_law.proofs.Passing.{losses_aside}
@@ -102,7 +101,7 @@ looked program tape before keys between recorded looks z is s says h line =
 
 -- ---- a life behind them
 
-record WentOn (program : Program) (tape : PlanValue) (before keys : List ℕ) (l : LookingLife) (new : LinkAndRecord) : Type 0 where
+record WentOn (program : Program) (tape : PlanValue) (before keys : List ℕ) (l : FastLookingLife) (new : LinkAndRecord) : Type 0 where
   pub stood : Stood program tape before (keys ++ (keys_of l.looks ++ keys_of l.life.rest)) new
   pub lost : ℕ
   pub fewer : lost ≤ new.link.lost
@@ -169,7 +168,7 @@ went_plain program tape before keys between looks life new is s none line on =
       paid = w.paid;
     }
 
-one_more : (program : Program) (tape : PlanValue) (before keys : List ℕ) (between : LinkAndRecord) (l : LookingLife) (new : LinkAndRecord) → IsPlan tape → Stood program tape before keys between → IsLookingLife program tape between l new →
+one_more : (program : Program) (tape : PlanValue) (before keys : List ℕ) (between : LinkAndRecord) (l : FastLookingLife) (new : LinkAndRecord) → IsPlan tape → Stood program tape before keys between → IsFastLookingLife program tape between l new →
     WentOn program tape before keys l new
 one_more program tape before keys between l new is s i = by i.looked
   where
@@ -182,11 +181,11 @@ one_more program tape before keys between l new is s i = by i.looked
 
 -- ---- all of them
 
-stood : (program : Program) (tape : PlanValue) (before : List ℕ) (lives : List LookingLife) (old new : LinkAndRecord) → IsPlan tape → Stood program tape before [] old → LookedAndLived program tape old lives new → Stood program tape before (typed lives) new
+stood : (program : Program) (tape : PlanValue) (before : List ℕ) (lives : List FastLookingLife) (old new : LinkAndRecord) → IsPlan tape → Stood program tape before [] old → AreFastLookingLives program tape old lives new → Stood program tape before (typed lives) new
 stood program tape before [] old new is s same = subst (Stood program tape before []) (sym same) s
 stood program tape before (l ∷ earlier) old new is s lived = (one_more program tape before (typed earlier) lived.0 l new is (stood program tape before earlier old lived.0 is s lived.1) lived.2).stood
 
-latest : (program : Program) (tape : PlanValue) (before : List ℕ) (lives : List LookingLife) (old new : LinkAndRecord) → IsPlan tape → Stood program tape before [] old → LookedAndLived program tape old lives new → IsLatestPaid tape lives new.link
+latest : (program : Program) (tape : PlanValue) (before : List ℕ) (lives : List FastLookingLife) (old new : LinkAndRecord) → IsPlan tape → Stood program tape before [] old → AreFastLookingLives program tape old lives new → IsLatestPaid tape lives new.link
 latest program tape before [] old new is s lived = tt
 latest program tape before (l ∷ earlier) old new is s lived =
     let w = one_more program tape before (typed earlier) lived.0 l new is (stood program tape before earlier old lived.0 is s lived.1) lived.2 in
@@ -194,16 +193,7 @@ latest program tape before (l ∷ earlier) old new is s lived =
 
 pub come_first : FastLivesMayLookFirst
 come_first tape old new lives is may lived =
-    let first = opens stub_program tape old may in
-    let s = stood stub_program tape old.link.station.machine.memory lives old new is first lived in record {
-      progress = s.progress;
-      says = s.says;
-      stand = s.stand;
-      kept = s.kept;
-      last = s.last;
-      marked = s.marked;
-      loaded = λ set. loaded_by tape old.link.station.machine.memory new.link.station.machine.memory is s.kept (s.all set);
-      unsettled = λ unset. (s.next unset).line;
-      by_go = λ none runs. started stub_program tape old.link.station.machine.memory (typed lives) new s none runs;
-      latest = latest stub_program tape old.link.station.machine.memory lives old new is first lived;
-    }
+    let first = opens stub_program tape old may in (
+      trusted stub_program tape old.link.station.machine.memory (typed lives) new is (stood stub_program tape old.link.station.machine.memory lives old new is first lived),
+      latest stub_program tape old.link.station.machine.memory lives old new is first lived,
+    )

@@ -3,8 +3,7 @@ use Rattle.std.specs.Prelude.{◌≡◌, ◌⊎◌, ℕ, List, [], ◌++◌, Opt
 use Rattle.machine_load.specs.Load.{Setting}
 use Rattle.honest_line.specs.LineTable.{LineValue}
 use Rattle.host_devices.specs.declared.line.Line.{Ghosts as Line}
-use Rattle.host_devices.specs.Told.{HasAsked}
-use Rattle.machine_load.specs.RecordDisk.{RecordDisk, FileKnown, IsClosedAfter}
+use Rattle.machine_load.specs.RecordDisk.{RecordDisk, DiskAsked, FileKnown, IsClosedBehind}
 use Rattle.machine_look.specs.declared.saving.SaveOptions.{SaveOptions}
 use Rattle.machine_look.specs.Save.{TakesUp}
 use Rattle.tape_shelf.specs.SavedSteps.{puts}
@@ -27,7 +26,7 @@ record_told asked name known = record { asked = asked; name = name; known = know
 
 -- so much was asked of the disk on which it is, and then it was closed
 abbrev pub IsAskedAndClosed : (RecordDisk → FileKnown → List DiskStep → Type 0) → RecordDisk → Option (List DiskStep) → Type 0
-IsAskedAndClosed said disk asked = HasAsked disk.asked asked (IsClosedAfter said disk)
+IsAskedAndClosed said disk asked = (last : RecordDisk) × DiskAsked (Some disk) (Some last) said × IsClosedBehind last asked
 
 -- a shelf on a disk, for a tape of this name, and its room
 abbrev pub shelf_told : Option (List DiskStep) → List ℕ → Option Room → ShelfTold

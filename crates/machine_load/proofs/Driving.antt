@@ -1,7 +1,7 @@
 -- Loads by their lives.
-use Rattle.std.proofs.Common.{◌≡◌, ◌⊎◌, List, [], Option, Some, None, refl, subst, inl, inr}
+use Rattle.std.proofs.Common.{◌≡◌, ◌⊎◌, List, [], Option, Some, None, option_map, refl, subst, inl, inr}
 use Rattle.host_core.specs.Core.{Core}
-use Rattle.host_devices.specs.Devices.{Devices, KeeperCalls}
+use Rattle.host_devices.specs.Devices.{Devices, KeeperCalls, line_told}
 use Rattle.host_devices.specs.Told.{Gains}
 use Rattle.host_devices.specs.Turns.{most_turns}
 use Rattle.load_engine.specs.declared.stop.Stop.{Stop}
@@ -11,10 +11,15 @@ use Rattle.console_lines.specs.Dialling.{Call, LineRequest, asked_once}
 use Rattle.machine_load.specs.Asked.{Change, LoadTask, Opened, opened_as, ◌⇒◌}
 use Rattle.machine_load.specs.Called.{asked_by}
 use Rattle.machine_load.specs.Driving.{KeeperTells, IsDrivenOn}
-use Rattle.machine_load.specs.Load.{SurroundingsTold, Ending, Finish, GoesOn, Setting, IsCutShort, IsLived, IsLoad, IsReported}
+use Rattle.machine_load.specs.Load.{SurroundingsTold, Ending, Finish, GoesOn, Setting, IsReportCutShort, IsLived, IsLoad, IsReported}
 use Rattle.machine_load.specs.LoadFault.{IsLoadFault}
 use Rattle.machine_load.specs.Parts.{IsDrivenBehind, IsDrivenUnless, IsKeptBehind, Unless, course, told_by}
+use Rattle.machine_load.specs.RecordDisk.{DiskAsked, RecordDisk, disk_asked_by}
+use Rattle.machine_load.specs.Scene.{IsLoadReported, IsLoadUnreported, IsLoaded, IsNotLoaded, LoadTells, Scene, ending}
 use Rattle.machine_load.specs.Stubs.{hindrance, host_behind}
+use Rattle.machine_load.specs.declared.load_end.LoadEnd.{LoadEnd}
+use Rattle.machine_load.specs.declared.load_end.LoadEnd.TheVariants.{Driven, Unfinished, Stale}
+use Rattle.machine_load.specs.declared.outcome.Outcome.{Outcome}
 use Rattle.machine_load.specs.declared.stubs.Stubs.{Stubs}
 use Rattle.machine_load.specs.declared.fault.LoadFault.{LoadFault}
 use Rattle.machine_load.specs.declared.fault.LoadFault.TheVariants.{Record, RecordInUse, ReadRecord, Connect, WriteRecord, WriteOutput, Memory}
@@ -53,7 +58,7 @@ load_over_line tells task around finish load = record {
 }
 
 -- what is said of a load with its keeper is so of its line
-pub reported_over_line : {K : Type 0} (tells : KeeperTells K) (task : LoadTask) (setting : Change Setting) (ending : Ending)
+reported_over_line : {K : Type 0} (tells : KeeperTells K) (task : LoadTask) (setting : Change Setting) (ending : Ending)
     → IsReported (IsDrivenOn tells) task setting ending → IsReported GoesOn task setting ending
 reported_over_line tells task setting ending load = record {
   looks = load.looks;
@@ -65,7 +70,7 @@ reported_over_line tells task setting ending load = record {
   line_kept = load.line_kept;
 }
 
-cut_over_line : {K : Type 0} (tells : KeeperTells K) (task : LoadTask) (setting : Change Setting) → IsCutShort (IsDrivenOn tells) task setting → IsCutShort GoesOn task setting
+cut_over_line : {K : Type 0} (tells : KeeperTells K) (task : LoadTask) (setting : Change Setting) → IsReportCutShort (IsDrivenOn tells) task setting → IsReportCutShort GoesOn task setting
 cut_over_line tells task setting load = record {
   finish = load.finish;
   load = load_over_line tells task (setting.before.around ⇒ setting.after.around) load.finish load.load;
@@ -74,7 +79,7 @@ cut_over_line tells task setting load = record {
   reported = load.reported;
 }
 
-pub fault_over_line : {K : Type 0} (tells : KeeperTells K) (task : LoadTask) (setting : Change Setting) (why : LoadFault)
+fault_over_line : {K : Type 0} (tells : KeeperTells K) (task : LoadTask) (setting : Change Setting) (why : LoadFault)
     → IsLoadFault (IsDrivenOn tells) task setting why → IsLoadFault GoesOn task setting why
 fault_over_line tells task setting ReadRecord h = h
 fault_over_line tells task setting RecordInUse h = h
@@ -83,6 +88,36 @@ fault_over_line tells task setting Connect h = h
 fault_over_line tells task setting WriteRecord h = h
 fault_over_line tells task setting WriteOutput h = cut_over_line tells task setting h
 fault_over_line tells task setting Memory h = h
+
+-- what is asked for a line is asked for one that tells
+asked_by_told : {L M : Type 0} (tell : L → M) (call : Call) (line : Option L) (asked asked' : Option (List LineRequest)) → Gains asked asked' (asked_by call line)
+    → Gains asked asked' (asked_by call (option_map tell line))
+asked_by_told tell call (Some line) asked asked' h = h
+asked_by_told tell call None asked asked' h = h
+
+disk_by_told : {L M : Type 0} (tell : L → M) (end : LoadEnd) (line : Option L) (disk disk' : Option RecordDisk) → DiskAsked disk disk' (disk_asked_by end line)
+    → DiskAsked disk disk' (disk_asked_by end (option_map tell line))
+disk_by_told tell (Driven stop) (Some line) disk disk' h = h
+disk_by_told tell (Driven stop) None disk disk' h = h
+disk_by_told tell (Unfinished stop) line disk disk' h = h
+disk_by_told tell (Stale address) line disk disk' h = h
+
+-- a load over its line and its keeper is one for whoever does not know their types
+pub load_reported : {L K : Type 0} (tells : LoadTells L K) (task : LoadTask) (scenes : Change Scene) (outcome : Outcome L) → IsLoaded tells task scenes outcome
+    → IsLoadReported task scenes (ending tells.line outcome)
+load_reported tells task scenes outcome load = record {
+  reported = reported_over_line tells.keeper task (scenes.before.setting ⇒ scenes.after.setting) (ending tells.line outcome) load.reported;
+  asked = asked_by_told (line_told tells.line) scenes.before.call outcome.line scenes.before.asked scenes.after.asked load.asked;
+  disk = disk_by_told (line_told tells.line) outcome.end outcome.line scenes.before.disk scenes.after.disk load.disk;
+}
+
+pub load_unreported : {K : Type 0} (keeper : KeeperTells K) (task : LoadTask) (scenes : Change Scene) (why : LoadFault) → IsNotLoaded keeper task scenes why
+    → IsLoadUnreported task scenes why
+load_unreported keeper task scenes why load = record {
+  fault = fault_over_line keeper task (scenes.before.setting ⇒ scenes.after.setting) why load.fault;
+  asked = load.asked;
+  disk = load.disk;
+}
 
 -- the line of a load whose report failed was asked for, where there was one
 pub asked_untold : {L : Type 0} (call : Call) (line : Option L) (asked asked' : Option (List LineRequest)) → Gains asked asked' (asked_by call line)

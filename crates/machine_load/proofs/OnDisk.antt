@@ -4,13 +4,13 @@ use Rattle.std.specs.Prelude.{MatchOption, OnOk, OnErr, option_map}
 use Rattle.std.specs.Result.{IfOk, IfErr}
 use Rattle.host_devices.proofs.Told.{tells_join, tells_none}
 use Rattle.record_file.specs.Beginning.{IsBegun, IsNotBegun}
-use Rattle.record_file.specs.Closing.{IsRecordClosed, Remains}
+use Rattle.record_file.specs.Closing.{Remains}
 use Rattle.host_devices.specs.Told.{HasAsked}
 use Rattle.record_file.specs.DiskStep.{DiskStep}
 use Rattle.record_file.specs.Reading.{IsRead, IsNotRead, found_in}
 use Rattle.record_file.specs.declared.old_record.OldRecord.{OldRecord}
 use Rattle.record_file.specs.declared.record_fault.RecordFault.{RecordFault}
-use Rattle.machine_load.specs.RecordDisk.{RecordDisk, FileKnown, DiskAsked, IsReadAnswered, IsBegunOf, IsBegunOn, IsNotBegunOf, IsNotBegunOn, IsBeginAnswered, IsReadFirst, IsReadAndBegun, IsReadNotBegun, IsOnlyRead, IsClosedAfter, disk_asked_by, disk_asked_before}
+use Rattle.machine_load.specs.RecordDisk.{RecordDisk, FileKnown, DiskAsked, IsReadAnswered, IsBegunOf, IsBegunOn, IsNotBegunOf, IsNotBegunOn, IsBeginAnswered, IsReadFirst, IsReadAndBegun, IsReadNotBegun, IsOnlyRead, disk_asked_by, disk_asked_before}
 use Rattle.host_devices.specs.Devices.{LineTold}
 use Rattle.machine_load.specs.Beginning.{IsNoBeginningOn}
 use Rattle.load_engine.specs.declared.stop.Stop.{Stop as DriveStop}
@@ -145,32 +145,3 @@ not_begun_on a b c WriteRecord o (inr h) = not_begun_then WriteRecord a b c (λ 
 not_begun_on a b c Memory o (inl same) = asked_as IsOnlyRead (disk_asked_before Memory) a c (λ disk known' steps x. inr (inl x)) (only_read_on a b c o same)
 not_begun_on a b c Memory o (inr h) = not_begun_then Memory a b c (λ disk known' steps x. inr (inr x)) o h
 not_begun_on a b c other o h = absurd h
-
--- ---- and its record closed
-
-closed_after : (P : RecordDisk → FileKnown → List DiskStep → Type 0) (before after : RecordDisk) (last : Option (List DiskStep)) → DiskAsked (Some before) (Some after) P
-    → HasAsked after.asked last (IsRecordClosed after.name after.known) → HasAsked before.asked last (IsClosedAfter P before)
-closed_after P before after last h c = (
-  h.1.0 ++ c.0,
-  tells_join before.asked after.asked last h.1.0 c.0 h.1.1 c.1,
-  record {
-    known = after.known;
-    before = h.1.0;
-    going = c.0;
-    is_so = h.1.2;
-    closed = subst (λ name. IsRecordClosed name after.known c.0) h.0 c.2;
-    all = refl;
-  },
-)
-
-pub closed_ok : {A E : Type 0} (P : A → RecordDisk → FileKnown → List DiskStep → Type 0) (result : Result A E) (before after : RecordDisk) (last : Option (List DiskStep))
-    → IfOk result (λ value. DiskAsked (Some before) (Some after) (P value)) → HasAsked after.asked last (IsRecordClosed after.name after.known)
-    → IfOk result (λ value. HasAsked before.asked last (IsClosedAfter (P value) before))
-closed_ok P (Ok value) before after last h c = closed_after (P value) before after last h c
-closed_ok P (Err error) before after last h c = tt
-
-pub closed_err : {A E : Type 0} (P : E → RecordDisk → FileKnown → List DiskStep → Type 0) (result : Result A E) (before after : RecordDisk) (last : Option (List DiskStep))
-    → IfErr result (λ error. DiskAsked (Some before) (Some after) (P error)) → HasAsked after.asked last (IsRecordClosed after.name after.known)
-    → IfErr result (λ error. HasAsked before.asked last (IsClosedAfter (P error) before))
-closed_err P (Ok value) before after last h c = tt
-closed_err P (Err error) before after last h c = closed_after (P error) before after last h c

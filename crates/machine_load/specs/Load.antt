@@ -207,7 +207,7 @@ pub record IsReported (GoesSo : HowItGoesOn) (task : LoadTask) (setting : Change
   pub line_kept : setting.after.lines ≡ setting.before.lines
 
 -- a load whose report could not be written whole: its life was lived all the same, and its line given back as that left it
-pub record IsCutShort (GoesSo : HowItGoesOn) (task : LoadTask) (setting : Change Setting) : Type 0 where
+pub record IsReportCutShort (GoesSo : HowItGoesOn) (task : LoadTask) (setting : Change Setting) : Type 0 where
   pub finish : Finish
   pub load : IsLoad GoesSo task (setting.before.around ⇒ setting.after.around) finish
   pub given_back : IsGivenBack setting.before.lines setting.after.lines finish.line

@@ -10,7 +10,7 @@ use Rattle.host_devices.specs.Devices.{LineTold}
 use Rattle.machine_load.specs.Asked.{Change, LoadTask, ◌⇒◌}
 use Rattle.machine_load.specs.GivenBack.{GivesLooked, GivesNone}
 use Rattle.host_core.specs.Core.{Core}
-use Rattle.machine_load.specs.Load.{HowItGoesOn, SurroundingsTold, Setting, Asks, AsksNothing, KeepsRecord, IsCutShort, IsOpened}
+use Rattle.machine_load.specs.Load.{HowItGoesOn, SurroundingsTold, Setting, Asks, AsksNothing, KeepsRecord, IsReportCutShort, IsOpened}
 use Rattle.record_file.specs.OldRecord.{HoldsNoRecord}
 use Rattle.record_file.specs.declared.old_record.Writable.{Writable}
 use Rattle.record_file.specs.declared.old_record.Writable.TheVariants.{InPlace}
@@ -112,5 +112,5 @@ IsLoadFault GoesSo task setting RecordInUse = StopsAfter setting (InUse ∷ [])
 IsLoadFault GoesSo task setting (Record why) = StopsAfterReading setting × IsRefusedRecord setting.before.around.record_text task.plan why
 IsLoadFault GoesSo task setting Connect = StopsUnconnected task setting true (NotConnected ∷ [])
 IsLoadFault GoesSo task setting WriteRecord = IsUnwritable task setting
-IsLoadFault GoesSo task setting WriteOutput = IsCutShort GoesSo task setting
+IsLoadFault GoesSo task setting WriteOutput = IsReportCutShort GoesSo task setting
 IsLoadFault GoesSo task setting Memory = IsWantOfMemory task setting

@@ -106,11 +106,10 @@ disk_asked_before WriteRecord disk known' steps = IsOnlyRead disk known' steps �
 disk_asked_before WriteOutput disk known' steps = IsOnlyRead disk known' steps ⊎ IsReadAndBegun disk known' steps
 disk_asked_before Memory disk known' steps = IsNotReadOn disk known' steps ⊎ IsOnlyRead disk known' steps ⊎ IsReadNotBegun disk known' steps
 
--- this was asked, and then the record was closed: what goes is decided by what was known of its file
-pub record IsClosedAfter (P : RecordDisk → FileKnown → List DiskStep → Type 0) (disk : RecordDisk) (steps : List DiskStep) : Type 0 where
-  pub known : FileKnown
-  pub before : List DiskStep
-  pub going : List DiskStep
-  pub is_so : P disk known before
-  pub closed : IsRecordClosed disk.name known going
-  pub all : steps ≡ before ++ going
+-- a record of this name that is new: nothing is known of its file yet, on a disk that was asked this so far
+abbrev pub new_record : List ℕ → Option (List DiskStep) → RecordDisk
+new_record name asked = record { asked = asked; name = name; known = None }
+
+-- the record was closed behind the load, and then its disk was asked this: what goes is decided by what was known of its file
+abbrev pub IsClosedBehind : RecordDisk → Option (List DiskStep) → Type 0
+IsClosedBehind disk asked = HasAsked disk.asked asked (IsRecordClosed disk.name disk.known)

@@ -15,7 +15,7 @@ use Rattle.machine_load.specs.Driving.{KeeperTells, IsDrivenOn}
 use Rattle.machine_load.specs.LoadFault.{Gone, IsLoadFault, gone}
 use Rattle.machine_load.specs.RecordDisk.{RecordDisk, DiskAsked, disk_asked_by, disk_asked_before}
 use Rattle.console_lines.specs.Dialling.{LineRequest, Call}
-use Rattle.machine_load.specs.Load.{SurroundingsTold, Ending, Finish, Setting, IsNeverBegun, IsReported}
+use Rattle.machine_load.specs.Load.{SurroundingsTold, Ending, Finish, GoesOn, Setting, IsNeverBegun, IsReported}
 
 -- what surroundings tell
 abbrev pub around_of : {S L K : Type 0} → Surroundings S L K → S → SurroundingsTold
@@ -81,5 +81,17 @@ pub record IsLoaded {L K : Type 0} (tells : LoadTells L K) (task : LoadTask) (sc
 pub record IsNotLoaded {K : Type 0} (keeper : KeeperTells K) (task : LoadTask) (scenes : Change Scene) (why : LoadFault) : Type 0 where
   -- also a life whose report could not be written was lived over its line and its keeper
   pub fault : IsLoadFault (IsDrivenOn keeper) task (scenes.before.setting ⇒ scenes.after.setting) why
+  pub asked : IsAskedBefore scenes.before.call scenes.before.asked scenes.after.asked why
+  pub disk : DiskAsked scenes.before.disk scenes.after.disk (disk_asked_before why)
+
+-- what is said of a load by somebody who does not know of which types its line and its keeper are: it was reported, and ended so
+pub record IsLoadReported (task : LoadTask) (scenes : Change Scene) (ending : Ending) : Type 0 where
+  pub reported : IsReported GoesOn task (scenes.before.setting ⇒ scenes.after.setting) ending
+  pub asked : Gains scenes.before.asked scenes.after.asked (asked_by scenes.before.call ending.line)
+  pub disk : DiskAsked scenes.before.disk scenes.after.disk (disk_asked_by ending.end ending.line)
+
+-- or it came to nothing
+pub record IsLoadUnreported (task : LoadTask) (scenes : Change Scene) (why : LoadFault) : Type 0 where
+  pub fault : IsLoadFault GoesOn task (scenes.before.setting ⇒ scenes.after.setting) why
   pub asked : IsAskedBefore scenes.before.call scenes.before.asked scenes.after.asked why
   pub disk : DiskAsked scenes.before.disk scenes.after.disk (disk_asked_before why)

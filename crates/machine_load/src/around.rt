@@ -54,6 +54,6 @@ impl<C: Reach, R: Records> Surroundings for Around<C, R> {
         self.console.let_go(line);
     }
 
-    // Its file is closed with the keeper, and held on by the records.
+    // Its own file is closed with it; the records hold the record on.
     fn end_record(&mut self, _keeper: R::Keeper) {}
 }

@@ -76,7 +76,7 @@ pub fn load<S: Surroundings, W: Write, O: Onlooker>(
     ensures err { IfErr result (IsNotLoaded (keeper_of S.Surroundings S.Keeper.Keep) (task plan options)
         (scene S.Surroundings W.Write around.old out.old ⇒ scene S.Surroundings W.Write around.new out.new)) }
 {
-    let (first, writable) = first_core(alloc, plan, options, around)?;
+    let (first, writable) = first_life(alloc, plan, options, around)?;
     let begun = match begin(alloc, first, writable, around, onlooker)? {
         Beginning::Over(lived) => return report(lived, around, out),
         Beginning::Begun(begun) => begun,
@@ -113,7 +113,7 @@ pub fn load<S: Surroundings, W: Write, O: Onlooker>(
 }
 
 // The life that begins with what the record says, and whether its own record may be begun over that one.
-fn first_core<S: Surroundings>(
+fn first_life<S: Surroundings>(
     alloc: Global,
     plan: Plan,
     options: LoadOptions,

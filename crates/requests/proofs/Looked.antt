@@ -3,7 +3,6 @@ use Rattle.std.proofs.Common.{◌≡◌, Result, Ok, Err, IfOk, IfErr, inr, sym,
 use Rattle.tape_image.specs.Plan.{PlanValue}
 use Rattle.machine_look.specs.Verify.{IsVerifyReported}
 use Rattle.machine_look.specs.declared.verify_end.VerifyEnd.{VerifyEnd}
-use Rattle.machine_probe.specs.Probe.{IsProbeReported, OverSome}
 use Rattle.probe_report.specs.declared.probe_end.ProbeEnd.{ProbeEnd}
 use Rattle.endings.specs.declared.failure.Failure.{Failure}
 use Rattle.endings.specs.declared.status.Status.{Status}
@@ -12,10 +11,10 @@ use Rattle.request_values.specs.Change.{◌⇒◌}
 use Rattle.request_values.specs.declared.machine.Look.{Look}
 use Rattle.request_values.specs.declared.machine.Probe.{Probe}
 use Rattle.requests.specs.Ending.{after_probe, after_verify}
-use Rattle.requests.specs.Looking.{AreUnverified, AreVerified, console_at}
-use Rattle.requests.specs.Moment.{AsksNoDisk, Moment, intake_at}
+use Rattle.requests.specs.Verifying.{AreUnverified, AreVerified}
+use Rattle.requests.specs.Moment.{AsksNoDisk, Moment, TakesNoInput, console_at, intake_at}
 use Rattle.requests.specs.Planning.{IsPlanned}
-use Rattle.requests.specs.Probing.{IsConsoleProbed, IsConsoleUnprobed, probe_options}
+use Rattle.requests.specs.Probing.{IsConsoleProbed, IsConsoleUnprobed, IsProbeEnded}
 
 module _ (names : List Name) (look : Look) (before after : Moment) (plan : PlanValue) (planned : IsPlanned names (intake_at before) (intake_at after) plan)
     (no_disk : AsksNoDisk (before ⇒ after)) (end : VerifyEnd) (reported : IsVerifyReported plan look.patience (console_at look before ⇒ console_at look after) end) where
@@ -27,13 +26,12 @@ module _ (names : List Name) (look : Look) (before after : Moment) (plan : PlanV
   unverified (Ok status) is = tt
   unverified (Err failure) is = inr (record { plan = plan; planned = planned; failed = inr (end, reported, sym is); no_disk = no_disk })
 
-module _ (request : Probe) (before after : Moment) (no_disk : AsksNoDisk (before ⇒ after)) (no_file : after.asked.inputs ≡ before.asked.inputs)
-    (nothing_read : after.held.input ≡ before.held.input) (end : ProbeEnd)
-    (reported : IsProbeReported OverSome (probe_options request) (console_at request.look before ⇒ console_at request.look after) end) where
+module _ (request : Probe) (before after : Moment) (no_disk : AsksNoDisk (before ⇒ after)) (no_input : TakesNoInput (before ⇒ after)) (end : ProbeEnd)
+    (reported : IsProbeEnded request (console_at request.look before ⇒ console_at request.look after) end) where
   pub probed : (result : Result Status Failure) → result ≡ after_probe end → IfOk result (IsConsoleProbed request (before ⇒ after))
-  probed (Ok status) is = record { probed = (end, reported, sym is); no_disk = no_disk; no_file = no_file; nothing_read = nothing_read }
+  probed (Ok status) is = record { probed = (end, reported, sym is); no_disk = no_disk; no_input = no_input }
   probed (Err failure) is = tt
 
   pub unprobed : (result : Result Status Failure) → result ≡ after_probe end → IfErr result (IsConsoleUnprobed request (before ⇒ after))
   unprobed (Ok status) is = tt
-  unprobed (Err failure) is = record { failed = inr (end, reported, sym is); no_disk = no_disk; no_file = no_file; nothing_read = nothing_read }
+  unprobed (Err failure) is = record { failed = inr (end, reported, sym is); no_disk = no_disk; no_input = no_input }

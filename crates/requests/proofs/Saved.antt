@@ -11,8 +11,7 @@ use Rattle.input_files.specs.Opening.{Name}
 use Rattle.request_values.specs.Change.{◌⇒◌}
 use Rattle.request_values.specs.declared.machine.Save.{Save}
 use Rattle.requests.specs.Ending.{IsSaveEndFailure, IsSaveEndStatus}
-use Rattle.requests.specs.Looking.{console_at}
-use Rattle.requests.specs.Moment.{Moment}
+use Rattle.requests.specs.Moment.{Moment, TakesNoInput, console_at}
 use Rattle.requests.specs.Saving.{AreWordsSaved, AreWordsUnsaved, IsLetGo, new_shelf, options_of, save_told_first}
 
 -- a shelf on a disk
@@ -23,15 +22,14 @@ pub new_is : (name : Name) (asked asked' : Option (List DiskStep)) (name' : List
     → shelf_on asked' name' room ≡ new_shelf name asked
 new_is name asked asked' name' room p q r = λ i. record { steps = None; disk = Some (record { asked = p i; name = q i; room = r i }) }
 
-module _ (save : Save) (before after : Moment) (no_file : after.asked.inputs ≡ before.asked.inputs) (nothing_read : after.held.input ≡ before.held.input)
+module _ (save : Save) (before after : Moment) (no_input : TakesNoInput (before ⇒ after))
     (end : SaveEnd) (shelf : ShelfTold)
     (reported : IsSavedAndReported (options_of save) (save_told_first save before) (save_told shelf (console_at save.look after)) end)
     (gone : IsLetGo shelf.disk after.asked.outside.disk) where
   pub saved : (result : Result Status Failure) → IfOk result (IsSaveEndStatus end) → IfOk result (AreWordsSaved save (before ⇒ after))
   saved (Ok status) is = record {
     saved = record { end = end; shelf = shelf; reported = reported; status_is = is; let_go = gone };
-    no_file = no_file;
-    nothing_read = nothing_read;
+    no_input = no_input;
   }
   saved (Err failure) is = tt
 
@@ -39,6 +37,5 @@ module _ (save : Save) (before after : Moment) (no_file : after.asked.inputs ≡
   unsaved (Ok status) is = tt
   unsaved (Err failure) is = record {
     failed = inr (record { end = end; shelf = shelf; reported = reported; failed = is; let_go = gone });
-    no_file = no_file;
-    nothing_read = nothing_read;
+    no_input = no_input;
   }

@@ -7,11 +7,11 @@ use Rattle.endings.specs.Held.{Held}
 use Rattle.endings.specs.Failure.{status_of, is_unheard}
 use Rattle.endings.specs.SystemReason.{IsPrintedWithReason}
 use Rattle.requests.specs.Loading.{AreLoaded, AreUnloaded}
-use Rattle.requests.specs.Looking.{AreVerified, AreUnverified}
 use Rattle.requests.specs.Probing.{IsConsoleProbed, IsConsoleUnprobed}
 use Rattle.requests.specs.Saving.{AreWordsSaved, AreWordsUnsaved}
 use Rattle.requests.specs.Making.{AreWordsMade, AreWordsUnmade}
 use Rattle.requests.specs.Moment.{AsksNobody, Moment, intake_at}
+use Rattle.requests.specs.Verifying.{AreVerified, AreUnverified}
 use Rattle.request_values.specs.Change.{Change, ◌⇒◌}
 use Rattle.request_values.specs.declared.request.Request.{Request}
 use Rattle.request_values.specs.Request.{only_prints}
@@ -43,14 +43,14 @@ pub record IsDoneQuietly (request : Request) (moments : Change Moment) (status :
   pub done : IsDone request moments status
   pub quiet : moments.after.held.err ≡ moments.before.held.err
 
--- the same, before standard error was told anything
-abbrev pub untold : Change Moment → Change Moment
-untold moments = moments.before ⇒ record moments.after { held = record moments.after.held { err = moments.before.held.err } }
+-- the same moments, the second before standard error was told anything
+abbrev pub before_telling : Change Moment → Change Moment
+before_telling moments = moments.before ⇒ record moments.after { held = record moments.after.held { err = moments.before.held.err } }
 
 -- it failed, standard error tells of it where somebody is to hear of it, and of the system's reason, and the status says so
 pub record IsFailedAloud (request : Request) (moments : Change Moment) (status : Status) : Type 0 where
   pub failure : Failure
-  pub failed : IsFailed request (untold moments) failure
+  pub failed : IsFailed request (before_telling moments) failure
   pub told : IsPrintedWithReason (is_unheard (only_prints request) moments.after.held.unread failure) moments.before.held.err moments.after.held.err failure
   pub status_is : status ≡ status_of failure
 

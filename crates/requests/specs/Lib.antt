@@ -4,9 +4,9 @@ pub mod Ending
 pub mod Instead
 pub mod Listening
 pub mod Loading
-pub mod Looking
 pub mod Making
 pub mod Moment
 pub mod Planning
 pub mod Probing
 pub mod Saving
+pub mod Verifying

@@ -1,6 +1,5 @@
 -- What is heard of a machine once a load is over.
-use Rattle.std.specs.Prelude.{◌≡◌, ℕ, ◌+◌, ◌*◌, ◌<◌, ◌≤◌, ◌==◌, if◌then◌else◌, List, [], ◌∷◌, Option, Some, None, IsSome}
-use Rattle.host_core.specs.declared.phase.End.{End}
+use Rattle.std.specs.Prelude.{◌≡◌, ℕ, ◌+◌, ◌*◌, ◌<◌, ◌≤◌, ◌==◌, if◌then◌else◌, [], ◌∷◌, Option, Some, None, IsSome}
 use Rattle.host_core.specs.declared.phase.End.TheVariants as end
 use Rattle.std.specs.declared.io.Write.{Ghosts as Write}
 use Rattle.host_devices.specs.declared.line.Line.{Ghosts as Line}
@@ -12,24 +11,20 @@ use Rattle.load_engine.specs.declared.stop.Stop.{Stop}
 use Rattle.load_engine.specs.declared.stop.Stop.TheVariants.{Ended}
 use Rattle.machine_load.specs.declared.load_end.LoadEnd.{LoadEnd}
 use Rattle.machine_load.specs.declared.load_end.LoadEnd.TheVariants.{Driven}
+use Rattle.machine_load.specs.Load.{Setting}
 use Rattle.console_lines.specs.Listening.{Copying, IsListening, IsCopiedInPart}
 use Rattle.input_files.specs.Inputs.{Known}
 use Rattle.request_values.specs.Change.{Change, ◌⇒◌}
 
--- whether somebody listens behind this end: the program was started, or may have been
-abbrev pub seconds_behind : Option ℕ → End → Option ℕ
-seconds_behind listen end.Started = listen
-seconds_behind listen end.Uncertain = listen
+-- how many seconds of silence end the listening behind an engine that stopped so: there is any only where the program was started, or may have been
+abbrev pub seconds_behind : Option ℕ → Stop → Option ℕ
+seconds_behind listen (Ended end.Started) = listen
+seconds_behind listen (Ended end.Uncertain) = listen
 seconds_behind listen other = None
 
--- the same behind an engine that stopped so
-abbrev pub seconds_behind_stop : Option ℕ → Stop → Option ℕ
-seconds_behind_stop listen (Ended e) = seconds_behind listen e
-seconds_behind_stop listen other = None
-
--- how many seconds of silence end the listening behind a load that ended so, where there is any
+-- the same behind a load that ended so
 abbrev pub seconds_of : Option ℕ → LoadEnd → Option ℕ
-seconds_of listen (Driven stop) = seconds_behind_stop listen stop
+seconds_of listen (Driven stop) = seconds_behind listen stop
 seconds_of listen other = None
 
 -- the quiet time of a line, which is a millisecond at least
@@ -70,22 +65,17 @@ pub record IsListeningCut (seconds : Option ℕ) (told : Change LineAndOut) (fai
   pub cut : IsCopiedInPart (copied told.before) (copied told.after)
   pub is_output : failure ≡ CannotWrite
 
--- what the lines tell that were given back, and what the output holds
-pub record LinesAndOut : Type 0 where
-  pub lines : Option (List LineTold)
-  pub out : Known
-
 -- a line, where there is one, was listened to so long, and then given back
-abbrev pub IsLastHeard : Option ℕ → ℕ → Option LineTold → Change LinesAndOut → Type 0
-IsLastHeard seconds quiet None told = told.after ≡ told.before
-IsLastHeard seconds quiet (Some line) told =
-    (last : LineTold) × Gains told.before.lines told.after.lines (last ∷ [])
-    × IsListenedTo seconds quiet (line_to line told.before.out ⇒ line_to last told.after.out)
+abbrev pub IsLastHeard : Option ℕ → ℕ → Option LineTold → Change Setting → Type 0
+IsLastHeard seconds quiet None setting = setting.after ≡ setting.before
+IsLastHeard seconds quiet (Some line) setting =
+    (last : LineTold) × Gains setting.before.lines setting.after.lines (last ∷ [])
+    × IsListenedTo seconds quiet (line_to line setting.before.out ⇒ line_to last setting.after.out)
 
 -- it was listened to and given back, and what was heard could not be written
-pub record IsLastCut (seconds : Option ℕ) (line : Option LineTold) (told : Change LinesAndOut) (failure : Failure) : Type 0 where
+pub record IsLastCut (seconds : Option ℕ) (line : Option LineTold) (setting : Change Setting) (failure : Failure) : Type 0 where
   pub first : LineTold
   pub has_line : line ≡ Some first
   pub last : LineTold
-  pub given_back : Gains told.before.lines told.after.lines (last ∷ [])
-  pub cut : IsListeningCut seconds (line_to first told.before.out ⇒ line_to last told.after.out) failure
+  pub given_back : Gains setting.before.lines setting.after.lines (last ∷ [])
+  pub cut : IsListeningCut seconds (line_to first setting.before.out ⇒ line_to last setting.after.out) failure

@@ -1,20 +1,16 @@
 -- What becomes of a request to load a real machine.
 use Rattle.std.specs.Prelude.{◌≡◌, ◌⊎◌, ℕ, List, Option, Some, None, codes}
-use Rattle.std.specs.declared.io.Write.{Ghosts as Write}
 use Rattle.console_lines.specs.Console.{ConsoleTold}
 use Rattle.tape_image.specs.Plan.{PlanValue, starting}
-use Rattle.host_devices.specs.Told.{Gains, HasAsked}
-use Rattle.machine_load.specs.Asked.{Change, task, ◌⇒◌}
-use Rattle.machine_load.specs.Called.{asked_by, IsAskedBefore}
-use Rattle.machine_load.specs.declared.surroundings.Surroundings.{Ghosts as Surroundings}
+use Rattle.machine_load.specs.Asked.{Change, LoadTask, task, ◌⇒◌}
 use Rattle.machine_load.specs.GivenBack.{IsGivenBack}
-use Rattle.machine_load.specs.Load.{SurroundingsTold, Ending, GoesOn, Setting, IsReported}
-use Rattle.machine_load.specs.LoadFault.{IsLoadFault}
-use Rattle.machine_load.specs.RecordDisk.{FileKnown, IsClosedAfter, RecordDisk, disk_asked_by, disk_asked_before}
+use Rattle.machine_load.specs.Load.{Ending}
+use Rattle.machine_load.specs.RecordDisk.{IsClosedBehind, RecordDisk, new_record}
+use Rattle.machine_load.specs.Reporting.{AsksNoMore}
+use Rattle.machine_load.specs.Scene.{IsLoadReported, IsLoadUnreported, Scene}
 use Rattle.machine_load.specs.declared.fault.LoadFault.{LoadFault}
 use Rattle.progress_display.specs.declared.showing.KeptIn.{KeptIn}
 use Rattle.progress_display.specs.declared.showing.KeptIn.TheVariants.{Nothing, Record}
-use Rattle.record_file.specs.DiskStep.{DiskStep}
 use Rattle.endings.specs.declared.failure.Failure.{Failure}
 use Rattle.endings.specs.declared.status.Status.{Status}
 use Rattle.request_values.specs.declared.machine.Load.{Load as LoadRequest}
@@ -23,8 +19,8 @@ use Rattle.requests.specs.Ending.{IsEndedFailure, IsEndedStatus, IsFailureOf}
 use Rattle.requests.specs.declared.request_fault.RequestFault.TheVariants as request_fault
 use Rattle.requests.specs.Planning.{HaveNoPlan, IsPlanned}
 use Rattle.requests.specs.Asked.{console_of}
-use Rattle.requests.specs.Moment.{Moment, intake_at}
-use Rattle.requests.specs.Listening.{IsLastCut, IsLastHeard, LinesAndOut, quiet_time, seconds_of}
+use Rattle.requests.specs.Moment.{AsksNoDisk, Moment, intake_at}
+use Rattle.requests.specs.Listening.{IsLastCut, IsLastHeard, quiet_time, seconds_of}
 
 -- where it is kept what a load has done
 abbrev pub kept_in : Option Name → KeptIn
@@ -36,22 +32,6 @@ abbrev pub record_name : Option Name → List ℕ
 record_name None = codes "the record in memory"
 record_name (Some name) = name.now
 
--- what surroundings and an output tell
-abbrev pub console_around : {S L K W : Type 0} → Surroundings S L K → Write W → S → W → ConsoleTold
-console_around tell write around out =
-    record { asked = tell.asked around; call = tell.call around; lines = tell.lines around; out = write.contents out }
-
--- of these the lines that were given back, and the output
-abbrev pub lines_and_out : ConsoleTold → LinesAndOut
-lines_and_out console = record { lines = console.lines; out = console.out }
-
-abbrev pub lines_around : {S L K W : Type 0} → Surroundings S L K → Write W → S → W → LinesAndOut
-lines_around tell write around out = record { lines = tell.lines around; out = write.contents out }
-
--- these surroundings, with these lines that were given back and this output
-abbrev pub setting_of : SurroundingsTold → LinesAndOut → Setting
-setting_of around told = record { around = around; lines = told.lines; out = told.out }
-
 -- a load as it was asked for, with the plan of its tapes
 pub record PlannedLoad : Type 0 where
   pub plan : PlanValue
@@ -60,103 +40,98 @@ pub record PlannedLoad : Type 0 where
 abbrev pub planned_load : PlanValue → LoadRequest → PlannedLoad
 planned_load plan request = record { plan = plan; request = request }
 
--- it was reported, and ended so
-pub record IsPlanReported (load : PlannedLoad) (told : Change LinesAndOut) (ending : Ending) : Type 0 where
-  pub around : SurroundingsTold
-  pub around' : SurroundingsTold
-  pub reported : IsReported GoesOn (task load.plan load.request.options) (setting_of around told.before ⇒ setting_of around' told.after) ending
+-- what it is to do
+abbrev pub task_of : PlannedLoad → LoadTask
+task_of load = task load.plan load.request.options
 
 -- what comes behind the report of a load that ended so: what there was to listen to, and then the end
-pub record IsEnded (request : LoadRequest) (ending : Ending) (told : Change LinesAndOut) (status : Status) : Type 0 where
-  pub listened : IsLastHeard (seconds_of request.listen ending.end) (quiet_time request.quiet_ms) ending.line told
+pub record IsEnded (request : LoadRequest) (ending : Ending) (scenes : Change Scene) (status : Status) : Type 0 where
+  pub listened : IsLastHeard (seconds_of request.listen ending.end) (quiet_time request.quiet_ms) ending.line (scenes.before.setting ⇒ scenes.after.setting)
   pub status_is : IsEndedStatus ending.end status
 
 -- its line or its record's keeper had failed, or memory does not hold what the record says: nobody listened, and the line was given back
-pub record IsEndedUnheard (request : LoadRequest) (ending : Ending) (told : Change LinesAndOut) (failure : Failure) : Type 0 where
+pub record IsEndedUnheard (request : LoadRequest) (ending : Ending) (scenes : Change Scene) (failure : Failure) : Type 0 where
   pub failed : IsEndedFailure ending.end ending.marked (record_name request.record) failure
-  pub given_back : IsGivenBack told.before.lines told.after.lines ending.line
-  pub nothing_written : told.after.out ≡ told.before.out
+  pub given_back : IsGivenBack scenes.before.setting.lines scenes.after.setting.lines ending.line
+  pub nothing_written : scenes.after.setting.out ≡ scenes.before.setting.out
 
 -- what fails behind the report: the load had, or the listening is cut
-abbrev pub IsEndFailure : LoadRequest → Ending → Change LinesAndOut → Failure → Type 0
-IsEndFailure request ending told failure =
-    IsEndedUnheard request ending told failure ⊎ IsLastCut (seconds_of request.listen ending.end) ending.line told failure
+abbrev pub IsEndFailure : LoadRequest → Ending → Change Scene → Failure → Type 0
+IsEndFailure request ending scenes failure =
+    IsEndedUnheard request ending scenes failure
+    ⊎ IsLastCut (seconds_of request.listen ending.end) ending.line (scenes.before.setting ⇒ scenes.after.setting) failure
+
+-- a planned load was done: it was reported, and then came its end, for which nothing more was asked than that its line was given back
+pub record IsPlanLoaded (load : PlannedLoad) (scenes : Change Scene) (status : Status) : Type 0 where
+  pub ending : Ending
+  pub between : Scene
+  pub reported : IsLoadReported (task_of load) (scenes.before ⇒ between) ending
+  pub ended : IsEnded load.request ending (between ⇒ scenes.after) status
+  pub no_more : AsksNoMore (between ⇒ scenes.after)
+
+-- it was reported, and failed all the same
+pub record IsLoadBroken (load : PlannedLoad) (scenes : Change Scene) (failure : Failure) : Type 0 where
+  pub ending : Ending
+  pub between : Scene
+  pub reported : IsLoadReported (task_of load) (scenes.before ⇒ between) ending
+  pub is_so : IsEndFailure load.request ending (between ⇒ scenes.after) failure
+  pub no_more : AsksNoMore (between ⇒ scenes.after)
+
+-- it came to nothing
+pub record IsLoadCutShort (load : PlannedLoad) (scenes : Change Scene) (failure : Failure) : Type 0 where
+  pub fault : LoadFault
+  pub is_so : IsLoadUnreported (task_of load) scenes fault
+  pub is_called : IsFailureOf (request_fault.Load fault) load.request.line.now (record_name load.request.record) failure
+
+-- it failed
+abbrev pub IsPlanFailure : PlannedLoad → Change Scene → Failure → Type 0
+IsPlanFailure load scenes failure = IsLoadCutShort load scenes failure ⊎ IsLoadBroken load scenes failure
+
+-- what is known of a load by what its console tells, with this record on a disk; a system does not tell in which order a load asks it, nor what
+-- the record says
+abbrev pub scene_at : ConsoleTold → Option RecordDisk → Scene
+scene_at console disk = record {
+  setting = record { around = record { steps = None; record_text = None }; lines = console.lines; out = console.out };
+  asked = console.asked;
+  call = console.call;
+  disk = disk;
+}
 
 -- what is told of the console that a load is meant for, and of standard output
 abbrev pub console_for : LoadRequest → Moment → ConsoleTold
 console_for load known = console_of load.line.now load.quiet_ms known.asked.outside known.held.out
 
--- the same before and after
-abbrev pub consoles_for : LoadRequest → Change Moment → Change ConsoleTold
-consoles_for load moments = console_for load moments.before ⇒ console_for load moments.after
+-- the record that a load begins with: in a file it is a new one on the disk; one in memory alone is on none
+abbrev pub first_record : Option Name → Moment → Option RecordDisk
+first_record None known = None
+first_record (Some name) known = Some (new_record name.now known.asked.outside.disk)
 
--- what is said of a disk, by what holds of the steps that it was asked for
-abbrev pub SaidOfDisk : Type 1
-SaidOfDisk = (RecordDisk → FileKnown → List DiskStep → Type 0) → Type 0
+-- what is known of a load before it, and behind it, where its record is this one
+abbrev pub scenes_of : LoadRequest → Option RecordDisk → Change Moment → Change Scene
+scenes_of load last moments =
+    scene_at (console_for load moments.before) (first_record load.record moments.before) ⇒ scene_at (console_for load moments.after) last
 
--- nothing was asked of the disk, where the record is in memory alone; else what this holds of, and then what it takes to close the record
-abbrev pub AsksDisk : Option Name → Change (Option (List DiskStep)) → SaidOfDisk
-AsksDisk None asked holds = asked.after ≡ asked.before
-AsksDisk (Some name) asked holds =
-    HasAsked asked.before asked.after (IsClosedAfter holds (record { asked = asked.before; name = name.now; known = None }))
+-- behind a load its record was let go, as the load had left it: one in a file was closed; for one in memory alone nothing was asked of the disk
+abbrev pub IsRecordLetGo : Option Name → Option RecordDisk → Change Moment → Type 0
+IsRecordLetGo None last moments = AsksNoDisk moments
+IsRecordLetGo (Some name) None moments = ⊥
+IsRecordLetGo (Some name) (Some last) moments = IsClosedBehind last moments.after.asked.outside.disk
 
--- a planned load was done. It had a line, for which its console was asked for once and its record begun once; or it had none, and its record was
--- read alone
-pub record IsPlanLoaded (load : PlannedLoad) (on_disk : SaidOfDisk) (console : Change ConsoleTold) (status : Status) : Type 0 where
-  pub ending : Ending
-  pub between : LinesAndOut
-  pub reported : IsPlanReported load (lines_and_out console.before ⇒ between) ending
-  pub ended : IsEnded load.request ending (between ⇒ lines_and_out console.after) status
-  pub asked : Gains console.before.asked console.after.asked (asked_by console.before.call ending.line)
-  pub disk : on_disk (disk_asked_by ending.end ending.line)
-
--- it was reported, and failed all the same
-pub record IsLoadBroken (load : PlannedLoad) (on_disk : SaidOfDisk) (console : Change ConsoleTold) (failure : Failure) : Type 0 where
-  pub ending : Ending
-  pub between : LinesAndOut
-  pub reported : IsPlanReported load (lines_and_out console.before ⇒ between) ending
-  pub is_so : IsEndFailure load.request ending (between ⇒ lines_and_out console.after) failure
-  pub asked : Gains console.before.asked console.after.asked (asked_by console.before.call ending.line)
-  pub disk : on_disk (disk_asked_by ending.end ending.line)
-
--- it came to nothing
-pub record IsLoadCutShort (load : PlannedLoad) (on_disk : SaidOfDisk) (console : Change ConsoleTold) (failure : Failure) : Type 0 where
-  pub fault : LoadFault
-  pub around : SurroundingsTold
-  pub around' : SurroundingsTold
-  pub is_so : IsLoadFault GoesOn (task load.plan load.request.options)
-      (setting_of around (lines_and_out console.before) ⇒ setting_of around' (lines_and_out console.after)) fault
-  pub is_called : IsFailureOf (request_fault.Load fault) load.request.line.now (record_name load.request.record) failure
-  pub asked : IsAskedBefore console.before.call console.before.asked console.after.asked fault
-  pub disk : on_disk (disk_asked_before fault)
-
--- it failed
-abbrev pub IsPlanFailure : PlannedLoad → SaidOfDisk → Change ConsoleTold → Failure → Type 0
-IsPlanFailure load on_disk console failure = IsLoadCutShort load on_disk console failure ⊎ IsLoadBroken load on_disk console failure
-
--- what is said of the disk from one moment to another, by where the record is
-abbrev pub record_asked : LoadRequest → Change Moment → SaidOfDisk
-record_asked load moments = AsksDisk load.record (moments.before.asked.outside.disk ⇒ moments.after.asked.outside.disk)
-
--- a planned load was done, with its record on the disk or in memory alone
-abbrev pub IsLoadDone : PlannedLoad → Change Moment → Status → Type 0
-IsLoadDone load moments status = IsPlanLoaded load (record_asked load.request moments) (consoles_for load.request moments) status
-
--- or it failed
-abbrev pub IsLoadFailure : PlannedLoad → Change Moment → Failure → Type 0
-IsLoadFailure load moments failure = IsPlanFailure load (record_asked load.request moments) (consoles_for load.request moments) failure
-
--- the tapes of these names were loaded, as one, with the start that is asked for, at the console that is named
+-- the tapes of these names were loaded, as one, with the start that is asked for, at the console that is named, over the record that is named
 pub record AreLoaded (names : List Name) (load : LoadRequest) (moments : Change Moment) (status : Status) : Type 0 where
   pub plan : PlanValue
   pub planned : IsPlanned names (intake_at moments.before) (intake_at moments.after) plan
-  pub loaded : IsLoadDone (planned_load (starting plan load.start) load) moments status
+  pub last : Option RecordDisk
+  pub loaded : IsPlanLoaded (planned_load (starting plan load.start) load) (scenes_of load last moments) status
+  pub let_go : IsRecordLetGo load.record last moments
 
 -- there is a plan, and its load failed
 pub record IsLoadUndone (names : List Name) (load : LoadRequest) (moments : Change Moment) (failure : Failure) : Type 0 where
   pub plan : PlanValue
   pub planned : IsPlanned names (intake_at moments.before) (intake_at moments.after) plan
-  pub failed : IsLoadFailure (planned_load (starting plan load.start) load) moments failure
+  pub last : Option RecordDisk
+  pub failed : IsPlanFailure (planned_load (starting plan load.start) load) (scenes_of load last moments) failure
+  pub let_go : IsRecordLetGo load.record last moments
 
 -- their load failed: it has no plan, and of disk and consoles nothing was asked; or it failed on its way
 abbrev pub AreUnloaded : List Name → LoadRequest → Change Moment → Failure → Type 0

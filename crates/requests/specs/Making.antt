@@ -7,13 +7,13 @@ use Rattle.tape_shelf.specs.declared.shelf.ShelfFault.{ShelfFault}
 use Rattle.endings.specs.declared.failure.Failure.{Failure}
 use Rattle.endings.specs.declared.status.Status.{Status}
 use Rattle.endings.specs.declared.status.Status.TheVariants.{Done}
-use Rattle.request_values.specs.Change.{Change, ◌⇒◌}
+use Rattle.request_values.specs.Change.{Change}
 use Rattle.request_values.specs.declared.request.Make.{Make}
 use Rattle.tape_commands.specs.TapeOfWords.{IsTapeMade, IsTapeUnmade}
 use Rattle.input_files.specs.Opening.{Name}
 use Rattle.requests.specs.Ending.{IsFailureOf}
 use Rattle.requests.specs.declared.request_fault.RequestFault.TheVariants as request_fault
-use Rattle.requests.specs.Moment.{AsksNobody, Moment, intake_at}
+use Rattle.requests.specs.Moment.{AsksNobody, AsksNoConsole, Moment, disk_asked, intake_at}
 use Rattle.requests.specs.Saving.{IsLetGo, new_shelf}
 
 -- the room of a whole tape could not be taken, or the tape not be put there, for this reason
@@ -36,16 +36,11 @@ pub record IsNotPutOn (file : Name) (text : List ℕ) (asked : Change (Option (L
   pub let_go : IsLetGo shelf.disk asked.after
   pub is_called : IsFailureOf (request_fault.Shelf fault) file.now file.now failure
 
--- no console was asked for
-pub record AsksNoConsole (moments : Change Moment) : Type 0 where
-  pub for_lines : moments.after.asked.outside.for_lines ≡ moments.before.asked.outside.for_lines
-  pub lines : moments.after.asked.outside.lines ≡ moments.before.asked.outside.lines
-
 -- a tape was made of the words, and it is the new file, with nothing printed
 pub record AreWordsMade (make : Make) (moments : Change Moment) (status : Status) : Type 0 where
   pub text : List ℕ
   pub made : IsTapeMade make (intake_at moments.before) (intake_at moments.after) text
-  pub put : IsPutOn make.file text (moments.before.asked.outside.disk ⇒ moments.after.asked.outside.disk) status
+  pub put : IsPutOn make.file text (disk_asked moments) status
   pub no_console : AsksNoConsole moments
   pub nothing_printed : moments.after.held.out ≡ moments.before.held.out
 
@@ -53,7 +48,7 @@ pub record AreWordsMade (make : Make) (moments : Change Moment) (status : Status
 pub record IsTapeNotPut (make : Make) (moments : Change Moment) (failure : Failure) : Type 0 where
   pub text : List ℕ
   pub made : IsTapeMade make (intake_at moments.before) (intake_at moments.after) text
-  pub not_put : IsNotPutOn make.file text (moments.before.asked.outside.disk ⇒ moments.after.asked.outside.disk) failure
+  pub not_put : IsNotPutOn make.file text (disk_asked moments) failure
   pub no_console : AsksNoConsole moments
   pub nothing_printed : moments.after.held.out ≡ moments.before.held.out
 

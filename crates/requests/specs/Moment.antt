@@ -1,9 +1,12 @@
 -- What is known at a moment, before something is done or behind it, and what was not asked meanwhile.
-use Rattle.std.specs.Prelude.{◌≡◌}
+use Rattle.std.specs.Prelude.{◌≡◌, List, Option}
+use Rattle.console_lines.specs.Console.{ConsoleTold}
 use Rattle.endings.specs.Held.{Held}
 use Rattle.input_files.specs.Intake.{Intake, intake}
-use Rattle.request_values.specs.Change.{Change}
-use Rattle.requests.specs.Asked.{SystemAsked}
+use Rattle.record_file.specs.DiskStep.{DiskStep}
+use Rattle.request_values.specs.Change.{Change, ◌⇒◌}
+use Rattle.request_values.specs.declared.machine.Look.{Look}
+use Rattle.requests.specs.Asked.{SystemAsked, console_of}
 
 -- what was asked of the system, and what the standard streams hold
 pub record Moment : Type 0 where
@@ -18,6 +21,18 @@ moment asked held = record { asked = asked; held = held }
 abbrev pub intake_at : Moment → Intake
 intake_at known = intake known.asked.inputs known.held
 
+-- what is told of the console that a look is meant for, and of standard output
+abbrev pub console_at : Look → Moment → ConsoleTold
+console_at look known = console_of look.line.now look.quiet_ms known.asked.outside known.held.out
+
+-- the same before and after
+abbrev pub consoles_at : Look → Change Moment → Change ConsoleTold
+consoles_at look moments = console_at look moments.before ⇒ console_at look moments.after
+
+-- what was asked of the disk, before and after
+abbrev pub disk_asked : Change Moment → Change (Option (List DiskStep))
+disk_asked moments = moments.before.asked.outside.disk ⇒ moments.after.asked.outside.disk
+
 -- nothing was asked of disk and consoles
 abbrev pub AsksNobody : Change Moment → Type 0
 AsksNobody moments = moments.after.asked.outside ≡ moments.before.asked.outside
@@ -25,3 +40,13 @@ AsksNobody moments = moments.after.asked.outside ≡ moments.before.asked.outsid
 -- nothing was asked of the disk
 abbrev pub AsksNoDisk : Change Moment → Type 0
 AsksNoDisk moments = moments.after.asked.outside.disk ≡ moments.before.asked.outside.disk
+
+-- no console was asked for
+pub record AsksNoConsole (moments : Change Moment) : Type 0 where
+  pub for_lines : moments.after.asked.outside.for_lines ≡ moments.before.asked.outside.for_lines
+  pub lines : moments.after.asked.outside.lines ≡ moments.before.asked.outside.lines
+
+-- no input was opened or read
+pub record TakesNoInput (moments : Change Moment) : Type 0 where
+  pub no_file : moments.after.asked.inputs ≡ moments.before.asked.inputs
+  pub nothing_read : moments.after.held.input ≡ moments.before.held.input

@@ -1,5 +1,5 @@
 -- What becomes of a request to save what a real machine holds.
-use Rattle.std.specs.Prelude.{◌≡◌, ◌⊎◌, List, Option, None, Some}
+use Rattle.std.specs.Prelude.{◌⊎◌, List, Option, None, Some}
 use Rattle.host_devices.specs.Told.{HasAsked}
 use Rattle.record_file.specs.DiskStep.{DiskStep}
 use Rattle.machine_look.specs.LookFault.{IsSaveFault}
@@ -16,8 +16,7 @@ use Rattle.requests.specs.declared.request_fault.RequestFault.TheVariants as req
 use Rattle.input_files.specs.Opening.{Name}
 use Rattle.request_values.specs.Change.{Change}
 use Rattle.request_values.specs.declared.machine.Save.{Save}
-use Rattle.requests.specs.Looking.{console_at}
-use Rattle.requests.specs.Moment.{Moment}
+use Rattle.requests.specs.Moment.{Moment, TakesNoInput, console_at}
 
 -- what is to be saved, and how, as the request has it
 abbrev pub options_of : Save → SaveOptions
@@ -64,14 +63,12 @@ pub record IsSaveCutShort (save : Save) (moments : Change Moment) (failure : Fai
 abbrev pub IsSaveFailure : Save → Change Moment → Failure → Type 0
 IsSaveFailure save moments failure = IsSaveCutShort save moments failure ⊎ IsSaveBroken save moments failure
 
--- words were saved in the file that is named, of the console that is named, and no other file was opened or read
+-- words were saved in the file that is named, of the console that is named, and no input was taken
 pub record AreWordsSaved (save : Save) (moments : Change Moment) (status : Status) : Type 0 where
   pub saved : IsSaveOver save moments status
-  pub no_file : moments.after.asked.inputs ≡ moments.before.asked.inputs
-  pub nothing_read : moments.after.held.input ≡ moments.before.held.input
+  pub no_input : TakesNoInput moments
 
 -- or that failed
 pub record AreWordsUnsaved (save : Save) (moments : Change Moment) (failure : Failure) : Type 0 where
   pub failed : IsSaveFailure save moments failure
-  pub no_file : moments.after.asked.inputs ≡ moments.before.asked.inputs
-  pub nothing_read : moments.after.held.input ≡ moments.before.held.input
+  pub no_input : TakesNoInput moments

@@ -1,7 +1,7 @@
 //! Listening to a machine behind a load.
 ghost use Rattle.std.specs.Prelude.{◌≡◌, ◌<◌, Some, OnOk, IfErr};
 ghost use Rattle.request_values.specs.Change.{◌⇒◌};
-ghost use Rattle.requests.specs.Listening.{line_and_out, quiet_time, seconds_behind_stop, seconds_of};
+ghost use Rattle.requests.specs.Listening.{line_and_out, quiet_time, seconds_behind, seconds_of};
 ghost use Rattle.requests.specs.Listening.{IsHeardOut, IsListenedTo, IsListeningCut};
 
 use console_lines::{listen, silences_within};
@@ -44,7 +44,7 @@ fn seconds_of(listen: Option<u16>, end: LoadEnd) -> Option<u16>
 
 // The same, where the engine stopped so.
 fn seconds_behind(listen: Option<u16>, stop: Stop) -> Option<u16>
-    ensures { result ≡ seconds_behind_stop listen stop }
+    ensures { result ≡ seconds_behind listen stop }
 {
     match stop {
         Stop::Ended(End::Started | End::Uncertain) => listen,

@@ -1,10 +1,10 @@
 //! Loading a real machine.
 ghost use Rattle.std.specs.Prelude.{◌≡◌, IfOk, IfErr};
 ghost use Rattle.std.specs.Mem.{FitsInMemory};
-ghost use Rattle.machine_load.specs.RecordDisk.{DiskAsked};
-ghost use Rattle.machine_load.specs.Scene.{ending};
+ghost use Rattle.machine_load.specs.Reporting.{AsksNoMore};
+ghost use Rattle.machine_load.specs.Scene.{ending, scene};
 ghost use Rattle.request_values.specs.Change.{◌⇒◌};
-ghost use Rattle.requests.specs.Loading.{console_around, kept_in, lines_around, planned_load, record_name};
+ghost use Rattle.requests.specs.Loading.{kept_in, planned_load, record_name};
 ghost use Rattle.requests.specs.Loading.{AreLoaded, AreUnloaded, IsEnded, IsEndFailure, IsPlanLoaded, IsPlanFailure};
 ghost use Rattle.requests.specs.Moment.{moment};
 
@@ -96,10 +96,10 @@ fn load_plan<'a, S: Surroundings, W: Write, C: Clock, T: Print>(
     out: &mut W,
     onlooker: &Option<ProgressLine<'_, C, T>>,
 ) -> Result<Status, Failure<'a>>
-    ensures ok { IfOk result (IsPlanLoaded (planned_load plan request.entry) (DiskAsked (S.disk around.old) (S.disk around.new))
-        (console_around S.Surroundings W.Write around.old out.old ⇒ console_around S.Surroundings W.Write around.new out.new)) }
-    ensures err { IfErr result (IsPlanFailure (planned_load plan request.entry) (DiskAsked (S.disk around.old) (S.disk around.new))
-        (console_around S.Surroundings W.Write around.old out.old ⇒ console_around S.Surroundings W.Write around.new out.new)) }
+    ensures ok { IfOk result (IsPlanLoaded (planned_load plan request.entry)
+        (scene S.Surroundings W.Write around.old out.old ⇒ scene S.Surroundings W.Write around.new out.new)) }
+    ensures err { IfErr result (IsPlanFailure (planned_load plan request.entry)
+        (scene S.Surroundings W.Write around.old out.old ⇒ scene S.Surroundings W.Write around.new out.new)) }
 {
     let words = plan.words().len() as u32;
     match load(alloc, plan, request.options, around, out, onlooker) {
@@ -122,11 +122,10 @@ fn end<'a, S: Surroundings, W: Write>(
     out: &mut W,
 ) -> Result<Status, Failure<'a>>
     ensures ok { IfOk result (IsEnded load.entry (ending S.Line.Line outcome)
-        (lines_around S.Surroundings W.Write around.old out.old ⇒ lines_around S.Surroundings W.Write around.new out.new)) }
+        (scene S.Surroundings W.Write around.old out.old ⇒ scene S.Surroundings W.Write around.new out.new)) }
     ensures err { IfErr result (IsEndFailure load.entry (ending S.Line.Line outcome)
-        (lines_around S.Surroundings W.Write around.old out.old ⇒ lines_around S.Surroundings W.Write around.new out.new)) }
-    ensures asked { S.asked around.new ≡ S.asked around.old }
-    ensures disk { S.disk around.new ≡ S.disk around.old }
+        (scene S.Surroundings W.Write around.old out.old ⇒ scene S.Surroundings W.Write around.new out.new)) }
+    ensures no_more { AsksNoMore (scene S.Surroundings W.Write around.old out.old ⇒ scene S.Surroundings W.Write around.new out.new) }
 {
     let Outcome {
         end,

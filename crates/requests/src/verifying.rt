@@ -2,7 +2,7 @@
 ghost use Rattle.std.specs.Prelude.{◌≡◌, IfOk, IfErr};
 ghost use Rattle.std.specs.Mem.{FitsInMemory};
 ghost use Rattle.request_values.specs.Change.{◌⇒◌};
-ghost use Rattle.requests.specs.Looking.{AreVerified, AreUnverified};
+ghost use Rattle.requests.specs.Verifying.{AreVerified, AreUnverified};
 ghost use Rattle.requests.specs.Moment.{moment};
 
 use crate::advice::onlooker;

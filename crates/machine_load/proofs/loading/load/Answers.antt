@@ -25,15 +25,15 @@ returns-in_err-lived-clause-err g c =
     (error_is c.from_residual-in_err-lived.result c.in_err-lived.field-0.0
     (IsLoadFault (IsDrivenOn keeper) asked (before.setting ⇒ after.setting))
     c.from_residual-in_err-lived.ensures.1
-    (of_driving (IsDrivenOn keeper) asked _ (around_of g.S.Surroundings c.first_core.new.around) _ _ _ _ _
+    (of_driving (IsDrivenOn keeper) asked _ (around_of g.S.Surroundings c.first_life.new.around) _ _ _ _ _
     _ c.in_err-lived.field-0.0 c.in_ok-first.ensures.opened
-    (subst (λ lines. IsDrivingFault c.in_ok-first.writable c.in_ok-first.first (gone (around_of g.S.Surroundings c.first_core.new.around) lines ⇒ gone_of g.S.Surroundings c.begin.new.around) c.in_err-lived.field-0.0)
-    c.first_core.ensures.lines c.in_err-lived.ensures.fault)))
+    (subst (λ lines. IsDrivingFault c.in_ok-first.writable c.in_ok-first.first (gone (around_of g.S.Surroundings c.first_life.new.around) lines ⇒ gone_of g.S.Surroundings c.begin.new.around) c.in_err-lived.field-0.0)
+    c.first_life.ensures.lines c.in_err-lived.ensures.fault)))
     (search rules)
     (error_is c.from_residual-in_err-lived.result c.in_err-lived.field-0.0
     (λ fault. DiskAsked (g.S.Surroundings.disk c.args.around.now) (g.S.Surroundings.disk c.begin.new.around) (disk_asked_before fault))
     c.from_residual-in_err-lived.ensures.1
-    (not_begun_on _ (g.S.Surroundings.disk c.first_core.new.around) _ c.in_err-lived.field-0.0 c.in_ok-first.ensures.disk c.in_err-lived.ensures.disk_in_vain))
+    (not_begun_on _ (g.S.Surroundings.disk c.first_life.new.around) _ c.in_err-lived.field-0.0 c.in_ok-first.ensures.disk c.in_err-lived.ensures.disk_in_vain))
 
 pub report-requires : goal.report-requires
 report-requires g c = record { few = subst SendsFew c.in-Over.is c.in_ok-lived.ensures.few }
@@ -43,16 +43,16 @@ returns-in-Over g c =
     let tells = tells_of g.S.Surroundings g.S.Line.Line g.S.Keeper.Keep in
     let asked = task c.args.plan c.args.options in
     let before = scene g.S.Surroundings g.W.Write c.args.around.now c.args.out.now in
-    let opened = scene g.S.Surroundings g.W.Write c.first_core.new.around c.args.out.now in
+    let opened = scene g.S.Surroundings g.W.Write c.first_life.new.around c.args.out.now in
     let between = scene g.S.Surroundings g.W.Write c.begin.new.around c.args.out.now in
     let after = scene g.S.Surroundings g.W.Write c.report.new.around c.report.new.out in
     let life = opened_as c.in_ok-first.first c.args.options.fast c.in_ok-first.writable in
     let is = over tells asked before opened between c.in_ok-first.first c.in_ok-first.writable
     (record {
       opened = c.in_ok-first.ensures.opened;
-      lines = c.first_core.ensures.lines;
-      asked = c.first_core.ensures.asked;
-      call = c.first_core.ensures.call;
+      lines = c.first_life.ensures.lines;
+      asked = c.first_life.ensures.asked;
+      call = c.first_life.ensures.call;
       disk = c.in_ok-first.ensures.disk;
     })
     c.in-Over.lived
@@ -70,7 +70,7 @@ returns g c =
     let tells = tells_of g.S.Surroundings g.S.Line.Line g.S.Keeper.Keep in
     let asked = task c.args.plan c.args.options in
     let before = scene g.S.Surroundings g.W.Write c.args.around.now c.args.out.now in
-    let opened = scene g.S.Surroundings g.W.Write c.first_core.new.around c.args.out.now in
+    let opened = scene g.S.Surroundings g.W.Write c.first_life.new.around c.args.out.now in
     let begun = scene g.S.Surroundings g.W.Write c.begin.new.around c.args.out.now in
     let between = scene g.S.Surroundings g.W.Write c.end_record.new.self c.args.out.now in
     let after = scene g.S.Surroundings g.W.Write c.report-2.new.around c.report-2.new.out in
@@ -90,9 +90,9 @@ returns g c =
     let is = driven tells asked before opened between c.in_ok-first.first c.in_ok-first.writable
     (record {
       opened = c.in_ok-first.ensures.opened;
-      lines = c.first_core.ensures.lines;
-      asked = c.first_core.ensures.asked;
-      call = c.first_core.ensures.call;
+      lines = c.first_life.ensures.lines;
+      asked = c.first_life.ensures.asked;
+      call = c.first_life.ensures.call;
       disk = c.in_ok-first.ensures.disk;
     })
     c.in-Begun.begun begun stubs answer.0 answer.1 c.match-hindrance.line c.match-hindrance.keeper

@@ -6,7 +6,7 @@ use Rattle.request_values.specs.declared.request.TapeRequest.TheVariants.{Print}
 use Rattle.requests.specs.Asked.{asked_of}
 use Rattle.requests.specs.Attempt.{IsDone, IsFailed}
 use Rattle.requests.specs.Loading.{AreUnloaded}
-use Rattle.requests.specs.Looking.{AreUnverified}
+use Rattle.requests.specs.Verifying.{AreUnverified}
 use Rattle.requests.specs.Moment.{moment}
 use Rattle.requests.proofs.Attempted.{came_to, told}
 use Rattle.requests.proofs.handling.attempt.Goals as goal

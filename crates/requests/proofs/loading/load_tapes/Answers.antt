@@ -1,16 +1,15 @@
-use Rattle.std.proofs.Common.{◌∙◌, List, Some, None, IfOk, IfErr, inl, refl, ap, option_map, sym, subst}
+use Rattle.std.proofs.Common.{◌≡◌, ◌∙◌, Some, None, IfOk, IfErr, inl, refl, ap, option_map, sym, subst}
 use Rattle.console_lines.specs.Path.{call_to}
 use Rattle.endings.specs.Held.{Held}
 use Rattle.input_files.specs.Intake.{intake}
-use Rattle.machine_load.specs.RecordDisk.{DiskAsked, FileKnown, RecordDisk}
-use Rattle.record_file.specs.DiskStep.{DiskStep}
+use Rattle.machine_load.specs.RecordDisk.{RecordDisk}
 use Rattle.record_file.specs.Taking.{kind_of}
 use Rattle.request_values.specs.Change.{◌⇒◌}
 use Rattle.requests.specs.Asked.{asked_of}
-use Rattle.requests.specs.Loading.{AsksDisk, IsPlanFailure, IsPlanLoaded, planned_load, record_asked}
+use Rattle.requests.specs.Loading.{IsPlanFailure, IsPlanLoaded, IsRecordLetGo, first_record, planned_load, scene_at}
 use Rattle.requests.specs.Moment.{intake_at, moment}
 use Rattle.requests.specs.Planning.{IsPlanned}
-use Rattle.requests.proofs.Loaded.{closed_new, tapes_loaded, tapes_unloaded}
+use Rattle.requests.proofs.Loaded.{first_is, tapes_loaded, tapes_unloaded}
 use Rattle.requests.proofs.Ways.{leading}
 use Rattle.requests.proofs.loading.load_tapes.Goals as goal
 use Rattle.requests.proofs.loading.load_tapes.Goals.{in-Some, in-None}
@@ -51,19 +50,17 @@ returns g c =
           let new = load.new.around.records in
           let first : RecordDisk = record { asked = disk old.disk; name = old.name.now; known = option_map kind_of old.held } in
           let last : RecordDisk = record { asked = disk new.disk; name = new.name.now; known = option_map kind_of new.held } in
-          let P = DiskAsked (Some first) (Some last) in
           let made = w.new-records.ensures in
-          let closed = closed_new first last (disk inside.disk) (disk w.close.result) w.in-Some.name.now (ap disk made.disk) made.name made.held w.close.ensures.asked in
-          let on_disk : (holds : RecordDisk → FileKnown → List DiskStep → Type 0) → P holds → record_asked request (before ⇒ after) holds =
-          λ holds h. subst (λ file. AsksDisk file (disk inside.disk ⇒ disk w.close.result) holds) (sym w.in-Some.is) (closed holds h) in
+          let is_first = first_is request.record w.in-Some.name before first w.in-Some.is (ap disk made.disk) made.name made.held in
+          let let_go = subst (λ file. IsRecordLetGo file (Some last) (before ⇒ after)) (sym w.in-Some.is) w.close.ensures.asked in
           let way' = load.new.around.console in
           let call' = call_to way'.name.now way'.quiet_ms in
           let said = leading asked lines held.out way.consoles way.name way.quiet_time same_out back.ensures refl in
           rw (w.result-is, w.streams-inside-is, w.new-system.ensures) (record {
-            ok = tapes_loaded names request before after plan planned' started same P call' on_disk load.result
-                (said (λ x y. IfOk load.result (IsPlanLoaded (planned_load started request) P (x ⇒ y))) load.ensures.ok);
-            err = tapes_unloaded names request before after plan planned' started same P call' on_disk load.result
-                (said (λ x y. IfErr load.result (IsPlanFailure (planned_load started request) P (x ⇒ y))) load.ensures.err);
+            ok = tapes_loaded names request before after plan planned' started same (Some first) (Some last) is_first let_go call' load.result
+                (said (λ x y. IfOk load.result (IsPlanLoaded (planned_load started request) (scene_at x (Some first) ⇒ scene_at y (Some last)))) load.ensures.ok);
+            err = tapes_unloaded names request before after plan planned' started same (Some first) (Some last) is_first let_go call' load.result
+                (said (λ x y. IfErr load.result (IsPlanFailure (planned_load started request) (scene_at x (Some first) ⇒ scene_at y (Some last)))) load.ensures.err);
             quiet = quiet;
           })
       | in-None w ↦
@@ -77,17 +74,16 @@ returns g c =
           } in
           let after = moment (asked_of opened' (disk inside.disk) (asked back.result) (lines back.result)) held in
           let planned' : IsPlanned names (intake_at before) (intake_at after) plan = record { opened = planned.opened; is_so = planned.is_so } in
-          let P = DiskAsked None None in
-          let on_disk : (holds : RecordDisk → FileKnown → List DiskStep → Type 0) → P holds → record_asked request (before ⇒ after) holds =
-          λ holds h. subst (λ file. AsksDisk file (disk inside.disk ⇒ disk inside.disk) holds) (sym w.in-None.is) refl in
+          let is_first = subst (λ file. None ≡ first_record file before) (sym w.in-None.is) refl in
+          let let_go = subst (λ file. IsRecordLetGo file None (before ⇒ after)) (sym w.in-None.is) refl in
           let way' = load.new.around.console in
           let call' = call_to way'.name.now way'.quiet_ms in
           let said = leading asked lines held.out way.consoles way.name way.quiet_time same_out back.ensures refl in
           rw (w.result-is, w.streams-inside-is, w.new-system-in-None.ensures) (record {
-            ok = tapes_loaded names request before after plan planned' started same P call' on_disk load.result
-                (said (λ x y. IfOk load.result (IsPlanLoaded (planned_load started request) P (x ⇒ y))) load.ensures.ok);
-            err = tapes_unloaded names request before after plan planned' started same P call' on_disk load.result
-                (said (λ x y. IfErr load.result (IsPlanFailure (planned_load started request) P (x ⇒ y))) load.ensures.err);
+            ok = tapes_loaded names request before after plan planned' started same None None is_first let_go call' load.result
+                (said (λ x y. IfOk load.result (IsPlanLoaded (planned_load started request) (scene_at x None ⇒ scene_at y None))) load.ensures.ok);
+            err = tapes_unloaded names request before after plan planned' started same None None is_first let_go call' load.result
+                (said (λ x y. IfErr load.result (IsPlanFailure (planned_load started request) (scene_at x None ⇒ scene_at y None))) load.ensures.err);
             quiet = quiet;
           })
     ])

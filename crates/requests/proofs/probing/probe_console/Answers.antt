@@ -1,13 +1,12 @@
 use Rattle.std.proofs.Common.{inl, refl, ap}
 use Rattle.endings.specs.Held.{Held}
-use Rattle.machine_probe.specs.Probe.{IsProbeReported, OverLine, OverSome}
+use Rattle.machine_probe.specs.Probe.{OverLine}
 use Rattle.machine_probe.specs.ProbeFault.{IsProbeFault}
 use Rattle.machine_probe.proofs.Reports.{some_fault, some_reported}
 use Rattle.request_values.specs.Change.{◌⇒◌}
 use Rattle.requests.specs.Asked.{asked_of}
-use Rattle.requests.specs.Looking.{consoles_at}
-use Rattle.requests.specs.Moment.{moment}
-use Rattle.requests.specs.Probing.{probe_options}
+use Rattle.requests.specs.Moment.{consoles_at, moment}
+use Rattle.requests.specs.Probing.{IsProbeEnded, probe_options}
 use Rattle.requests.proofs.Looked.{probed, unprobed}
 use Rattle.requests.proofs.Ways.{at_name}
 use Rattle.requests.proofs.probing.probe_console.Goals as goal
@@ -35,10 +34,10 @@ returns g c =
     let quiet = ap (λ (h : Held). h.err) c.streams.view_is in
     rw (← c.system.view_is) (elim c.match-probed.branch [
       | in-Ok w ↦
-          let reported = said (λ x y. IsProbeReported OverSome (probe_options request) (x ⇒ y) w.in-Ok.end) (some_reported g.K.Consoles.Line.Line _ _ w.in-Ok.end w.in-Ok.ensures.ok) in
+          let reported = said (λ x y. IsProbeEnded request (x ⇒ y) w.in-Ok.end) (some_reported g.K.Consoles.Line.Line _ _ w.in-Ok.end w.in-Ok.ensures.ok) in
           rw (w.result-is, c.new-system.ensures) (record {
-            ok = probed request before after refl refl read w.in-Ok.end reported w.after_probe.result w.after_probe.ensures;
-            err = unprobed request before after refl refl read w.in-Ok.end reported w.after_probe.result w.after_probe.ensures;
+            ok = probed request before after refl (record { no_file = refl; nothing_read = read }) w.in-Ok.end reported w.after_probe.result w.after_probe.ensures;
+            err = unprobed request before after refl (record { no_file = refl; nothing_read = read }) w.in-Ok.end reported w.after_probe.result w.after_probe.ensures;
             quiet = quiet;
           })
       | in-Err w ↦ rw (w.result-is, c.new-system.ensures) (record {
@@ -51,8 +50,7 @@ returns g c =
             is_called = w.failure-failure.ensures;
           });
           no_disk = refl;
-          no_file = refl;
-          nothing_read = read;
+          no_input = record { no_file = refl; nothing_read = read };
         };
         quiet = quiet;
       })

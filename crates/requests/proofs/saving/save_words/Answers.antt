@@ -5,8 +5,7 @@ use Rattle.machine_look.specs.LookFault.{IsSaveFault}
 use Rattle.machine_look.specs.Save.{IsSavedAndReported, save_told}
 use Rattle.tape_shelf.specs.ShelfTold.{ShelfTold}
 use Rattle.requests.specs.Asked.{asked_of}
-use Rattle.requests.specs.Looking.{console_at}
-use Rattle.requests.specs.Moment.{moment}
+use Rattle.requests.specs.Moment.{console_at, moment}
 use Rattle.requests.specs.Saving.{new_shelf, options_of}
 use Rattle.requests.proofs.Saved.{new_is, saved, shelf_on, unsaved}
 use Rattle.requests.proofs.Ways.{at_name}
@@ -47,8 +46,8 @@ returns g c =
           let reported = subst (λ s. IsSavedAndReported (options_of save) (save_told s (console_at look before)) (save_told shelf (console_at look after)) end) is_new
           (said (λ x y. IsSavedAndReported (options_of save) (save_told first x) (save_told shelf y) end) w.in-Ok.ensures.reported) in
           rw (w.result-is, c.new-system.ensures) (record {
-            ok = saved save before after refl read end shelf reported c.close.ensures.asked w.after_save.result w.after_save.ensures.status;
-            err = unsaved save before after refl read end shelf reported c.close.ensures.asked w.after_save.result w.after_save.ensures.failure;
+            ok = saved save before after (record { no_file = refl; nothing_read = read }) end shelf reported c.close.ensures.asked w.after_save.result w.after_save.ensures.status;
+            err = unsaved save before after (record { no_file = refl; nothing_read = read }) end shelf reported c.close.ensures.asked w.after_save.result w.after_save.ensures.failure;
             quiet = quiet;
           })
       | in-Err w ↦ rw (w.result-is, c.new-system.ensures) (record {
@@ -62,8 +61,7 @@ returns g c =
             is_called = w.failure-failure.ensures;
             let_go = c.close.ensures.asked;
           });
-          no_file = refl;
-          nothing_read = read;
+          no_input = record { no_file = refl; nothing_read = read };
         };
         quiet = quiet;
       })

@@ -1,4 +1,4 @@
--- What becomes of a request to look at a real machine.
+-- What becomes of a request to verify what a real machine holds.
 use Rattle.std.specs.Prelude.{◌≡◌, ◌⊎◌, List, Ok, Err}
 use Rattle.tape_image.specs.Plan.{PlanValue}
 use Rattle.console_lines.specs.Console.{ConsoleTold}
@@ -10,20 +10,11 @@ use Rattle.endings.specs.declared.failure.Failure.{Failure}
 use Rattle.endings.specs.declared.status.Status.{Status}
 use Rattle.requests.specs.Ending.{IsFailureOf, after_verify}
 use Rattle.requests.specs.declared.request_fault.RequestFault.TheVariants as request_fault
-use Rattle.request_values.specs.Change.{Change, ◌⇒◌}
+use Rattle.request_values.specs.Change.{Change}
 use Rattle.request_values.specs.declared.machine.Look.{Look}
 use Rattle.input_files.specs.Opening.{Name}
 use Rattle.requests.specs.Planning.{HaveNoPlan, IsPlanned}
-use Rattle.requests.specs.Asked.{console_of}
-use Rattle.requests.specs.Moment.{AsksNoDisk, Moment, intake_at}
-
--- what is told of the console that a look is meant for, and of standard output
-abbrev pub console_at : Look → Moment → ConsoleTold
-console_at look known = console_of look.line.now look.quiet_ms known.asked.outside known.held.out
-
--- the same before and after
-abbrev pub consoles_at : Look → Change Moment → Change ConsoleTold
-consoles_at look moments = console_at look moments.before ⇒ console_at look moments.after
+use Rattle.requests.specs.Moment.{AsksNoDisk, Moment, consoles_at, intake_at}
 
 -- memory was looked at for a plan
 abbrev pub IsPlanVerified : PlanValue → Look → Change ConsoleTold → Status → Type 0

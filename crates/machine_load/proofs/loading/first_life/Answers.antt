@@ -3,7 +3,7 @@ use Rattle.machine_load.proofs.Faults.{error_is}
 use Rattle.machine_load.proofs.OnDisk.{opened_on, unlike_on}
 use Rattle.machine_load.proofs.Opened.{opens}
 use Rattle.machine_load.specs.declared.fault.LoadFault.TheVariants.{Memory}
-use Rattle.machine_load.proofs.loading.first_core.Goals as goal
+use Rattle.machine_load.proofs.loading.first_life.Goals as goal
 
 pub returns-clause-disk : goal.returns-clause-disk
 returns-clause-disk g c = opened_on _ _ c.in_ok-record.record c.in_ok-record.ensures.disk

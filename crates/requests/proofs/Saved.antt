@@ -12,7 +12,7 @@ use Rattle.request_values.specs.Change.{◌⇒◌}
 use Rattle.request_values.specs.declared.machine.Save.{Save}
 use Rattle.requests.specs.Ending.{IsSaveEndFailure, IsSaveEndStatus}
 use Rattle.requests.specs.Moment.{Moment, TakesNoInput, console_at}
-use Rattle.requests.specs.Saving.{AreWordsSaved, AreWordsUnsaved, IsLetGo, new_shelf, options_of, save_told_first}
+use Rattle.requests.specs.Saving.{AreWordsSaved, AreWordsUnsaved, IsLetGo, new_shelf, options_of}
 
 -- a shelf on a disk
 abbrev pub shelf_on : Option (List DiskStep) → List ℕ → Option Room → ShelfTold
@@ -24,18 +24,12 @@ new_is name asked asked' name' room p q r = λ i. record { steps = None; disk = 
 
 module _ (save : Save) (before after : Moment) (no_input : TakesNoInput (before ⇒ after))
     (end : SaveEnd) (shelf : ShelfTold)
-    (reported : IsSavedAndReported (options_of save) (save_told_first save before) (save_told shelf (console_at save.look after)) end)
+    (reported : IsSavedAndReported (options_of save) (save_told (new_shelf save.file before.asked.outside.disk) (console_at save.look before)) (save_told shelf (console_at save.look after)) end)
     (gone : IsLetGo shelf.disk after.asked.outside.disk) where
   pub saved : (result : Result Status Failure) → IfOk result (IsSaveEndStatus end) → IfOk result (AreWordsSaved save (before ⇒ after))
-  saved (Ok status) is = record {
-    saved = record { end = end; shelf = shelf; reported = reported; status_is = is; let_go = gone };
-    no_input = no_input;
-  }
+  saved (Ok status) is = record { shelf = shelf; saved = (end, reported, is); let_go = gone; no_input = no_input }
   saved (Err failure) is = tt
 
   pub unsaved : (result : Result Status Failure) → IfErr result (IsSaveEndFailure end save.file.now) → IfErr result (AreWordsUnsaved save (before ⇒ after))
   unsaved (Ok status) is = tt
-  unsaved (Err failure) is = record {
-    failed = inr (record { end = end; shelf = shelf; reported = reported; failed = is; let_go = gone });
-    no_input = no_input;
-  }
+  unsaved (Err failure) is = record { shelf = shelf; failed = inr (end, reported, is); let_go = gone; no_input = no_input }

@@ -14,7 +14,7 @@ use Rattle.endings.specs.declared.status.Status.{Status}
 use Rattle.requests.specs.Ending.{IsFailureOf, IsSaveEndFailure, IsSaveEndStatus}
 use Rattle.requests.specs.declared.request_fault.RequestFault.TheVariants as request_fault
 use Rattle.input_files.specs.Opening.{Name}
-use Rattle.request_values.specs.Change.{Change}
+use Rattle.request_values.specs.Change.{Change, ◌⇒◌}
 use Rattle.request_values.specs.declared.machine.Save.{Save}
 use Rattle.requests.specs.Moment.{Moment, TakesNoInput, console_at}
 
@@ -26,49 +26,43 @@ options_of save = record { range = save.range; start = save.start; patience = sa
 abbrev pub new_shelf : Name → Option (List DiskStep) → ShelfTold
 new_shelf name asked = record { steps = None; disk = Some (record { asked = asked; name = name.now; room = None }) }
 
--- what a save is told before it begins: its shelf is new
-abbrev pub save_told_first : Save → Moment → SaveTold
-save_told_first save known = save_told (new_shelf save.file known.asked.outside.disk) (console_at save.look known)
+-- what a save is told before it, with a shelf that is new, and behind it, with this one
+abbrev pub saves_of : Save → ShelfTold → Change Moment → Change SaveTold
+saves_of save shelf moments =
+    save_told (new_shelf save.file moments.before.asked.outside.disk) (console_at save.look moments.before)
+    ⇒ save_told shelf (console_at save.look moments.after)
 
 -- a shelf was let go, and then its disk tells this
 abbrev pub IsLetGo : Option ShelfDisk → Option (List DiskStep) → Type 0
 IsLetGo None asked = ⊥
 IsLetGo (Some disk) asked = HasAsked disk.asked asked (IsClosed disk.room)
 
--- memory was read and saved, on a shelf that was new, and was let go
-pub record IsSaveOver (save : Save) (moments : Change Moment) (status : Status) : Type 0 where
-  pub end : SaveEnd
-  pub shelf : ShelfTold
-  pub reported : IsSavedAndReported (options_of save) (save_told_first save moments.before) (save_told shelf (console_at save.look moments.after)) end
-  pub status_is : IsSaveEndStatus end status
-  pub let_go : IsLetGo shelf.disk moments.after.asked.outside.disk
-
--- the same, and its line had failed, or memory does not hold what was left beside the file
-pub record IsSaveBroken (save : Save) (moments : Change Moment) (failure : Failure) : Type 0 where
-  pub end : SaveEnd
-  pub shelf : ShelfTold
-  pub reported : IsSavedAndReported (options_of save) (save_told_first save moments.before) (save_told shelf (console_at save.look moments.after)) end
-  pub failed : IsSaveEndFailure end save.file.now failure
-  pub let_go : IsLetGo shelf.disk moments.after.asked.outside.disk
+-- memory was read and saved
+abbrev pub IsSaveOver : Save → Change SaveTold → Status → Type 0
+IsSaveOver save told status = (end : SaveEnd) × IsSavedAndReported (options_of save) told.before told.after end × IsSaveEndStatus end status
 
 -- a save came to nothing
-pub record IsSaveCutShort (save : Save) (moments : Change Moment) (failure : Failure) : Type 0 where
+pub record IsSaveCutShort (save : Save) (told : Change SaveTold) (failure : Failure) : Type 0 where
   pub fault : LookFault
-  pub shelf : ShelfTold
-  pub is_so : IsSaveFault (options_of save) (save_told_first save moments.before) (save_told shelf (console_at save.look moments.after)) fault
+  pub is_so : IsSaveFault (options_of save) told.before told.after fault
   pub is_called : IsFailureOf (request_fault.Look fault) save.look.line.now save.file.now failure
-  pub let_go : IsLetGo shelf.disk moments.after.asked.outside.disk
 
--- a save failed: it came to nothing, or it was reported and its line had failed
-abbrev pub IsSaveFailure : Save → Change Moment → Failure → Type 0
-IsSaveFailure save moments failure = IsSaveCutShort save moments failure ⊎ IsSaveBroken save moments failure
+-- a save failed: it came to nothing, or it was reported, and its line had failed, or memory does not hold what was left beside the file
+abbrev pub IsSaveFailure : Save → Change SaveTold → Failure → Type 0
+IsSaveFailure save told failure =
+    IsSaveCutShort save told failure
+    ⊎ ((end : SaveEnd) × IsSavedAndReported (options_of save) told.before told.after end × IsSaveEndFailure end save.file.now failure)
 
--- words were saved in the file that is named, of the console that is named, and no input was taken
+-- words were saved in the file that is named, of the console that is named, on a shelf that was new, and was let go; no input was taken
 pub record AreWordsSaved (save : Save) (moments : Change Moment) (status : Status) : Type 0 where
-  pub saved : IsSaveOver save moments status
+  pub shelf : ShelfTold
+  pub saved : IsSaveOver save (saves_of save shelf moments) status
+  pub let_go : IsLetGo shelf.disk moments.after.asked.outside.disk
   pub no_input : TakesNoInput moments
 
 -- or that failed
 pub record AreWordsUnsaved (save : Save) (moments : Change Moment) (failure : Failure) : Type 0 where
-  pub failed : IsSaveFailure save moments failure
+  pub shelf : ShelfTold
+  pub failed : IsSaveFailure save (saves_of save shelf moments) failure
+  pub let_go : IsLetGo shelf.disk moments.after.asked.outside.disk
   pub no_input : TakesNoInput moments

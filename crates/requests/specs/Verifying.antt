@@ -41,7 +41,7 @@ pub record AreVerified (names : List Name) (look : Look) (moments : Change Momen
   pub no_disk : AsksNoDisk moments
 
 -- there is a plan, and the look for it failed
-pub record IsLookBroken (names : List Name) (look : Look) (moments : Change Moment) (failure : Failure) : Type 0 where
+pub record IsVerifyUndone (names : List Name) (look : Look) (moments : Change Moment) (failure : Failure) : Type 0 where
   pub plan : PlanValue
   pub planned : IsPlanned names (intake_at moments.before) (intake_at moments.after) plan
   pub failed : IsVerifyFailure plan look (consoles_at look moments) failure
@@ -49,4 +49,4 @@ pub record IsLookBroken (names : List Name) (look : Look) (moments : Change Mome
 
 -- the look failed: there is no plan, and no console was asked for, or it failed on its way
 abbrev pub AreUnverified : List Name → Look → Change Moment → Failure → Type 0
-AreUnverified names look moments failure = HaveNoPlan names moments failure ⊎ IsLookBroken names look moments failure
+AreUnverified names look moments failure = HaveNoPlan names moments failure ⊎ IsVerifyUndone names look moments failure

@@ -53,14 +53,14 @@ returns g c =
       | in-Err w ↦ rw (w.result-is, c.new-system.ensures) (record {
         ok = tt;
         err = record {
+          shelf = shelf;
           failed = inl (record {
             fault = w.in-Err.fault;
-            shelf = shelf;
             is_so = subst (λ s. IsSaveFault (options_of save) (save_told s (console_at look before)) (save_told shelf (console_at look after)) w.in-Err.fault) is_new
                 (said (λ x y. IsSaveFault (options_of save) (save_told first x) (save_told shelf y) w.in-Err.fault) w.in-Err.ensures.fault);
             is_called = w.failure-failure.ensures;
-            let_go = c.close.ensures.asked;
           });
+          let_go = c.close.ensures.asked;
           no_input = record { no_file = refl; nothing_read = read };
         };
         quiet = quiet;

@@ -10,7 +10,7 @@ use Rattle.endings.specs.declared.failure.Failure.{Failure}
 use Rattle.endings.specs.declared.status.Status.{Status}
 use Rattle.request_values.specs.Change.{◌⇒◌}
 use Rattle.request_values.specs.declared.machine.Load.{Load}
-use Rattle.requests.specs.Loading.{AreLoaded, AreUnloaded, IsPlanFailure, IsPlanLoaded, IsRecordLetGo, PlannedLoad, console_for, first_record, planned_load, scene_at}
+use Rattle.requests.specs.Loading.{AreLoaded, AreUnloaded, IsLoadFailure, IsLoadOver, IsRecordLetGo, PlannedLoad, console_for, first_record, planned_load, scene_at}
 use Rattle.requests.specs.Moment.{Moment, intake_at}
 use Rattle.requests.specs.Planning.{IsPlanned}
 use Rattle.input_files.specs.Opening.{Name}
@@ -20,7 +20,7 @@ module _ (load : PlannedLoad) (before : Scene) (setting : Setting) (asked : Opti
   abbrev after : Call → Scene
   after leads = record { setting = setting; asked = asked; call = leads; disk = disk }
 
-  pub loaded_as : (status : Status) → IsPlanLoaded load (before ⇒ after call) status → IsPlanLoaded load (before ⇒ after call') status
+  pub loaded_as : (status : Status) → IsLoadOver load (before ⇒ after call) status → IsLoadOver load (before ⇒ after call') status
   loaded_as status h = record {
     ending = h.ending;
     between = h.between;
@@ -29,7 +29,7 @@ module _ (load : PlannedLoad) (before : Scene) (setting : Setting) (asked : Opti
     no_more = record { around_same = h.no_more.around_same; asked_same = h.no_more.asked_same; disk_same = h.no_more.disk_same };
   }
 
-  pub failed_as : (failure : Failure) → IsPlanFailure load (before ⇒ after call) failure → IsPlanFailure load (before ⇒ after call') failure
+  pub failed_as : (failure : Failure) → IsLoadFailure load (before ⇒ after call) failure → IsLoadFailure load (before ⇒ after call') failure
   failed_as failure =
       ⊎_elim
       (λ h. inl (record { fault = h.fault; is_so = record { fault = h.is_so.fault; asked = h.is_so.asked; disk = h.is_so.disk }; is_called = h.is_called }))
@@ -65,20 +65,20 @@ module _ (names : List Name) (load : Load) (before after : Moment) (plan : PlanV
   abbrev begun : Option RecordDisk → Scene
   begun record_first = scene_at (console_for load before) record_first
 
-  pub tapes_loaded : (result : Result Status Failure) → IfOk result (IsPlanLoaded (planned_load started load) (begun first ⇒ reached))
+  pub tapes_loaded : (result : Result Status Failure) → IfOk result (IsLoadOver (planned_load started load) (begun first ⇒ reached))
       → IfOk result (AreLoaded names load (before ⇒ after))
   tapes_loaded (Ok status) h = record {
     plan = plan;
     planned = planned;
     last = last;
     loaded = loaded_as (planned_load (starting plan load.start) load) (begun (first_record load.record before)) there.setting there.asked last call' there.call status
-        (subst (λ d. IsPlanLoaded (planned_load (starting plan load.start) load) (begun d ⇒ reached) status) is_first
-        (subst (λ s. IsPlanLoaded (planned_load s load) (begun first ⇒ reached) status) same h));
+        (subst (λ d. IsLoadOver (planned_load (starting plan load.start) load) (begun d ⇒ reached) status) is_first
+        (subst (λ s. IsLoadOver (planned_load s load) (begun first ⇒ reached) status) same h));
     let_go = let_go;
   }
   tapes_loaded (Err failure) h = tt
 
-  pub tapes_unloaded : (result : Result Status Failure) → IfErr result (IsPlanFailure (planned_load started load) (begun first ⇒ reached))
+  pub tapes_unloaded : (result : Result Status Failure) → IfErr result (IsLoadFailure (planned_load started load) (begun first ⇒ reached))
       → IfErr result (AreUnloaded names load (before ⇒ after))
   tapes_unloaded (Ok status) h = tt
   tapes_unloaded (Err failure) h = inr (record {
@@ -86,7 +86,7 @@ module _ (names : List Name) (load : Load) (before after : Moment) (plan : PlanV
     planned = planned;
     last = last;
     failed = failed_as (planned_load (starting plan load.start) load) (begun (first_record load.record before)) there.setting there.asked last call' there.call failure
-        (subst (λ d. IsPlanFailure (planned_load (starting plan load.start) load) (begun d ⇒ reached) failure) is_first
-        (subst (λ s. IsPlanFailure (planned_load s load) (begun first ⇒ reached) failure) same h));
+        (subst (λ d. IsLoadFailure (planned_load (starting plan load.start) load) (begun d ⇒ reached) failure) is_first
+        (subst (λ s. IsLoadFailure (planned_load s load) (begun first ⇒ reached) failure) same h));
     let_go = let_go;
   })

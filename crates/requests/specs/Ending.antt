@@ -73,16 +73,16 @@ IsStopStatus stop.TurnsOver status = status ≡ NotLoaded
 IsStopStatus other status = ⊥
 
 -- how a load that was reported fails all the same: its engine failed, or that of its looks; or memory does not hold what its record says
-abbrev pub IsEndedFailure : LoadEnd → Bool → List ℕ → Failure → Type 0
-IsEndedFailure (load_end.Driven stop) marked file failure = IsStopFailure stop marked file failure
-IsEndedFailure (load_end.Unfinished stop) marked file failure = IsStopFailure stop marked file failure
-IsEndedFailure (load_end.Stale address) marked file failure = failure ≡ RecordStale
+abbrev pub IsLoadEndFailure : LoadEnd → Bool → List ℕ → Failure → Type 0
+IsLoadEndFailure (load_end.Driven stop) marked file failure = IsStopFailure stop marked file failure
+IsLoadEndFailure (load_end.Unfinished stop) marked file failure = IsStopFailure stop marked file failure
+IsLoadEndFailure (load_end.Stale address) marked file failure = failure ≡ RecordStale
 
 -- how the program ended where a load ended so and was reported
-abbrev pub IsEndedStatus : LoadEnd → Status → Type 0
-IsEndedStatus (load_end.Driven stop) status = IsStopStatus stop status
-IsEndedStatus (load_end.Unfinished stop) status = IsStopStatus stop status
-IsEndedStatus (load_end.Stale address) status = ⊥
+abbrev pub IsLoadEndStatus : LoadEnd → Status → Type 0
+IsLoadEndStatus (load_end.Driven stop) status = IsStopStatus stop status
+IsLoadEndStatus (load_end.Unfinished stop) status = IsStopStatus stop status
+IsLoadEndStatus (load_end.Stale address) status = ⊥
 
 -- how the program ends after a `verify` that ended so: where its line failed, that is a failure and no ending
 abbrev pub after_verify : VerifyEnd → Result Status Failure

@@ -15,7 +15,7 @@ use Rattle.endings.specs.declared.failure.Failure.{Failure}
 use Rattle.endings.specs.declared.status.Status.{Status}
 use Rattle.request_values.specs.declared.machine.Load.{Load as LoadRequest}
 use Rattle.input_files.specs.Opening.{Name}
-use Rattle.requests.specs.Ending.{IsEndedFailure, IsEndedStatus, IsFailureOf}
+use Rattle.requests.specs.Ending.{IsFailureOf, IsLoadEndFailure, IsLoadEndStatus}
 use Rattle.requests.specs.declared.request_fault.RequestFault.TheVariants as request_fault
 use Rattle.requests.specs.Planning.{HaveNoPlan, IsPlanned}
 use Rattle.requests.specs.Asked.{console_of}
@@ -47,11 +47,11 @@ task_of load = task load.plan load.request.options
 -- what comes behind the report of a load that ended so: what there was to listen to, and then the end
 pub record IsEnded (request : LoadRequest) (ending : Ending) (scenes : Change Scene) (status : Status) : Type 0 where
   pub listened : IsLastHeard (seconds_of request.listen ending.end) (quiet_time request.quiet_ms) ending.line (scenes.before.setting ⇒ scenes.after.setting)
-  pub status_is : IsEndedStatus ending.end status
+  pub status_is : IsLoadEndStatus ending.end status
 
 -- its line or its record's keeper had failed, or memory does not hold what the record says: nobody listened, and the line was given back
 pub record IsEndedUnheard (request : LoadRequest) (ending : Ending) (scenes : Change Scene) (failure : Failure) : Type 0 where
-  pub failed : IsEndedFailure ending.end ending.marked (record_name request.record) failure
+  pub failed : IsLoadEndFailure ending.end ending.marked (record_name request.record) failure
   pub given_back : IsGivenBack scenes.before.setting.lines scenes.after.setting.lines ending.line
   pub nothing_written : scenes.after.setting.out ≡ scenes.before.setting.out
 
@@ -62,7 +62,7 @@ IsEndFailure request ending scenes failure =
     ⊎ IsLastCut (seconds_of request.listen ending.end) ending.line (scenes.before.setting ⇒ scenes.after.setting) failure
 
 -- a planned load was done: it was reported, and then came its end, for which nothing more was asked than that its line was given back
-pub record IsPlanLoaded (load : PlannedLoad) (scenes : Change Scene) (status : Status) : Type 0 where
+pub record IsLoadOver (load : PlannedLoad) (scenes : Change Scene) (status : Status) : Type 0 where
   pub ending : Ending
   pub between : Scene
   pub reported : IsLoadReported (task_of load) (scenes.before ⇒ between) ending
@@ -78,14 +78,14 @@ pub record IsLoadBroken (load : PlannedLoad) (scenes : Change Scene) (failure : 
   pub no_more : AsksNoMore (between ⇒ scenes.after)
 
 -- it came to nothing
-pub record IsLoadCutShort (load : PlannedLoad) (scenes : Change Scene) (failure : Failure) : Type 0 where
+pub record IsLoadInVain (load : PlannedLoad) (scenes : Change Scene) (failure : Failure) : Type 0 where
   pub fault : LoadFault
   pub is_so : IsLoadUnreported (task_of load) scenes fault
   pub is_called : IsFailureOf (request_fault.Load fault) load.request.line.now (record_name load.request.record) failure
 
 -- it failed
-abbrev pub IsPlanFailure : PlannedLoad → Change Scene → Failure → Type 0
-IsPlanFailure load scenes failure = IsLoadCutShort load scenes failure ⊎ IsLoadBroken load scenes failure
+abbrev pub IsLoadFailure : PlannedLoad → Change Scene → Failure → Type 0
+IsLoadFailure load scenes failure = IsLoadInVain load scenes failure ⊎ IsLoadBroken load scenes failure
 
 -- what is known of a load by what its console tells, with this record on a disk; a system does not tell in which order a load asks it, nor what
 -- the record says
@@ -122,7 +122,7 @@ pub record AreLoaded (names : List Name) (load : LoadRequest) (moments : Change 
   pub plan : PlanValue
   pub planned : IsPlanned names (intake_at moments.before) (intake_at moments.after) plan
   pub last : Option RecordDisk
-  pub loaded : IsPlanLoaded (planned_load (starting plan load.start) load) (scenes_of load last moments) status
+  pub loaded : IsLoadOver (planned_load (starting plan load.start) load) (scenes_of load last moments) status
   pub let_go : IsRecordLetGo load.record last moments
 
 -- there is a plan, and its load failed
@@ -130,7 +130,7 @@ pub record IsLoadUndone (names : List Name) (load : LoadRequest) (moments : Chan
   pub plan : PlanValue
   pub planned : IsPlanned names (intake_at moments.before) (intake_at moments.after) plan
   pub last : Option RecordDisk
-  pub failed : IsPlanFailure (planned_load (starting plan load.start) load) (scenes_of load last moments) failure
+  pub failed : IsLoadFailure (planned_load (starting plan load.start) load) (scenes_of load last moments) failure
   pub let_go : IsRecordLetGo load.record last moments
 
 -- their load failed: it has no plan, and of disk and consoles nothing was asked; or it failed on its way

@@ -23,23 +23,23 @@ abbrev pub IsProbeEnded : Probe → Change ConsoleTold → ProbeEnd → Type 0
 IsProbeEnded request console end = IsProbeReported OverSome (probe_options request) console end
 
 -- or it came to nothing
-abbrev pub IsProbeInVain : Probe → Change ConsoleTold → ProbeFault → Type 0
-IsProbeInVain request console fault = IsProbeFault OverSome (probe_options request) console fault
+abbrev pub IsProbeUnreported : Probe → Change ConsoleTold → ProbeFault → Type 0
+IsProbeUnreported request console fault = IsProbeFault OverSome (probe_options request) console fault
 
 -- a console was probed
 abbrev pub IsProbeOver : Probe → Change ConsoleTold → Status → Type 0
 IsProbeOver request console status = (end : ProbeEnd) × IsProbeEnded request console end × (after_probe end ≡ Ok status)
 
 -- a probe came to nothing
-pub record IsProbeCutShort (request : Probe) (console : Change ConsoleTold) (failure : Failure) : Type 0 where
+pub record IsProbeInVain (request : Probe) (console : Change ConsoleTold) (failure : Failure) : Type 0 where
   pub fault : ProbeFault
-  pub is_so : IsProbeInVain request console fault
+  pub is_so : IsProbeUnreported request console fault
   pub is_called : IsFailureOf (request_fault.Probe fault) request.look.line.now request.look.line.now failure
 
 -- a probe failed: it came to nothing, or it was reported and its line had failed
 abbrev pub IsProbeFailure : Probe → Change ConsoleTold → Failure → Type 0
 IsProbeFailure request console failure =
-    IsProbeCutShort request console failure
+    IsProbeInVain request console failure
     ⊎ ((end : ProbeEnd) × IsProbeEnded request console end × (after_probe end ≡ Err failure))
 
 -- the console that is named was probed, and nothing else was asked or read

@@ -42,7 +42,7 @@ abbrev pub IsSaveOver : Save → Change SaveTold → Status → Type 0
 IsSaveOver save told status = (end : SaveEnd) × IsSavedAndReported (options_of save) told.before told.after end × IsSaveEndStatus end status
 
 -- a save came to nothing
-pub record IsSaveCutShort (save : Save) (told : Change SaveTold) (failure : Failure) : Type 0 where
+pub record IsSaveInVain (save : Save) (told : Change SaveTold) (failure : Failure) : Type 0 where
   pub fault : LookFault
   pub is_so : IsSaveFault (options_of save) told.before told.after fault
   pub is_called : IsFailureOf (request_fault.Look fault) save.look.line.now save.file.now failure
@@ -50,7 +50,7 @@ pub record IsSaveCutShort (save : Save) (told : Change SaveTold) (failure : Fail
 -- a save failed: it came to nothing, or it was reported, and its line had failed, or memory does not hold what was left beside the file
 abbrev pub IsSaveFailure : Save → Change SaveTold → Failure → Type 0
 IsSaveFailure save told failure =
-    IsSaveCutShort save told failure
+    IsSaveInVain save told failure
     ⊎ ((end : SaveEnd) × IsSavedAndReported (options_of save) told.before told.after end × IsSaveEndFailure end save.file.now failure)
 
 -- words were saved in the file that is named, of the console that is named, on a shelf that was new, and was let go; no input was taken

@@ -17,12 +17,12 @@ use Rattle.requests.specs.Planning.{HaveNoPlan, IsPlanned}
 use Rattle.requests.specs.Moment.{AsksNoDisk, Moment, consoles_at, intake_at}
 
 -- memory was looked at for a plan
-abbrev pub IsPlanVerified : PlanValue → Look → Change ConsoleTold → Status → Type 0
-IsPlanVerified plan look console status =
+abbrev pub IsVerifyOver : PlanValue → Look → Change ConsoleTold → Status → Type 0
+IsVerifyOver plan look console status =
     (end : VerifyEnd) × IsVerifyReported plan look.patience console end × (after_verify end ≡ Ok status)
 
 -- a look for a plan came to nothing
-pub record IsVerifyCutShort (plan : PlanValue) (look : Look) (console : Change ConsoleTold) (failure : Failure) : Type 0 where
+pub record IsVerifyInVain (plan : PlanValue) (look : Look) (console : Change ConsoleTold) (failure : Failure) : Type 0 where
   pub fault : LookFault
   pub is_so : IsVerifyFault plan look.patience console fault
   pub is_called : IsFailureOf (request_fault.Look fault) look.line.now look.line.now failure
@@ -30,14 +30,14 @@ pub record IsVerifyCutShort (plan : PlanValue) (look : Look) (console : Change C
 -- a look for a plan failed: it came to nothing, or it was reported and its line had failed
 abbrev pub IsVerifyFailure : PlanValue → Look → Change ConsoleTold → Failure → Type 0
 IsVerifyFailure plan look console failure =
-    IsVerifyCutShort plan look console failure
+    IsVerifyInVain plan look console failure
     ⊎ ((end : VerifyEnd) × IsVerifyReported plan look.patience console end × (after_verify end ≡ Err failure))
 
 -- memory was looked at for the tapes of these names, as one, at the console that is named
 pub record AreVerified (names : List Name) (look : Look) (moments : Change Moment) (status : Status) : Type 0 where
   pub plan : PlanValue
   pub planned : IsPlanned names (intake_at moments.before) (intake_at moments.after) plan
-  pub verified : IsPlanVerified plan look (consoles_at look moments) status
+  pub verified : IsVerifyOver plan look (consoles_at look moments) status
   pub no_disk : AsksNoDisk moments
 
 -- there is a plan, and the look for it failed

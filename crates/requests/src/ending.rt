@@ -1,6 +1,6 @@
 //! What a load, a look or a probe comes to that was reported: the exit status, or the failure that names what was at fault.
 ghost use Rattle.std.specs.Prelude.{◌≡◌, IfOk, IfErr};
-ghost use Rattle.requests.specs.Ending.{IsEndedFailure, IsEndedStatus, IsSaveEndFailure, IsSaveEndStatus, IsStopFailure, IsStopStatus};
+ghost use Rattle.requests.specs.Ending.{IsLoadEndFailure, IsLoadEndStatus, IsSaveEndFailure, IsSaveEndStatus, IsStopFailure, IsStopStatus};
 ghost use Rattle.requests.specs.Ending.{after_probe, after_verify};
 
 use endings::{Failure, Status};
@@ -13,8 +13,8 @@ use probe_report::ProbeEnd;
 /// record failed, or memory does not hold what the record says. `marked` says whether the start was typed, or
 /// may have been.
 pub(crate) fn after_load(end: LoadEnd, marked: bool, file: &str) -> Result<Status, Failure<'_>>
-    ensures status { IfOk result (IsEndedStatus end) }
-    ensures failure { IfErr result (IsEndedFailure end marked file.entry.now) }
+    ensures status { IfOk result (IsLoadEndStatus end) }
+    ensures failure { IfErr result (IsLoadEndFailure end marked file.entry.now) }
 {
     match end {
         LoadEnd::Driven(stop) => after_stop(stop, marked, file),

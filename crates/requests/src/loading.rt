@@ -5,7 +5,7 @@ ghost use Rattle.machine_load.specs.Reporting.{AsksNoMore};
 ghost use Rattle.machine_load.specs.Scene.{ending, scene};
 ghost use Rattle.request_values.specs.Change.{◌⇒◌};
 ghost use Rattle.requests.specs.Loading.{kept_in, planned_load, record_name};
-ghost use Rattle.requests.specs.Loading.{AreLoaded, AreUnloaded, IsEnded, IsEndFailure, IsPlanLoaded, IsPlanFailure};
+ghost use Rattle.requests.specs.Loading.{AreLoaded, AreUnloaded, IsEnded, IsEndFailure, IsLoadFailure, IsLoadOver};
 ghost use Rattle.requests.specs.Moment.{moment};
 
 use crate::advice::{advise, onlooker};
@@ -96,9 +96,9 @@ fn load_plan<'a, S: Surroundings, W: Write, C: Clock, T: Print>(
     out: &mut W,
     onlooker: &Option<ProgressLine<'_, C, T>>,
 ) -> Result<Status, Failure<'a>>
-    ensures ok { IfOk result (IsPlanLoaded (planned_load plan request.entry)
+    ensures ok { IfOk result (IsLoadOver (planned_load plan request.entry)
         (scene S.Surroundings W.Write around.old out.old ⇒ scene S.Surroundings W.Write around.new out.new)) }
-    ensures err { IfErr result (IsPlanFailure (planned_load plan request.entry)
+    ensures err { IfErr result (IsLoadFailure (planned_load plan request.entry)
         (scene S.Surroundings W.Write around.old out.old ⇒ scene S.Surroundings W.Write around.new out.new)) }
 {
     let words = plan.words().len() as u32;

@@ -6,7 +6,7 @@ use Rattle.machine_load.specs.RecordDisk.{RecordDisk}
 use Rattle.record_file.specs.Taking.{kind_of}
 use Rattle.request_values.specs.Change.{◌⇒◌}
 use Rattle.requests.specs.Asked.{asked_of}
-use Rattle.requests.specs.Loading.{IsPlanFailure, IsPlanLoaded, IsRecordLetGo, first_record, planned_load, scene_at}
+use Rattle.requests.specs.Loading.{IsLoadFailure, IsLoadOver, IsRecordLetGo, first_record, planned_load, scene_at}
 use Rattle.requests.specs.Moment.{intake_at, moment}
 use Rattle.requests.specs.Planning.{IsPlanned}
 use Rattle.requests.proofs.Loaded.{first_is, tapes_loaded, tapes_unloaded}
@@ -58,9 +58,9 @@ returns g c =
           let said = leading asked lines held.out way.consoles way.name way.quiet_time same_out back.ensures refl in
           rw (w.result-is, w.streams-inside-is, w.new-system.ensures) (record {
             ok = tapes_loaded names request before after plan planned' started same (Some first) (Some last) is_first let_go call' load.result
-                (said (λ x y. IfOk load.result (IsPlanLoaded (planned_load started request) (scene_at x (Some first) ⇒ scene_at y (Some last)))) load.ensures.ok);
+                (said (λ x y. IfOk load.result (IsLoadOver (planned_load started request) (scene_at x (Some first) ⇒ scene_at y (Some last)))) load.ensures.ok);
             err = tapes_unloaded names request before after plan planned' started same (Some first) (Some last) is_first let_go call' load.result
-                (said (λ x y. IfErr load.result (IsPlanFailure (planned_load started request) (scene_at x (Some first) ⇒ scene_at y (Some last)))) load.ensures.err);
+                (said (λ x y. IfErr load.result (IsLoadFailure (planned_load started request) (scene_at x (Some first) ⇒ scene_at y (Some last)))) load.ensures.err);
             quiet = quiet;
           })
       | in-None w ↦
@@ -81,9 +81,9 @@ returns g c =
           let said = leading asked lines held.out way.consoles way.name way.quiet_time same_out back.ensures refl in
           rw (w.result-is, w.streams-inside-is, w.new-system-in-None.ensures) (record {
             ok = tapes_loaded names request before after plan planned' started same None None is_first let_go call' load.result
-                (said (λ x y. IfOk load.result (IsPlanLoaded (planned_load started request) (scene_at x None ⇒ scene_at y None))) load.ensures.ok);
+                (said (λ x y. IfOk load.result (IsLoadOver (planned_load started request) (scene_at x None ⇒ scene_at y None))) load.ensures.ok);
             err = tapes_unloaded names request before after plan planned' started same None None is_first let_go call' load.result
-                (said (λ x y. IfErr load.result (IsPlanFailure (planned_load started request) (scene_at x None ⇒ scene_at y None))) load.ensures.err);
+                (said (λ x y. IfErr load.result (IsLoadFailure (planned_load started request) (scene_at x None ⇒ scene_at y None))) load.ensures.err);
             quiet = quiet;
           })
     ])

@@ -22,7 +22,7 @@ use Rattle.machine_load.specs.Called.{IsAskedBefore}
 use Rattle.machine_load.specs.Driving.{KeeperTells, IsDrivenOn}
 use Rattle.machine_load.specs.RecordDisk.{DiskAsked, disk_asked_before}
 use Rattle.machine_load.specs.Scene.{Scene, IsNotLoaded}
-use Rattle.machine_load.specs.LoadFault.{IsLoadFault, IsOpeningFault, IsDrivingFault, StopsOpened, StopsUnconnected, fault_of_record, gone}
+use Rattle.machine_load.specs.LoadFault.{IsLoadFault, IsOpeningFault, IsBeginningFault, StopsOpened, StopsUnconnected, fault_of_record, gone}
 use Rattle.record_file.specs.RecordFault.{IsUnbegun}
 use Rattle.record_file.specs.declared.record_fault.RecordFault.{RecordFault}
 use Rattle.record_file.specs.declared.record_fault.RecordFault.TheVariants as why
@@ -57,7 +57,7 @@ module _ (GoesSo : HowItGoesOn) (task : LoadTask) (before between after : Surrou
   unconnected may_begin done opened asks same given = (stops may_begin done GivesNone opened asks given, Keeps-trans _ _ _ opened.record_read same)
 
   -- one whose record may be begun
-  of_busy : (fault : LoadFault) → IsOpened task (before ⇒ between) first true → IsDrivingFault true first (gone between lines ⇒ gone after lines') fault
+  of_busy : (fault : LoadFault) → IsOpened task (before ⇒ between) first true → IsBeginningFault true first (gone between lines ⇒ gone after lines') fault
       → IsLoadFault GoesSo task (record { around = before; lines = lines; out = out } ⇒ record { around = after; lines = lines'; out = out }) fault
   of_busy Connect opened fails = unconnected true _ opened fails.1 fails.2 fails.3
   of_busy WriteRecord opened (inl unlike) = absurd (cc (unlike.0))
@@ -67,7 +67,7 @@ module _ (GoesSo : HowItGoesOn) (task : LoadTask) (before between after : Surrou
   of_busy other opened fails = absurd fails
 
   -- one whose record may not be begun
-  of_idle : (fault : LoadFault) → IsOpened task (before ⇒ between) first false → IsDrivingFault false first (gone between lines ⇒ gone after lines') fault
+  of_idle : (fault : LoadFault) → IsOpened task (before ⇒ between) first false → IsBeginningFault false first (gone between lines ⇒ gone after lines') fault
       → IsLoadFault GoesSo task (record { around = before; lines = lines; out = out } ⇒ record { around = after; lines = lines'; out = out }) fault
   of_idle WriteRecord opened (inl unlike) = inl (unconnected false _ opened unlike.1.nothing_asked unlike.1.record_same unlike.2)
   of_idle WriteRecord opened (inr unbegun) = absurd (cc (unbegun.0))
@@ -76,15 +76,15 @@ module _ (GoesSo : HowItGoesOn) (task : LoadTask) (before between after : Surrou
   of_idle Memory opened (inr unbegun) = absurd (cc (unbegun.0))
   of_idle other opened fails = absurd fails
 
-  pub of_driving : (may_begin : Bool) (fault : LoadFault) → IsOpened task (before ⇒ between) first may_begin → IsDrivingFault may_begin first (gone between lines ⇒ gone after lines') fault
+  pub of_beginning : (may_begin : Bool) (fault : LoadFault) → IsOpened task (before ⇒ between) first may_begin → IsBeginningFault may_begin first (gone between lines ⇒ gone after lines') fault
       → IsLoadFault GoesSo task (record { around = before; lines = lines; out = out } ⇒ record { around = after; lines = lines'; out = out }) fault
-  of_driving true fault opened fails = of_busy fault opened fails
-  of_driving false fault opened fails = of_idle fault opened fails
+  of_beginning true fault opened fails = of_busy fault opened fails
+  of_beginning false fault opened fails = of_idle fault opened fails
 
 -- a life that has looked, and whose record is not begun
 pub behind_looks_fault : (first : Core) (before between after : SurroundingsTold) (lines lines' : Option (List LineTold)) (why : RecordFault) (writable : Bool) → IsUnbegun why → writable ≡ true
     → Asks before between (Connected ∷ []) → Asks between after (begin_step {A = Unit {0}} (Err why) ∷ []) → GivesLooked first lines lines'
-    → IsDrivingFault writable first (gone before lines ⇒ gone after lines') (fault_of_record why)
+    → IsBeginningFault writable first (gone before lines ⇒ gone after lines') (fault_of_record why)
 behind_looks_fault first before between after lines lines' why.Write writable is may connected fails given = inr (may, gains_more _ _ _ _ _ connected fails, given)
 behind_looks_fault first before between after lines lines' why.Memory writable is may connected fails given = inr (may, gains_more _ _ _ _ _ connected fails, given)
 behind_looks_fault first before between after lines lines' other writable is may connected fails given = absurd is

@@ -43,7 +43,7 @@ IsOpeningFault plan before after (Record why) =
 IsOpeningFault plan before after Memory = Asks before after (OutOfMemory ∷ []) ⊎ Asks before after (RecordRead InPlace ∷ [])
 IsOpeningFault plan before after other = ⊥
 
--- what a load has done to what surroundings tell, and to the lines that were given back
+-- what surroundings tell at a moment, and the lines that were given back by then
 pub record Gone : Type 0 where
   pub around : SurroundingsTold
   pub lines : Option (List LineTold)
@@ -51,19 +51,19 @@ pub record Gone : Type 0 where
 abbrev pub gone : SurroundingsTold → Option (List LineTold) → Gone
 gone around lines = record { around = around; lines = lines }
 
--- how an opened life comes to no record of its own: one whose record may not be begun fails before there is a connection, and so does one for whose looks
+-- how an opened life comes to no beginning: one whose record may not be begun fails before there is a connection, and so does one for whose looks
 -- there is no memory; and without a connection the record is as it was. Where there was one, nothing was said on it but the looks
-abbrev pub IsDrivingFault : Bool → Core → Change Gone → LoadFault → Type 0
-IsDrivingFault writable first done Connect =
+abbrev pub IsBeginningFault : Bool → Core → Change Gone → LoadFault → Type 0
+IsBeginningFault writable first done Connect =
     (writable ≡ true) × Asks done.before.around done.after.around (NotConnected ∷ []) × KeepsRecord done.before.around done.after.around
     × GivesNone first done.before.lines done.after.lines
-IsDrivingFault writable first done WriteRecord =
+IsBeginningFault writable first done WriteRecord =
     ((writable ≡ false) × AsksNothing done.before.around done.after.around × GivesNone first done.before.lines done.after.lines)
     ⊎ ((writable ≡ true) × Asks done.before.around done.after.around (Connected ∷ NotBegun ∷ []) × GivesLooked first done.before.lines done.after.lines)
-IsDrivingFault writable first done Memory =
+IsBeginningFault writable first done Memory =
     ((writable ≡ true) × AsksNothing done.before.around done.after.around × GivesNone first done.before.lines done.after.lines)
     ⊎ ((writable ≡ true) × Asks done.before.around done.after.around (Connected ∷ OutOfMemory ∷ []) × GivesLooked first done.before.lines done.after.lines)
-IsDrivingFault writable first done other = ⊥
+IsBeginningFault writable first done other = ⊥
 
 -- a life was opened, whose record may be begun or may not, and then so far was gone, with nothing reported, and with lines given back so
 pub record StopsOpened (task : LoadTask) (setting : Change Setting) (may_begin : Bool) (done : List LoadStep)

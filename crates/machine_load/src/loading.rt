@@ -10,7 +10,7 @@ ghost use Rattle.machine_load.specs.Called.{IsAskedBefore};
 ghost use Rattle.host_devices.specs.Devices.{line_told};
 ghost use Rattle.machine_load.specs.GivenBack.{IsGivenBack};
 ghost use Rattle.machine_load.specs.Load.{IsOpened, words_taken};
-ghost use Rattle.machine_load.specs.LoadFault.{IsOpeningFault, IsDrivingFault};
+ghost use Rattle.machine_load.specs.LoadFault.{IsBeginningFault, IsOpeningFault};
 ghost use Rattle.machine_load.specs.Looks.{AreFewLooks};
 ghost use Rattle.machine_load.specs.RecordDisk.{DiskAsked, disk_asked_before, IsOnlyRead};
 ghost use Rattle.machine_load.specs.Reporting.{IsTold, IsUntold};
@@ -179,7 +179,7 @@ fn begin<S: Surroundings, O: Onlooker>(
     ensures begun { IfOk result (λ beginning. (fast : Bool) → IsBeginning (tells_of S.Surroundings S.Line.Line S.Keeper.Keep)
         (opened_as first fast writable) (around_of S.Surroundings around.old ⇒ around_of S.Surroundings around.new) beginning) }
     ensures few { IfOk result SendsFew }
-    ensures fault { IfErr result (IsDrivingFault writable first (gone_of S.Surroundings around.old ⇒ gone_of S.Surroundings around.new)) }
+    ensures fault { IfErr result (IsBeginningFault writable first (gone_of S.Surroundings around.old ⇒ gone_of S.Surroundings around.new)) }
     ensures asked { IfOk result (λ beginning. Gains (S.asked around.old) (S.asked around.new) (asked_to_begin (S.call around.old) beginning)) }
     ensures asked_in_vain { IfErr result (IsAskedBefore (S.call around.old) (S.asked around.old) (S.asked around.new)) }
     ensures lines { OnOk result (S.lines around.new ≡ S.lines around.old) }

@@ -3,13 +3,13 @@ use Rattle.host_devices.specs.Devices.{calls_of, devices_of, line_told}
 use Rattle.machine_load.specs.Asked.{opened_as, task, ◌⇒◌}
 use Rattle.machine_load.specs.Beginning.{IsBeginning, IsBeginningOn, SendsFew, asked_to_begin}
 use Rattle.machine_load.specs.Driving.{IsDrivenOn}
-use Rattle.machine_load.specs.LoadFault.{IsDrivingFault, IsLoadFault, gone}
+use Rattle.machine_load.specs.LoadFault.{IsBeginningFault, IsLoadFault, gone}
 use Rattle.machine_load.specs.Parts.{IsDrivenBehind, IsKeptBehind, course, held}
 use Rattle.machine_load.specs.RecordDisk.{DiskAsked, disk_asked_before}
 use Rattle.machine_load.specs.Scene.{around_of, gone_of, keeper_of, scene, tells_of}
 use Rattle.host_devices.specs.Told.{Gains}
 use Rattle.machine_load.proofs.Driving.{free, hindered}
-use Rattle.machine_load.proofs.Faults.{of_driving, error_is, not_loaded}
+use Rattle.machine_load.proofs.Faults.{of_beginning, error_is, not_loaded}
 use Rattle.machine_load.proofs.OnDisk.{not_begun_on}
 use Rattle.machine_load.proofs.Loads.{answered, answered_in_vain, driven, over}
 use Rattle.machine_load.proofs.loading.load.Goals as goal
@@ -25,9 +25,9 @@ returns-in_err-lived-clause-err g c =
     (error_is c.from_residual-in_err-lived.result c.in_err-lived.field-0.0
     (IsLoadFault (IsDrivenOn keeper) asked (before.setting ⇒ after.setting))
     c.from_residual-in_err-lived.ensures.1
-    (of_driving (IsDrivenOn keeper) asked _ (around_of g.S.Surroundings c.first_life.new.around) _ _ _ _ _
+    (of_beginning (IsDrivenOn keeper) asked _ (around_of g.S.Surroundings c.first_life.new.around) _ _ _ _ _
     _ c.in_err-lived.field-0.0 c.in_ok-first.ensures.opened
-    (subst (λ lines. IsDrivingFault c.in_ok-first.writable c.in_ok-first.first (gone (around_of g.S.Surroundings c.first_life.new.around) lines ⇒ gone_of g.S.Surroundings c.begin.new.around) c.in_err-lived.field-0.0)
+    (subst (λ lines. IsBeginningFault c.in_ok-first.writable c.in_ok-first.first (gone (around_of g.S.Surroundings c.first_life.new.around) lines ⇒ gone_of g.S.Surroundings c.begin.new.around) c.in_err-lived.field-0.0)
     c.first_life.ensures.lines c.in_err-lived.ensures.fault)))
     (search rules)
     (error_is c.from_residual-in_err-lived.result c.in_err-lived.field-0.0

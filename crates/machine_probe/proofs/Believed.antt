@@ -36,8 +36,8 @@ use Rattle.looking_law.proofs.Told.{told_honest}
 use Rattle.machine_probe.specs.declared.probe_options.ProbeOptions.{ProbeOptions}
 use Rattle.machine_probe.specs.Belief.{AreBelievable}
 use Rattle.machine_probe.specs.Came.{extent_of, first_of, sighting_of}
-use Rattle.machine_probe.specs.Follow.{IsProbe, Made, forgets, goes_on, is_number, number_in, stores}
-use Rattle.machine_probe.specs.Runs.{LooksAt, IsSearch, IsTrialOf, One}
+use Rattle.machine_probe.specs.Follow.{IsProbe, IsTried, MadeWhere, forgets, goes_on, is_number, number_in, stores}
+use Rattle.machine_probe.specs.Runs.{LooksAt, IsSearch, IsTrialOf}
 
 -- ---- what was said is a dialogue, perhaps without its last key
 
@@ -76,28 +76,38 @@ is_first (Ended (NoWord address)) values number is = absurd (cc is)
 is_first TurnsOver values number is = absurd (cc is)
 is_first (LineFailed fault) values number is = absurd (cc is)
 
-look_right : (options : ProbeOptions) (sighting : Sighting) (said : List Item) (machine now : Machine) (lost : ℕ) → IsAddress options.address → options.patience < 2 ^ 32 → LooksAt options sighting said →
-    IsReadyMachine machine → IsHonest machine said lost now → Leaves machine now × ((number : ℕ) → sighting ≡ look.Number number → number ≡ word_at machine.memory options.address)
-look_right options sighting said machine now lost address long l ready honest =
+-- what a look leaves
+record LookLeaves (options : ProbeOptions) (found : Option Sighting) (machine now : Machine) : Type 0 where
+  pub ready : IsReadyMachine now
+  pub memory : now.memory ≡ machine.memory
+  pub number : (number : ℕ) → found ≡ Some (look.Number number) → number ≡ word_at machine.memory options.address
+
+look_right : (options : ProbeOptions) (sighting : Sighting) (parts : List (List Item)) (machine now : Machine) (lost : ℕ) → IsAddress options.address → options.patience < 2 ^ 32 →
+    (l : LooksAt options sighting parts) → IsReadyMachine machine → IsHonest machine l.said lost now → LookLeaves options (Some sighting) machine now
+look_right options sighting parts machine now lost address long l ready honest =
     let s = l.inquired in
     let run : Run = Look (options.address ∷ []) options.patience s.heard in
-    let front : IsToldOf (dialogue_of run) said = subst (IsToldOf (dialogue_of run)) (sym s.on_line) (told_look l.stop _ (dialogue_of run) s.said s.items) in
-    let h : IsHarmless machine run lost now = run_harmless run machine now lost ready (one_address options.address address, long) (told_honest (dialogue_of run) said machine now lost front honest) in (
-      record { ready = h.ready; memory = h.memory },
-      λ number is.
-          let first = is_first l.stop l.last.values number (sym is ∙ l.sighting_is) in
+    let front : IsToldOf (dialogue_of run) l.said = subst (IsToldOf (dialogue_of run)) (sym s.on_line) (told_look l.stop _ (dialogue_of run) s.said s.items) in
+    let h : IsHarmless machine run lost now = run_harmless run machine now lost ready (one_address options.address address, long) (told_honest (dialogue_of run) l.said machine now lost front honest) in record {
+      ready = h.ready;
+      memory = h.memory;
+      number = λ number is.
+          let first = is_first l.stop l.last.values number (sym (same is) ∙ l.sighting_is) in
           let values : l.last.values ≡ (led (looker options.address options.patience) s.heard).values = ap (λ (r : Reader). r.values) s.host in
           let holds = h.learned.read.holds 0 (subst (λ (list : List ℕ). 0 < length list) values first.0) in
-          sym first.1 ∙ ap (λ (list : List ℕ). get_or list 0 0) values ∙ holds ∙ ap (λ (list : List ℕ). word_at machine.memory (get_or list 0 0)) (led_addresses (looker options.address options.patience) s.heard),
-    )
+          sym first.1 ∙ ap (λ (list : List ℕ). get_or list 0 0) values ∙ holds ∙ ap (λ (list : List ℕ). word_at machine.memory (get_or list 0 0)) (led_addresses (looker options.address options.patience) s.heard);
+    }
+  where
+    same : {a b : Sighting} → Some a ≡ Some b → a ≡ b
+    same e = cc e
 
-trial_leaves : (options : ProbeOptions) (old : ℕ) (attempt : Attempt) (said : List Item) (machine now : Machine) (lost : ℕ) → IsAddress options.address → options.patience < 2 ^ 32 → IsTrialOf options old attempt said →
-    IsReadyMachine machine → IsHonest machine said lost now → Leaves machine now
-trial_leaves options old attempt said machine now lost address long t ready honest =
+trial_leaves : (options : ProbeOptions) (old : ℕ) (attempt : Attempt) (parts : List (List Item)) (machine now : Machine) (lost : ℕ) → IsAddress options.address → options.patience < 2 ^ 32 →
+    (t : IsTrialOf options old attempt parts) → IsReadyMachine machine → IsHonest machine t.said lost now → Leaves machine now
+trial_leaves options old attempt parts machine now lost address long t ready honest =
     let s = t.conducted in
     let run : Run = Try options.address old options.patience s.heard in
-    let front : IsToldOf (dialogue_of run) said = subst (IsToldOf (dialogue_of run)) (sym s.on_line) (told_trial t.stop _ (dialogue_of run) s.said s.items) in
-    let h : IsHarmless machine run lost now = run_harmless run machine now lost ready (address, long) (told_honest (dialogue_of run) said machine now lost front honest) in
+    let front : IsToldOf (dialogue_of run) t.said = subst (IsToldOf (dialogue_of run)) (sym s.on_line) (told_trial t.stop _ (dialogue_of run) s.said s.items) in
+    let h : IsHarmless machine run lost now = run_harmless run machine now lost ready (address, long) (told_honest (dialogue_of run) t.said machine now lost front honest) in
     record { ready = h.ready; memory = h.memory }
 
 -- ---- rows
@@ -113,43 +123,45 @@ none_leaves : (machine now : Machine) (parts : List (List Item)) (lost : ℕ) �
 none_leaves machine now [] lost is ready honest = record { ready = subst IsReadyMachine (sym honest.0) ready; memory = ap (λ (m : Machine). m.memory) honest.0 }
 none_leaves machine now (said ∷ parts) lost is ready honest = absurd (cc is)
 
-same_now : (machine b now : Machine) → Leaves machine b → now ≡ b → Leaves machine now
-same_now machine b now l is = subst (Leaves machine) (sym is) l
+-- a row of one part
+record IsOnePart (machine now : Machine) (said : List Item) : Type 0 where
+  pub lost : ℕ
+  pub honest : IsHonest machine said lost now
 
-row_look : (options : ProbeOptions) (sighting : Sighting) (parts : List (List Item)) (machine now : Machine) (lost : ℕ) → IsAddress options.address → options.patience < 2 ^ 32 → One (LooksAt options sighting) parts →
-    IsReadyMachine machine → AreHonest machine parts lost now → Leaves machine now × ((number : ℕ) → sighting ≡ look.Number number → number ≡ word_at machine.memory options.address)
-row_look options sighting [] machine now lost address long is ready honest = absurd is
-row_look options sighting (said ∷ []) machine now lost address long is ready (between, first, later, here, there, all) =
-    let r = look_right options sighting said machine between first address long is ready here in
-    (same_now machine between now r.0 there.0, r.1)
-row_look options sighting (said ∷ (more ∷ parts)) machine now lost address long is ready honest = absurd is
+one_part : (machine now : Machine) (parts : List (List Item)) (said : List Item) (lost : ℕ) → parts ≡ said ∷ [] → AreHonest machine parts lost now → IsOnePart machine now said
+one_part machine now parts said lost is honest = alone (subst (λ list. AreHonest machine list lost now) is honest)
+  where
+    alone : AreHonest machine (said ∷ []) lost now → IsOnePart machine now said
+    alone (between, first, later, here, there, all) = record { lost = first; honest = subst (λ (m : Machine). IsHonest machine said first m) (sym there.0) here }
 
-row_trial : (options : ProbeOptions) (old : ℕ) (attempt : Attempt) (parts : List (List Item)) (machine now : Machine) (lost : ℕ) → IsAddress options.address → options.patience < 2 ^ 32 → One (IsTrialOf options old attempt) parts →
+row_look : (options : ProbeOptions) (sighting : Sighting) (parts : List (List Item)) (machine now : Machine) (lost : ℕ) → IsAddress options.address → options.patience < 2 ^ 32 → LooksAt options sighting parts →
+    IsReadyMachine machine → AreHonest machine parts lost now → LookLeaves options (Some sighting) machine now
+row_look options sighting parts machine now lost address long l ready honest =
+    let one = one_part machine now parts l.said lost l.part honest in look_right options sighting parts machine now one.lost address long l ready one.honest
+
+row_trial : (options : ProbeOptions) (old : ℕ) (attempt : Attempt) (parts : List (List Item)) (machine now : Machine) (lost : ℕ) → IsAddress options.address → options.patience < 2 ^ 32 → IsTrialOf options old attempt parts →
     IsReadyMachine machine → AreHonest machine parts lost now → Leaves machine now
-row_trial options old attempt [] machine now lost address long is ready honest = absurd is
-row_trial options old attempt (said ∷ []) machine now lost address long is ready (between, first, later, here, there, all) =
-    same_now machine between now (trial_leaves options old attempt said machine between first address long is ready here) there.0
-row_trial options old attempt (said ∷ (more ∷ parts)) machine now lost address long is ready honest = absurd is
+row_trial options old attempt parts machine now lost address long t ready honest =
+    let one = one_part machine now parts t.said lost t.part honest in trial_leaves options old attempt parts machine now one.lost address long t ready one.honest
 
 -- ---- runs that were made, or not
 
 made_trial : (options : ProbeOptions) (wanted : Bool) (old : ℕ) (found : Option Attempt) (parts : List (List Item)) (machine now : Machine) (lost : ℕ) → IsAddress options.address → options.patience < 2 ^ 32 →
-    Made wanted (λ attempt. One (IsTrialOf options old attempt)) found parts → IsReadyMachine machine → AreHonest machine parts lost now → Leaves machine now
+    MadeWhere wanted (IsTrialOf options old) found parts → IsReadyMachine machine → AreHonest machine parts lost now → Leaves machine now
 made_trial options true old None parts machine now lost address long is ready honest = absurd is
 made_trial options true old (Some attempt) parts machine now lost address long is ready honest = row_trial options old attempt parts machine now lost address long is ready honest
 made_trial options false old None parts machine now lost address long is ready honest = none_leaves machine now parts lost is ready honest
 made_trial options false old (Some attempt) parts machine now lost address long is ready honest = absurd is
 
 made_look : (options : ProbeOptions) (wanted : Bool) (found : Option Sighting) (parts : List (List Item)) (machine now : Machine) (lost : ℕ) → IsAddress options.address → options.patience < 2 ^ 32 →
-    Made wanted (λ sighting. One (LooksAt options sighting)) found parts → IsReadyMachine machine → AreHonest machine parts lost now →
-    Leaves machine now × ((number : ℕ) → found ≡ Some (look.Number number) → number ≡ word_at machine.memory options.address)
+    MadeWhere wanted (LooksAt options) found parts → IsReadyMachine machine → AreHonest machine parts lost now → LookLeaves options found machine now
 made_look options true None parts machine now lost address long is ready honest = absurd is
-made_look options true (Some sighting) parts machine now lost address long is ready honest =
-    let r = row_look options sighting parts machine now lost address long is ready honest in (r.0, λ number same. r.1 number (cc same))
-made_look options false None parts machine now lost address long is ready honest = (none_leaves machine now parts lost is ready honest, λ number same. absurd (cc same))
+made_look options true (Some sighting) parts machine now lost address long is ready honest = row_look options sighting parts machine now lost address long is ready honest
+made_look options false None parts machine now lost address long is ready honest =
+    let l = none_leaves machine now parts lost is ready honest in record { ready = l.ready; memory = l.memory; number = λ number same. absurd (cc same) }
 made_look options false (Some sighting) parts machine now lost address long is ready honest = absurd is
 
-unmade : {A : Type 0} (wanted : Bool) (run : A → List (List Item) → Type 0) (found : Option A) (parts : List (List Item)) → wanted ≡ false → Made wanted run found parts → (found ≡ None) × (parts ≡ [])
+unmade : {A : Type 0} (wanted : Bool) (run : A → List (List Item) → Type 0) (found : Option A) (parts : List (List Item)) → wanted ≡ false → MadeWhere wanted run found parts → (found ≡ None) × (parts ≡ [])
 unmade {A} true run found parts off is = absurd (cc off)
 unmade {A} false run None parts off is = (refl, is)
 unmade {A} false run (Some thing) parts off is = absurd is
@@ -161,7 +173,7 @@ end_right (search.Stopped (Ended end)) memory patience lost top right is = absur
 end_right (search.Stopped TurnsOver) memory patience lost top right is = absurd (cc is)
 end_right (search.Stopped (LineFailed fault)) memory patience lost top right is = absurd (cc is)
 
-made_search : (options : ProbeOptions) (wanted : Bool) (found : Option Extent) (parts : List (List Item)) (machine now : Machine) (lost : ℕ) → Made wanted (IsSearch options) found parts → IsReadyMachine machine →
+made_search : (options : ProbeOptions) (wanted : Bool) (found : Option Extent) (parts : List (List Item)) (machine now : Machine) (lost : ℕ) → MadeWhere wanted (IsSearch options) found parts → IsReadyMachine machine →
     AreHonest machine parts lost now → (now.memory ≡ machine.memory) × ((top : ℕ) → found ≡ Some (extent.Top top) → top_of machine.memory ≡ top)
 made_search options true None parts machine now lost is ready honest = absurd is
 made_search options true (Some given) parts machine now lost is ready honest =
@@ -198,28 +210,42 @@ never_stores word (look.LineFailed fault) attempt second h k = refl
 
 -- ---- all of it
 
+-- what a probe leaves before it decides
+record TriesLeave (options : ProbeOptions) (f : Findings) (machine now : Machine) : Type 0 where
+  pub leaves : Leaves machine now
+  pub first : (number : ℕ) → f.first ≡ look.Number number → number ≡ word_at machine.memory options.address
+  pub second : (number : ℕ) → f.second ≡ Some (look.Number number) → number ≡ word_at machine.memory options.address
+
+tries_leave : (options : ProbeOptions) (f : Findings) (parts : List (List Item)) (machine now : Machine) (lost : ℕ) → IsAddress options.address → options.patience < 2 ^ 32 → IsTried options f parts →
+    IsReadyMachine machine → AreHonest machine parts lost now → TriesLeave options f machine now
+tries_leave options f parts machine now lost address long t ready all =
+    let s1 = split machine now t.in_look (t.in_trial ++ t.in_second_look) lost (subst (λ list. AreHonest machine list lost now) t.parts_are all) in
+    let s2 = split s1.0 now t.in_trial t.in_second_look s1.2 s1.4 in
+    let r1 = row_look options f.first t.in_look machine s1.0 s1.1 address long t.look ready s1.3 in
+    let r2 = made_trial options (is_number f.first) (number_in f.first) f.trial t.in_trial s1.0 s2.0 s2.1 address long t.trial r1.ready s2.3 in
+    let m2 : s2.0.memory ≡ machine.memory = r2.memory ∙ r1.memory in
+    let r3 = made_look options (goes_on f.trial) f.second t.in_second_look s2.0 now s2.2 address long t.second_look r2.ready s2.4 in
+    record {
+      leaves = record { ready = r3.ready; memory = r3.memory ∙ m2 };
+      first = λ number is. r1.number number (ap Some is);
+      second = λ number is. r3.number number is ∙ ap (λ memory. word_at memory options.address) m2;
+    }
+
 pub believes : (options : ProbeOptions) (f : Findings) (parts : List (List Item)) → IsAddress options.address → options.patience < 2 ^ 32 → IsProbe options f parts → AreBelievable f parts
 believes options f parts address long p machine now lost ready all =
-    let s1 = split machine now p.in_first (p.in_trial ++ (p.in_second ++ (p.in_deposit ++ p.in_search))) lost (subst (λ list. AreHonest machine list lost now) p.parts_are all) in
-    let s2 = split s1.0 now p.in_trial (p.in_second ++ (p.in_deposit ++ p.in_search)) s1.2 s1.4 in
-    let s3 = split s2.0 now p.in_second (p.in_deposit ++ p.in_search) s2.2 s2.4 in
-    let s4 = split s3.0 now p.in_deposit p.in_search s3.2 s3.4 in
-    let r1 = row_look options f.first p.in_first machine s1.0 s1.1 address long p.looked ready s1.3 in
-    let r2 = made_trial options (is_number f.first) (number_in f.first) f.trial p.in_trial s1.0 s2.0 s2.1 address long p.tried r1.0.ready s2.3 in
-    let m2 : s2.0.memory ≡ machine.memory = r2.memory ∙ r1.0.memory in
-    let r3 = made_look options (goes_on f.trial) f.second p.in_second s2.0 s3.0 s3.1 address long p.looked_again r2.ready s3.3 in
-    let second : (number : ℕ) → f.second ≡ Some (look.Number number) → number ≡ word_at machine.memory options.address =
-    λ number is. r3.1 number is ∙ ap (λ memory. word_at memory options.address) m2 in
-    let off : stores (verdict_of f) ≡ false = never_stores (word_at machine.memory options.address) f.first f.trial f.second r1.1 second in
-    let r4 = unmade (stores (verdict_of f)) _ f.put_back p.in_deposit off p.deposited in
-    let l4 = none_leaves s3.0 s4.0 p.in_deposit s4.1 r4.1 r3.0.ready s4.3 in
-    let m4 : s4.0.memory ≡ machine.memory = l4.memory ∙ (r3.0.memory ∙ m2) in
-    let r5 = made_search options (forgets (verdict_of f)) f.search p.in_search s4.0 now s4.2 p.searched l4.ready s4.4 in
+    let s1 = split machine now p.in_tries (p.in_deposit ++ p.in_search) lost (subst (λ list. AreHonest machine list lost now) p.parts_are all) in
+    let s2 = split s1.0 now p.in_deposit p.in_search s1.2 s1.4 in
+    let t = tries_leave options f p.in_tries machine s1.0 s1.1 address long p.tried ready s1.3 in
+    let off : stores (verdict_of f) ≡ false = never_stores (word_at machine.memory options.address) f.first f.trial f.second t.first t.second in
+    let none = unmade (stores (verdict_of f)) _ f.put_back p.in_deposit off p.deposit in
+    let l = none_leaves s1.0 s2.0 p.in_deposit s2.1 none.1 t.leaves.ready s2.3 in
+    let same : s2.0.memory ≡ machine.memory = l.memory ∙ t.leaves.memory in
+    let r = made_search options (forgets (verdict_of f)) f.search p.in_search s2.0 now s2.2 p.search l.ready s2.4 in
     let here : (number : ℕ) → number ≡ word_at machine.memory options.address → number ≡ word_at machine.memory f.address = λ number is. is ∙ ap (word_at machine.memory) (sym p.address) in
     record {
-      memory = r5.0 ∙ m4;
-      first = λ number is. here number (r1.1 number is);
-      second = λ number is. here number (second number is);
-      nothing_put_back = r4.0;
-      top = λ top is. ap top_of (sym m4) ∙ r5.1 top is;
+      memory = r.0 ∙ same;
+      first = λ number is. here number (t.first number is);
+      second = λ number is. here number (t.second number is);
+      nothing_put_back = none.0;
+      top = λ top is. ap top_of (sym same) ∙ r.1 top is;
     }

@@ -22,10 +22,10 @@ use Rattle.looking_law.specs.Again.{looker}
 use Rattle.machine_probe.specs.declared.probe_options.ProbeOptions.{ProbeOptions}
 use Rattle.machine_probe.specs.declared.putting_back.Deposit.{Deposit}
 use Rattle.machine_probe.specs.Came.{attempt_of, first_of, sighting_of}
-use Rattle.machine_probe.specs.Follow.{IsBrokenOff, IsProbe, Made, forgets, goes_on, is_number, number_in, stores}
+use Rattle.machine_probe.specs.Follow.{IsBrokenOff, IsProbe, IsTried, MadeWhere, forgets, goes_on, is_number, number_in, stores}
 use Rattle.machine_probe.specs.PuttingBack.{PutsBack}
 use Rattle.machine_probe.specs.Rooms.{HasDeposit}
-use Rattle.machine_probe.specs.Runs.{LooksAt, IsSearch, IsTrialOf, OnLine, One}
+use Rattle.machine_probe.specs.Runs.{LooksAt, IsSearch, IsTrialOf, OnLine}
 use Rattle.machine_probe.specs.Turns.{turns_of}
 
 -- ---- the hosts of the looks
@@ -46,16 +46,18 @@ one_between a = ap (addresses_from a) (count a) ∙ single a
 
 -- ---- one run
 
--- one run is a row of one part
-pub one : (run : List Item → Type 0) (line line' : Option (List Item)) (said : List Item) → run said → Gains line line' said → OnLine (One run) line line'
+-- a run of one part
+pub one : (run : List (List Item) → Type 0) (line line' : Option (List Item)) (said : List Item) → run (said ∷ []) → Gains line line' said → OnLine run line line'
 one run line line' said is gains = record { parts = said ∷ []; are = is; on_line = subst (Gains line line') (sym (append-nil said)) gains }
 
 -- what the engine of the looks answers is a look
 pub look_is : (options : ProbeOptions) (core last : Reader) (stop : LookStop) (turns : ℕ) (number : Option ℕ) (sighting : Sighting) (line line' : Option (List Item)) →
     core ≡ looker options.address options.patience → turns ≡ turns_of options.patience → Inquired turns (inquiry core last (Some stop)) line line' → TellsEnd stop (ended last.phase) →
-    number ≡ first_of last.values → sighting ≡ sighting_of stop number → OnLine (One (LooksAt options sighting)) line line'
+    number ≡ first_of last.values → sighting ≡ sighting_of stop number → OnLine (LooksAt options sighting) line line'
 look_is options core last stop turns number sighting line line' begins limit s end is came =
     one (LooksAt options sighting) line line' s.said (record {
+      said = s.said;
+      part = refl;
       stop = stop;
       last = last;
       inquired = subst (λ (n : ℕ). Inquired n (inquiry (looker options.address options.patience) last (Some stop)) (Some []) (Some s.said)) limit (subst (λ (r : Reader). Inquired turns (inquiry r last (Some stop)) (Some []) (Some s.said)) begins (record {
@@ -74,9 +76,11 @@ look_is options core last stop turns number sighting line line' begins limit s e
 -- what the engine of the trial answers is a trial
 pub trial_is : (options : ProbeOptions) (old : ℕ) (first last : Trial) (stop : TrialStop) (turns : ℕ) (attempt : Attempt) (line line' : Option (List Item)) →
     first ≡ begun_trial options.address old options.patience → turns ≡ turns_of options.patience → Conducted turns (trying first last (Some stop)) line line' → TellsEnd stop (trial_ended last.phase) →
-    attempt ≡ attempt_of last stop → OnLine (One (IsTrialOf options old attempt)) line line'
+    attempt ≡ attempt_of last stop → OnLine (IsTrialOf options old attempt) line line'
 trial_is options old first last stop turns attempt line line' begins limit s end came =
     one (IsTrialOf options old attempt) line line' s.said (record {
+      said = s.said;
+      part = refl;
       stop = stop;
       last = last;
       conducted = subst (λ (n : ℕ). Conducted n (trying (begun_trial options.address old options.patience) last (Some stop)) (Some []) (Some s.said)) limit (subst (λ (t : Trial). Conducted turns (trying t last (Some stop)) (Some []) (Some s.said)) begins (record {
@@ -94,11 +98,11 @@ trial_is options old first last stop turns attempt line line' begins limit s end
 
 -- ---- runs that are made, or not
 
-pub made : {A : Type 0} (wanted : Bool) (run : A → List (List Item) → Type 0) (found : A) (line line' : Option (List Item)) → wanted ≡ true → OnLine (run found) line line' → OnLine (Made wanted run (Some found)) line line'
+pub made : {A : Type 0} (wanted : Bool) (run : A → List (List Item) → Type 0) (found : A) (line line' : Option (List Item)) → wanted ≡ true → OnLine (run found) line line' → OnLine (MadeWhere wanted run (Some found)) line line'
 made {A} true run found line line' is s = record { parts = s.parts; are = s.are; on_line = s.on_line }
 made {A} false run found line line' is s = absurd (cc is)
 
-pub not_made : {A : Type 0} (wanted : Bool) (run : A → List (List Item) → Type 0) (line : Option (List Item)) → wanted ≡ false → OnLine (Made wanted run None) line line
+pub not_made : {A : Type 0} (wanted : Bool) (run : A → List (List Item) → Type 0) (line : Option (List Item)) → wanted ≡ false → OnLine (MadeWhere wanted run None) line line
 not_made {A} true run line is = absurd (cc is)
 not_made {A} false run line is = record { parts = []; are = refl; on_line = gains_none line }
 
@@ -133,37 +137,37 @@ row_append (said ∷ xs) ys = ap (λ rest. said ++ rest) (row_append xs ys) ∙ 
 rows_join : (a b c : Option (List Item)) (xs ys : List (List Item)) → Gains a b (in_a_row xs) → Gains b c (in_a_row ys) → Gains a c (in_a_row (xs ++ ys))
 rows_join a b c xs ys g h = subst (Gains a c) (sym (row_append xs ys)) (gains_join a b c (in_a_row xs) (in_a_row ys) g h)
 
-pub all_runs : (options : ProbeOptions) (f : Findings) (verdict : Verdict) (l0 l1 l2 l3 l4 l5 : Option (List Item)) → f.address ≡ options.address →
-    OnLine (One (LooksAt options f.first)) l0 l1 →
-    OnLine (Made (is_number f.first) (λ attempt. One (IsTrialOf options (number_in f.first) attempt)) f.trial) l1 l2 →
-    OnLine (Made (goes_on f.trial) (λ sighting. One (LooksAt options sighting)) f.second) l2 l3 →
-    OnLine (Made (stores (verdict_of f)) (λ is_back. One (PutsBack options (number_in f.first) is_back)) f.put_back) l3 l4 →
-    verdict ≡ verdict_of f → OnLine (Made (forgets verdict) (IsSearch options) f.search) l4 l5 →
+-- what a probe does before it decides
+pub three_runs : (options : ProbeOptions) (f : Findings) (l0 l1 l2 l3 : Option (List Item)) → OnLine (LooksAt options f.first) l0 l1 →
+    OnLine (MadeWhere (is_number f.first) (IsTrialOf options (number_in f.first)) f.trial) l1 l2 → OnLine (MadeWhere (goes_on f.trial) (LooksAt options) f.second) l2 l3 →
+    OnLine (IsTried options f) l0 l3
+three_runs options f l0 l1 l2 l3 a b c = record {
+  parts = a.parts ++ (b.parts ++ c.parts);
+  are = record { in_look = a.parts; in_trial = b.parts; in_second_look = c.parts; parts_are = refl; look = a.are; trial = b.are; second_look = c.are };
+  on_line = rows_join l0 l1 l3 a.parts (b.parts ++ c.parts) a.on_line (rows_join l1 l2 l3 b.parts c.parts b.on_line c.on_line);
+}
+
+pub all_runs : (options : ProbeOptions) (f : Findings) (verdict : Verdict) (l0 l3 l4 l5 : Option (List Item)) → f.address ≡ options.address → OnLine (IsTried options f) l0 l3 →
+    OnLine (MadeWhere (stores (verdict_of f)) (PutsBack options (number_in f.first)) f.put_back) l3 l4 → verdict ≡ verdict_of f → OnLine (MadeWhere (forgets verdict) (IsSearch options) f.search) l4 l5 →
     OnLine (IsProbe options f) l0 l5
-all_runs options f verdict l0 l1 l2 l3 l4 l5 address a b c d judged e = record {
-  parts = a.parts ++ (b.parts ++ (c.parts ++ (d.parts ++ e.parts)));
+all_runs options f verdict l0 l3 l4 l5 address a d judged e = record {
+  parts = a.parts ++ (d.parts ++ e.parts);
   are = record {
     address = address;
-    in_first = a.parts;
-    in_trial = b.parts;
-    in_second = c.parts;
+    in_tries = a.parts;
     in_deposit = d.parts;
     in_search = e.parts;
     parts_are = refl;
-    looked = a.are;
-    tried = b.are;
-    looked_again = c.are;
-    deposited = d.are;
-    searched = subst (λ (v : Verdict). Made (forgets v) (IsSearch options) f.search e.parts) judged e.are;
+    tried = a.are;
+    deposit = d.are;
+    search = subst (λ (v : Verdict). MadeWhere (forgets v) (IsSearch options) f.search e.parts) judged e.are;
   };
-  on_line = rows_join l0 l1 l5 a.parts (b.parts ++ (c.parts ++ (d.parts ++ e.parts))) a.on_line
-      (rows_join l1 l2 l5 b.parts (c.parts ++ (d.parts ++ e.parts)) b.on_line
-      (rows_join l2 l3 l5 c.parts (d.parts ++ e.parts) c.on_line (rows_join l3 l4 l5 d.parts e.parts d.on_line e.on_line)));
+  on_line = rows_join l0 l3 l5 a.parts (d.parts ++ e.parts) a.on_line (rows_join l3 l4 l5 d.parts e.parts d.on_line e.on_line);
 }
 
 -- a probe that was broken off before its search, for want of memory
 
-nothing_made : {A : Type 0} (wanted : Bool) (run : A → List (List Item) → Type 0) (found : Option A) (line line' : Option (List Item)) → wanted ≡ false → OnLine (Made wanted run found) line line' → Gains line line' []
+nothing_made : {A : Type 0} (wanted : Bool) (run : A → List (List Item) → Type 0) (found : Option A) (line line' : Option (List Item)) → wanted ≡ false → OnLine (MadeWhere wanted run found) line line' → Gains line line' []
 nothing_made {A} true run found line line' is o = absurd (cc is)
 nothing_made {A} false run None line line' is o = subst (λ (parts : List (List Item)). Gains line line' (in_a_row parts)) o.are o.on_line
 nothing_made {A} false run (Some made) line line' is o = absurd o.are
@@ -173,28 +177,14 @@ forgets_not_stores Forgets is = refl
 forgets_not_stores Stores is = absurd (cc is)
 forgets_not_stores Unknown is = absurd (cc is)
 
-pub unsearched : (options : ProbeOptions) (f : Findings) (put_back : Option Bool) (verdict : Verdict) (l0 l1 l2 l3 l4 l5 : Option (List Item)) →
-    OnLine (One (LooksAt options f.first)) l0 l1 →
-    OnLine (Made (is_number f.first) (λ attempt. One (IsTrialOf options (number_in f.first) attempt)) f.trial) l1 l2 →
-    OnLine (Made (goes_on f.trial) (λ sighting. One (LooksAt options sighting)) f.second) l2 l3 →
-    OnLine (Made (stores (verdict_of f)) (λ is_back. One (PutsBack options (number_in f.first) is_back)) put_back) l3 l4 →
-    verdict ≡ verdict_of f → forgets verdict ≡ true → SaysNothing l4 l5 → OnLine (IsBrokenOff options) l0 l5
-unsearched options f put_back verdict l0 l1 l2 l3 l4 l5 a b c d judged is kept =
+pub unsearched : (options : ProbeOptions) (f : Findings) (put_back : Option Bool) (verdict : Verdict) (l0 l3 l4 l5 : Option (List Item)) → OnLine (IsTried options f) l0 l3 →
+    OnLine (MadeWhere (stores (verdict_of f)) (PutsBack options (number_in f.first)) put_back) l3 l4 → verdict ≡ verdict_of f → forgets verdict ≡ true → SaysNothing l4 l5 →
+    OnLine (IsBrokenOff options) l0 l5
+unsearched options f put_back verdict l0 l3 l4 l5 a d judged is kept =
     let same = ap forgets (sym judged) ∙ is in
     let rest = gains_join l3 l4 l5 [] [] (nothing_made _ _ put_back l3 l4 (forgets_not_stores (verdict_of f) same) d) (gains_kept l4 l5 kept) in
     record {
-      parts = a.parts ++ (b.parts ++ c.parts);
-      are = inr (record {
-        f = f;
-        same = same;
-        in_first = a.parts;
-        in_trial = b.parts;
-        in_second = c.parts;
-        parts_are = refl;
-        looked = a.are;
-        tried = b.are;
-        looked_again = c.are;
-      });
-      on_line = rows_join l0 l1 l5 a.parts (b.parts ++ c.parts) a.on_line (rows_join l1 l2 l5 b.parts c.parts b.on_line
-          (subst (Gains l2 l5) (append-nil (in_a_row c.parts)) (gains_join l2 l3 l5 (in_a_row c.parts) [] c.on_line rest)));
+      parts = a.parts;
+      are = inr (record { f = f; tried = a.are; same = same });
+      on_line = subst (Gains l0 l5) (append-nil (in_a_row a.parts)) (gains_join l0 l3 l5 (in_a_row a.parts) [] a.on_line rest);
     }

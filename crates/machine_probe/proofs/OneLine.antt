@@ -44,9 +44,9 @@ use Rattle.looking_law.proofs.Splits.{lines_split}
 use Rattle.looking_law.proofs.Told.{both_begin, told_begins}
 use Rattle.machine_probe.specs.declared.probe_options.ProbeOptions.{ProbeOptions}
 use Rattle.machine_probe.specs.Belief.{AreBelievableOver}
-use Rattle.machine_probe.specs.Follow.{IsProbe, Made, forgets, goes_on, is_number, number_in, stores}
+use Rattle.machine_probe.specs.Follow.{IsProbe, IsTried, MadeWhere, forgets, goes_on, is_number, number_in, stores}
 use Rattle.machine_probe.specs.PuttingBack.{PutsBack}
-use Rattle.machine_probe.specs.Runs.{LooksAt, IsSearch, IsTrialOf, One}
+use Rattle.machine_probe.specs.Runs.{LooksAt, IsSearch, IsTrialOf}
 use Rattle.machine_probe.specs.Turns.{turns_of}
 use Rattle.machine_probe.proofs.Believed.{believes, one_address, told_look, told_trial}
 
@@ -103,24 +103,23 @@ hosts_all said (next ∷ parts) leaves all = (leaves, hosts_all next parts all.0
 
 -- ---- the runs
 
-look_leaves : (options : ProbeOptions) (sighting : Sighting) (said : List Item) → IsAddress options.address → options.patience < 2 ^ 32 → LooksAt options sighting said → LeavesReady said
-look_leaves options sighting said address long l =
+-- what leaves the machine ready as its one part does
+one_leaves : (parts : List (List Item)) (said : List Item) → parts ≡ said ∷ [] → LeavesReady said → AllLeave parts
+one_leaves parts said is leaves = subst AllLeave (sym is) (leaves, tt)
+
+look_leaves : (options : ProbeOptions) (sighting : Sighting) (parts : List (List Item)) → IsAddress options.address → options.patience < 2 ^ 32 → (l : LooksAt options sighting parts) → LeavesReady l.said
+look_leaves options sighting parts address long l =
     let s = l.inquired in
     let run : Run = Look (options.address ∷ []) options.patience s.heard in
-    leave_ready run said (one_address options.address address, long) (subst (IsToldOf (dialogue_of run)) (sym s.on_line) (told_look l.stop _ (dialogue_of run) s.said s.items))
+    leave_ready run l.said (one_address options.address address, long) (subst (IsToldOf (dialogue_of run)) (sym s.on_line) (told_look l.stop _ (dialogue_of run) s.said s.items))
 
-trial_leaves_ready : (options : ProbeOptions) (old : ℕ) (attempt : Attempt) (said : List Item) → IsAddress options.address → options.patience < 2 ^ 32 → IsTrialOf options old attempt said → LeavesReady said
-trial_leaves_ready options old attempt said address long t =
+trial_leaves_ready : (options : ProbeOptions) (old : ℕ) (attempt : Attempt) (parts : List (List Item)) → IsAddress options.address → options.patience < 2 ^ 32 → (t : IsTrialOf options old attempt parts) → LeavesReady t.said
+trial_leaves_ready options old attempt parts address long t =
     let s = t.conducted in
     let run : Run = Try options.address old options.patience s.heard in
-    leave_ready run said (address, long) (subst (IsToldOf (dialogue_of run)) (sym s.on_line) (told_trial t.stop _ (dialogue_of run) s.said s.items))
+    leave_ready run t.said (address, long) (subst (IsToldOf (dialogue_of run)) (sym s.on_line) (told_trial t.stop _ (dialogue_of run) s.said s.items))
 
-one_leaves : (run : List Item → Type 0) (parts : List (List Item)) → ((said : List Item) → run said → LeavesReady said) → One run parts → AllLeave parts
-one_leaves run [] so is = absurd is
-one_leaves run (said ∷ []) so is = (so said is, tt)
-one_leaves run (said ∷ (next ∷ parts)) so is = absurd is
-
-made_leave : {A : Type 0} (wanted : Bool) (run : A → List (List Item) → Type 0) (thing : Option A) (parts : List (List Item)) → ((a : A) → run a parts → AllLeave parts) → Made wanted run thing parts → AllLeave parts
+made_leave : {A : Type 0} (wanted : Bool) (run : A → List (List Item) → Type 0) (thing : Option A) (parts : List (List Item)) → ((a : A) → run a parts → AllLeave parts) → MadeWhere wanted run thing parts → AllLeave parts
 made_leave {A} true run None parts so is = absurd is
 made_leave {A} true run (Some a) parts so is = so a is
 made_leave {A} false run None parts so is = subst AllLeave (sym is) tt
@@ -139,11 +138,11 @@ told_load (load.KeepFailed fault) left all said lacks = inr lacks
 told_load (load.LineFailed fault) left all said (inl whole) = inl whole.0
 told_load (load.LineFailed fault) left all said (inr lacks) = inr lacks
 
-deposit_begins : (options : ProbeOptions) (old : ℕ) (is_back : Bool) (said : List Item) → PutsBack options old is_back said → BeginsByListening said
-deposit_begins options old is_back said p =
+deposit_begins : (options : ProbeOptions) (old : ℕ) (is_back : Bool) (parts : List (List Item)) → (p : PutsBack options old is_back parts) → BeginsByListening p.said
+deposit_begins options old is_back parts p =
     let s = p.session in
     let core : Core = begun_load p.plan 0 false options.patience in
-    told_begins (load_dialogue core s.heard) said (subst (IsToldOf (load_dialogue core s.heard)) (sym s.on_line) (told_load p.stop _ (load_dialogue core s.heard) s.said s.items)) (load_begins core s.heard)
+    told_begins (load_dialogue core s.heard) p.said (subst (IsToldOf (load_dialogue core s.heard)) (sym s.on_line) (told_load p.stop _ (load_dialogue core s.heard) s.said s.items)) (load_begins core s.heard)
 
 -- ---- the passes of the search
 
@@ -210,54 +209,47 @@ search_leaves limits search parts long is =
 
 -- ---- all of them
 
-one_hosts : (run : List Item → Type 0) (xs : List (List Item)) → ((said : List Item) → run said → BeginsByListening said) → One run xs → AreHosts (xs ++ [])
-one_hosts run [] so is = absurd is
-one_hosts run (said ∷ []) so is = so said is
-one_hosts run (said ∷ (next ∷ parts)) so is = absurd is
-
-one_then_all : (run : List Item → Type 0) (xs rest : List (List Item)) → ((said : List Item) → run said → LeavesReady said) → One run xs → AllLeave rest → AreHosts (xs ++ rest)
-one_then_all run [] rest so is all = absurd is
-one_then_all run (said ∷ []) rest so is all = hosts_all said rest (so said is) all
-one_then_all run (said ∷ (next ∷ parts)) rest so is all = absurd is
-
 -- behind the second look: the old number is put back or the end of memory is searched, and not both
 behind_second : (options : ProbeOptions) (verdict : Verdict) (old : ℕ) (put_back : Option Bool) (search : Option Extent) (xs ys : List (List Item)) →
-    Made (stores verdict) (λ is_back. One (PutsBack options old is_back)) put_back xs → Made (forgets verdict) (IsSearch options) search ys →
-    ((is_back : Bool) (said : List Item) → PutsBack options old is_back said → BeginsByListening said) → options.patience < 2 ^ 32 →
-    AllLeave (xs ++ ys) ⊎ AreHosts (xs ++ ys)
-behind_second options Stores old None search xs ys deposits searches begins long = absurd deposits
-behind_second options Stores old (Some is_back) None xs ys deposits searches begins long =
-    inr (subst (λ list. AreHosts (xs ++ list)) (sym searches) (one_hosts (PutsBack options old is_back) xs (begins is_back) deposits))
-behind_second options Stores old (Some is_back) (Some extent) xs ys deposits searches begins long = absurd searches
-behind_second options Forgets old None None xs ys deposits searches begins long = absurd searches
-behind_second options Forgets old None (Some extent) xs ys deposits searches begins long =
+    MadeWhere (stores verdict) (PutsBack options old) put_back xs → MadeWhere (forgets verdict) (IsSearch options) search ys → options.patience < 2 ^ 32 → AllLeave (xs ++ ys) ⊎ AreHosts (xs ++ ys)
+behind_second options Stores old None search xs ys deposits searches long = absurd deposits
+behind_second options Stores old (Some is_back) None xs ys deposits searches long =
+    inr (subst (λ list. AreHosts (list ++ ys)) (sym deposits.part) (subst (λ list. AreHosts (deposits.said ∷ list)) (sym searches) (deposit_begins options old is_back xs deposits)))
+behind_second options Stores old (Some is_back) (Some extent) xs ys deposits searches long = absurd searches
+behind_second options Forgets old None None xs ys deposits searches long = absurd searches
+behind_second options Forgets old None (Some extent) xs ys deposits searches long =
     inl (subst (λ list. AllLeave (list ++ ys)) (sym deposits) (search_leaves (limits options.patience (turns_of options.patience)) searches.search ys long searches.passes))
-behind_second options Forgets old (Some is_back) search xs ys deposits searches begins long = absurd deposits
-behind_second options Unknown old None None xs ys deposits searches begins long = inl (subst (λ list. AllLeave (list ++ ys)) (sym deposits) (subst AllLeave (sym searches) tt))
-behind_second options Unknown old None (Some extent) xs ys deposits searches begins long = absurd searches
-behind_second options Unknown old (Some is_back) search xs ys deposits searches begins long = absurd deposits
+behind_second options Forgets old (Some is_back) search xs ys deposits searches long = absurd deposits
+behind_second options Unknown old None None xs ys deposits searches long = inl (subst (λ list. AllLeave (list ++ ys)) (sym deposits) (subst AllLeave (sym searches) tt))
+behind_second options Unknown old None (Some extent) xs ys deposits searches long = absurd searches
+behind_second options Unknown old (Some is_back) search xs ys deposits searches long = absurd deposits
 
-hosts : (options : ProbeOptions) (f : Findings) (parts : List (List Item)) → IsAddress options.address → options.patience < 2 ^ 32 →
-    (p : IsProbe options f parts) → AllLeave (p.in_deposit ++ p.in_search) ⊎ AreHosts (p.in_deposit ++ p.in_search) → AreHosts (p.in_first ++ (p.in_trial ++ (p.in_second ++ (p.in_deposit ++ p.in_search))))
-hosts options f parts address long p (inl all) =
-    one_then_all (LooksAt options f.first) p.in_first (p.in_trial ++ (p.in_second ++ (p.in_deposit ++ p.in_search))) (λ said is. look_leaves options f.first said address long is) p.looked
-    (all_join p.in_trial (p.in_second ++ (p.in_deposit ++ p.in_search))
-    (made_leave (is_number f.first) _ f.trial p.in_trial (λ attempt is. one_leaves (IsTrialOf options (number_in f.first) attempt) p.in_trial (λ said made. trial_leaves_ready options (number_in f.first) attempt said address long made) is) p.tried)
-    (all_join p.in_second (p.in_deposit ++ p.in_search)
-    (made_leave (goes_on f.trial) _ f.second p.in_second (λ sighting is. one_leaves (LooksAt options sighting) p.in_second (λ said made. look_leaves options sighting said address long made) is) p.looked_again)
-    all))
-hosts options f parts address long p (inr are) =
-    hosts_behind p.in_first (p.in_trial ++ (p.in_second ++ (p.in_deposit ++ p.in_search))) (one_leaves (LooksAt options f.first) p.in_first (λ said made. look_leaves options f.first said address long made) p.looked)
-    (hosts_behind p.in_trial (p.in_second ++ (p.in_deposit ++ p.in_search))
-    (made_leave (is_number f.first) _ f.trial p.in_trial (λ attempt is. one_leaves (IsTrialOf options (number_in f.first) attempt) p.in_trial (λ said made. trial_leaves_ready options (number_in f.first) attempt said address long made) is) p.tried)
-    (hosts_behind p.in_second (p.in_deposit ++ p.in_search)
-    (made_leave (goes_on f.trial) _ f.second p.in_second (λ sighting is. one_leaves (LooksAt options sighting) p.in_second (λ said made. look_leaves options sighting said address long made) is) p.looked_again)
-    are))
+-- what a probe does before it decides: a look, and what leaves the machine ready, too
+record BeginsByLook (parts : List (List Item)) : Type 0 where
+  pub said : List Item
+  pub more : List (List Item)
+  pub parts_are : parts ≡ said ∷ more
+  pub leaves : LeavesReady said
+  pub all : AllLeave more
+
+tries_begin : (options : ProbeOptions) (f : Findings) (parts : List (List Item)) → IsAddress options.address → options.patience < 2 ^ 32 → IsTried options f parts → BeginsByLook parts
+tries_begin options f parts address long t = record {
+  said = t.look.said;
+  more = t.in_trial ++ t.in_second_look;
+  parts_are = t.parts_are ∙ ap (λ list. list ++ (t.in_trial ++ t.in_second_look)) t.look.part;
+  leaves = look_leaves options f.first t.in_look address long t.look;
+  all = all_join t.in_trial t.in_second_look
+      (made_leave (is_number f.first) _ f.trial t.in_trial (λ attempt is. one_leaves t.in_trial is.said is.part (trial_leaves_ready options (number_in f.first) attempt t.in_trial address long is)) t.trial)
+      (made_leave (goes_on f.trial) _ f.second t.in_second_look (λ sighting is. one_leaves t.in_second_look is.said is.part (look_leaves options sighting t.in_second_look address long is)) t.second_look);
+}
+
+hosts : (parts behind : List (List Item)) → BeginsByLook parts → AllLeave behind ⊎ AreHosts behind → AreHosts (parts ++ behind)
+hosts parts behind b (inl all) = subst (λ list. AreHosts (list ++ behind)) (sym b.parts_are) (hosts_all b.said (b.more ++ behind) b.leaves (all_join b.more behind b.all all))
+hosts parts behind b (inr are) = subst (λ list. AreHosts (list ++ behind)) (sym b.parts_are) (hosts_behind (b.said ∷ b.more) behind (b.leaves, b.all) are)
 
 pub believes_over : (options : ProbeOptions) (f : Findings) (parts : List (List Item)) → IsAddress options.address → options.patience < 2 ^ 32 →
     IsProbe options f parts → AreBelievableOver f parts
 believes_over options f parts address long p machine now lost ready honest =
-    let begins = deposit_begins options (number_in f.first) in
-    let behind = behind_second options (verdict_of f) (number_in f.first) f.put_back f.search p.in_deposit p.in_search p.deposited p.searched begins long in
-    believes options f parts address long p machine now lost ready
-    (row_of_line machine now parts lost ready (subst AreHosts (sym p.parts_are) (hosts options f parts address long p behind)) honest)
+    let behind = behind_second options (verdict_of f) (number_in f.first) f.put_back f.search p.in_deposit p.in_search p.deposit p.search long in
+    let are = hosts p.in_tries (p.in_deposit ++ p.in_search) (tries_begin options f p.in_tries address long p.tried) behind in
+    believes options f parts address long p machine now lost ready (row_of_line machine now parts lost ready (subst AreHosts (sym p.parts_are) are) honest)

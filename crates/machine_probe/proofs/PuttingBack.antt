@@ -24,7 +24,7 @@ use Rattle.load_engine.specs.Session.{Session, SessionTold, TellsEnd, session_to
 use Rattle.machine_probe.specs.declared.putting_back.Deposit.{Deposit}
 use Rattle.machine_probe.specs.declared.probe_options.ProbeOptions.{ProbeOptions}
 use Rattle.machine_probe.specs.PuttingBack.{HoldsAgain, IsDeposit, IsPlanOfWord, PutsBack, is_loaded}
-use Rattle.machine_probe.specs.Runs.{OnLine, One}
+use Rattle.machine_probe.specs.Runs.{OnLine}
 use Rattle.machine_probe.specs.Turns.{turns_of}
 use Rattle.machine_probe.proofs.Joins.{one}
 
@@ -117,9 +117,11 @@ told_alone turns stop core last before after session = record {
 
 put_by : (options : ProbeOptions) (old : ℕ) (plan : PlanValue) (last : Core) (stop : Stop) (line line' : Option (List Item)) (kept : List Kept) →
     IsPlanOfWord options.address old plan → IsHost (begun plan 0 false options.patience) → IsHost last → last.plan ≡ plan → TellsEnd stop last →
-    Session (turns_of options.patience) (driving (begun plan 0 false options.patience) last (Some stop)) (session_told line (Some [])) (session_told line' (Some kept)) → OnLine (One (PutsBack options old (is_loaded stop))) line line'
+    Session (turns_of options.patience) (driving (begun plan 0 false options.patience) last (Some stop)) (session_told line (Some [])) (session_told line' (Some kept)) → OnLine (PutsBack options old (is_loaded stop)) line line'
 put_by options old plan last stop line line' kept of first host same end session =
     one (PutsBack options old (is_loaded stop)) line line' session.said (record {
+      said = session.said;
+      part = refl;
       plan = plan;
       plan_is = of;
       last = last;
@@ -134,9 +136,9 @@ put_by options old plan last stop line line' kept of first host same end session
 pub put_back_by : (options : ProbeOptions) (deposit : Deposit) (turns : ℕ) (last : Core) (stop : Stop) (is_back : Bool) (line line' : Option (List Item)) (kept : List Kept) →
     IsHost last → last.plan ≡ deposit.core.plan → TellsEnd stop last → is_back ≡ is_loaded stop → turns ≡ turns_of options.patience →
     Session turns (driving deposit.core last (Some stop)) (session_told line (Some deposit.keeper.kept)) (session_told line' (Some kept)) →
-    (old : ℕ) → IsDeposit options old deposit → OnLine (One (PutsBack options old is_back)) line line'
+    (old : ℕ) → IsDeposit options old deposit → OnLine (PutsBack options old is_back) line line'
 put_back_by options deposit turns last stop is_back line line' kept host same end is limit session old of =
-    subst (λ back. OnLine (One (PutsBack options old back)) line line') (sym is)
+    subst (λ back. OnLine (PutsBack options old back) line line') (sym is)
     (put_by options old deposit.core.plan last stop line line' kept of.plan (subst IsHost of.begun_is of.host) host same end
     (subst (λ ks. Session (turns_of options.patience) (driving (begun deposit.core.plan 0 false options.patience) last (Some stop)) (session_told line (Some ks)) (session_told line' (Some kept))) of.empty
     (subst (λ (core : Core). Session (turns_of options.patience) (driving core last (Some stop)) (session_told line (Some deposit.keeper.kept)) (session_told line' (Some kept))) of.begun_is

@@ -12,7 +12,7 @@ use Rattle.probe_report.specs.declared.judging.Verdict.TheVariants.{Forgets, Sto
 use Rattle.probe_report.specs.Judging.{verdict_of}
 use Rattle.machine_probe.specs.declared.probe_options.ProbeOptions.{ProbeOptions}
 use Rattle.machine_probe.specs.PuttingBack.{PutsBack}
-use Rattle.machine_probe.specs.Runs.{LooksAt, IsSearch, IsTrialOf, One}
+use Rattle.machine_probe.specs.Runs.{LooksAt, IsSearch, IsTrialOf}
 
 -- the look read a number
 abbrev pub is_number : Sighting → Bool
@@ -44,42 +44,41 @@ abbrev pub forgets : Verdict → Bool
 forgets Forgets = true
 forgets verdict = false
 
--- a run was made exactly where it is wanted, gave this, and these are its parts
-abbrev pub Made : {A : Type 0} → Bool → (A → List (List Item) → Type 0) → Option A → List (List Item) → Type 0
-Made {A} true run None parts = ⊥
-Made {A} true run (Some found) parts = run found parts
-Made {A} false run None parts = parts ≡ []
-Made {A} false run (Some found) parts = ⊥
+-- a run was made exactly where it is wanted, and gave this; where it was not made, nothing was said
+abbrev pub MadeWhere : {A : Type 0} → Bool → (A → List (List Item) → Type 0) → Option A → List (List Item) → Type 0
+MadeWhere {A} true run (Some found) parts = run found parts
+MadeWhere {A} false run None parts = parts ≡ []
+MadeWhere {A} wanted run found parts = ⊥
 
--- the runs of a probe gave these findings, with what was said in each of them: a look, a trial where it read the word, a second look
--- behind every trial whose line goes on, and then the old number is put back where the console stored another, or memory's end is
--- searched where it forgets
+-- what a probe does before it decides gave these findings: a look, a trial where that read a number, and a second look behind every trial whose
+-- line goes on
+pub record IsTried (options : ProbeOptions) (f : Findings) (parts : List (List Item)) : Type 0 where
+  pub in_look : List (List Item)
+  pub in_trial : List (List Item)
+  pub in_second_look : List (List Item)
+  pub parts_are : parts ≡ in_look ++ (in_trial ++ in_second_look)
+  pub look : LooksAt options f.first in_look
+  pub trial : MadeWhere (is_number f.first) (IsTrialOf options (number_in f.first)) f.trial in_trial
+  pub second_look : MadeWhere (goes_on f.trial) (LooksAt options) f.second in_second_look
+
+-- the runs of a probe gave these findings: behind that the old number is put back where the console stored another, or memory's end is searched
+-- where it forgets
 pub record IsProbe (options : ProbeOptions) (f : Findings) (parts : List (List Item)) : Type 0 where
   pub address : f.address ≡ options.address
-  pub in_first : List (List Item)
-  pub in_trial : List (List Item)
-  pub in_second : List (List Item)
+  pub in_tries : List (List Item)
   pub in_deposit : List (List Item)
   pub in_search : List (List Item)
-  pub parts_are : parts ≡ in_first ++ (in_trial ++ (in_second ++ (in_deposit ++ in_search)))
-  pub looked : One (LooksAt options f.first) in_first
-  pub tried : Made (is_number f.first) (λ attempt. One (IsTrialOf options (number_in f.first) attempt)) f.trial in_trial
-  pub looked_again : Made (goes_on f.trial) (λ sighting. One (LooksAt options sighting)) f.second in_second
-  pub deposited : Made (stores (verdict_of f)) (λ is_back. One (PutsBack options (number_in f.first) is_back)) f.put_back in_deposit
-  pub searched : Made (forgets (verdict_of f)) (IsSearch options) f.search in_search
+  pub parts_are : parts ≡ in_tries ++ (in_deposit ++ in_search)
+  pub tried : IsTried options f in_tries
+  pub deposit : MadeWhere (stores (verdict_of f)) (PutsBack options (number_in f.first)) f.put_back in_deposit
+  pub search : MadeWhere (forgets (verdict_of f)) (IsSearch options) f.search in_search
 
--- a probe that found the same number again, and did not search memory's end
+-- a probe found the same number again, and did not search memory's end
 pub record IsUnsearched (options : ProbeOptions) (parts : List (List Item)) : Type 0 where
   pub f : Findings
+  pub tried : IsTried options f parts
   pub same : forgets (verdict_of f) ≡ true
-  pub in_first : List (List Item)
-  pub in_trial : List (List Item)
-  pub in_second : List (List Item)
-  pub parts_are : parts ≡ in_first ++ (in_trial ++ in_second)
-  pub looked : One (LooksAt options f.first) in_first
-  pub tried : Made (is_number f.first) (λ attempt. One (IsTrialOf options (number_in f.first) attempt)) f.trial in_trial
-  pub looked_again : Made (goes_on f.trial) (λ sighting. One (LooksAt options sighting)) f.second in_second
 
 -- where a probe may be broken off: behind its first look, with no digit typed, or behind a second look that read the same number
 abbrev pub IsBrokenOff : ProbeOptions → List (List Item) → Type 0
-IsBrokenOff options parts = ((sighting : Sighting) × One (LooksAt options sighting) parts) ⊎ IsUnsearched options parts
+IsBrokenOff options parts = ((sighting : Sighting) × LooksAt options sighting parts) ⊎ IsUnsearched options parts

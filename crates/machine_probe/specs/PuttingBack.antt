@@ -41,8 +41,10 @@ HoldsAgain address old said =
     (machine now : Machine) (lost : ℕ) → IsReadyMachine machine → IsHonest machine said lost now →
     (is_word now.memory address ≡ true) × (word_at now.memory address ≡ old)
 
--- this was said by a host that loaded this number into the word; and whether it came to its end
-pub record PutsBack (options : ProbeOptions) (old : ℕ) (is_back : Bool) (said : List Item) : Type 0 where
+-- a host loaded this number into the word, with what was said in the one part of that; and whether it came to its end
+pub record PutsBack (options : ProbeOptions) (old : ℕ) (is_back : Bool) (parts : List (List Item)) : Type 0 where
+  pub said : List Item
+  pub part : parts ≡ said ∷ []
   pub plan : PlanValue
   pub plan_is : IsPlanOfWord options.address old plan
   pub last : Core

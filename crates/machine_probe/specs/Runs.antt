@@ -1,4 +1,4 @@
--- The runs of a probe: each with what was said in it.
+-- The runs of a probe: each with what was said in its parts. All but a search have one part.
 use Rattle.std.specs.Prelude.{◌≡◌, ℕ, List, [], ◌∷◌, Option, Some}
 use Rattle.host_devices.specs.declared.item.Item.{Item}
 use Rattle.host_devices.specs.Told.{Gains}
@@ -20,36 +20,34 @@ use Rattle.machine_probe.specs.declared.probe_options.ProbeOptions.{ProbeOptions
 use Rattle.machine_probe.specs.Came.{attempt_of, extent_of, first_of, sighting_of}
 use Rattle.machine_probe.specs.Turns.{turns_of}
 
--- a look at the word gave this, with what was said
-pub record LooksAt (options : ProbeOptions) (sighting : Sighting) (said : List Item) : Type 0 where
+-- a look at the word gave this
+pub record LooksAt (options : ProbeOptions) (sighting : Sighting) (parts : List (List Item)) : Type 0 where
+  pub said : List Item
+  pub part : parts ≡ said ∷ []
   pub stop : LookStop
   pub last : Reader
   pub inquired : Inquired (turns_of options.patience) (inquiry (looker options.address options.patience) last (Some stop)) (Some []) (Some said)
   pub end : TellsEnd stop (ended last.phase)
   pub sighting_is : sighting ≡ sighting_of stop (first_of last.values)
 
--- a trial of the word, which holds this number, gave this, with what was said
-pub record IsTrialOf (options : ProbeOptions) (old : ℕ) (attempt : Attempt) (said : List Item) : Type 0 where
+-- a trial of the word, which holds this number, gave this
+pub record IsTrialOf (options : ProbeOptions) (old : ℕ) (attempt : Attempt) (parts : List (List Item)) : Type 0 where
+  pub said : List Item
+  pub part : parts ≡ said ∷ []
   pub stop : TrialStop
   pub last : Trial
   pub conducted : Conducted (turns_of options.patience) (trying (begun_trial options.address old options.patience) last (Some stop)) (Some []) (Some said)
   pub end : TellsEnd stop (trial_ended last.phase)
   pub attempt_is : attempt ≡ attempt_of last stop
 
--- a search of memory's end gave this, with what was said in each of its passes
+-- a search of memory's end gave this, a part for each of its passes
 pub record IsSearch (options : ProbeOptions) (extent : Extent) (parts : List (List Item)) : Type 0 where
   pub search : Search
   pub passes : Searches three_passes (ahead (limits options.patience (turns_of options.patience)) 0) search parts
   pub extent_is : extent ≡ extent_of search
   pub found : IsFound options.patience search parts
 
--- what was said is that of one such run
-abbrev pub One : (List Item → Type 0) → List (List Item) → Type 0
-One run [] = ⊥
-One run (said ∷ []) = run said
-One run (said ∷ (more ∷ parts)) = ⊥
-
--- runs with what was said in each, with what the line told before and tells after
+-- runs were made over a line that told this and then that: it gained what was said in their parts
 pub record OnLine (runs : List (List Item) → Type 0) (line line' : Option (List Item)) : Type 0 where
   pub parts : List (List Item)
   pub are : runs parts

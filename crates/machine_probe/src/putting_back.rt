@@ -2,7 +2,7 @@
 ghost use Rattle.std.specs.Prelude.{◌≡◌, ℕ, IfOk};
 ghost use Rattle.reading_core.specs.Addresses.{IsAddress};
 ghost use Rattle.machine_probe.specs.PuttingBack.{IsDeposit, IsPlanOfWord, PutsBack, is_loaded};
-ghost use Rattle.machine_probe.specs.Runs.{OnLine, One};
+ghost use Rattle.machine_probe.specs.Runs.{OnLine};
 
 use crate::probe_options::ProbeOptions;
 use host_core::{End, HostCore, Progress};
@@ -50,7 +50,7 @@ impl Deposit {
 /// Makes the load over a line, and answers whether it came to its end: the word was read back and holds
 /// the old number again. It takes no memory.
 pub(crate) fn put_back<L: Line>(deposit: Deposit, options: ProbeOptions, line: &mut L) -> bool
-    ensures { (old : ℕ) → IsDeposit options old deposit → OnLine (One (PutsBack options old result)) (L.told line.old) (L.told line.new) }
+    ensures { (old : ℕ) → IsDeposit options old deposit → OnLine (PutsBack options old result) (L.told line.old) (L.told line.new) }
 {
     let Deposit { core, mut keeper } = deposit;
     let (_, stop) = drive(core, line, &mut keeper, options.turns(), &Unwatched);

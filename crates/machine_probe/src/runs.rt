@@ -6,10 +6,10 @@ ghost use Rattle.host_devices.specs.Told.{SaysNothing};
 ghost use Rattle.looking_law.specs.Again.{looker};
 ghost use Rattle.probe_report.specs.Judging.{verdict_of};
 ghost use Rattle.machine_probe.specs.Came.{attempt_of, extent_of, first_of, sighting_of, trial_end_of};
-ghost use Rattle.machine_probe.specs.Follow.{IsBrokenOff, IsProbe, Made, forgets, goes_on, is_number, number_in, stores};
+ghost use Rattle.machine_probe.specs.Follow.{IsBrokenOff, IsProbe, MadeWhere, forgets, goes_on, is_number, number_in, stores};
 ghost use Rattle.machine_probe.specs.PuttingBack.{PutsBack};
 ghost use Rattle.machine_probe.specs.Rooms.{AreLookers, HasDeposit};
-ghost use Rattle.machine_probe.specs.Runs.{LooksAt, IsSearch, IsTrialOf, OnLine, One};
+ghost use Rattle.machine_probe.specs.Runs.{LooksAt, IsSearch, IsTrialOf, OnLine};
 
 use crate::memory_end::find_end;
 use crate::probe_options::ProbeOptions;
@@ -95,7 +95,7 @@ pub(crate) fn make_runs<L: Line>(
 // A look at the word.
 fn look<L: Line>(core: ReadingCore, options: ProbeOptions, line: &mut L) -> Sighting
     requires { core ≡ looker options.address options.patience }
-    ensures { OnLine (One (LooksAt options result)) (L.told line.old) (L.told line.new) }
+    ensures { OnLine (LooksAt options result) (L.told line.old) (L.told line.new) }
 {
     let (core, stop) = inquire(core, line, options.turns(), &Unwatched);
     sighting_of(stop, first_of(core.values()))
@@ -146,7 +146,7 @@ fn deposit_for(
 // The trial, where the first look read the word.
 fn try_word<L: Line>(first: Sighting, options: ProbeOptions, line: &mut L) -> Option<Attempt>
     requires { IsAddress options.address }
-    ensures { OnLine (Made (is_number first) (λ attempt. One (IsTrialOf options (number_in first) attempt)) result) (L.told line.old) (L.told line.new) }
+    ensures { OnLine (MadeWhere (is_number first) (IsTrialOf options (number_in first)) result) (L.told line.old) (L.told line.new) }
 {
     match first {
         Sighting::Number(old) => Some(try_number(old, options, line)),
@@ -157,7 +157,7 @@ fn try_word<L: Line>(first: Sighting, options: ProbeOptions, line: &mut L) -> Op
 // A trial of the word, which holds this number.
 fn try_number<L: Line>(old: u16, options: ProbeOptions, line: &mut L) -> Attempt
     requires { IsAddress options.address }
-    ensures { OnLine (One (IsTrialOf options old result)) (L.told line.old) (L.told line.new) }
+    ensures { OnLine (IsTrialOf options old result) (L.told line.old) (L.told line.new) }
 {
     let trial = Trial::new(options.address, old, options.patience);
     let (trial, stop) = conduct(trial, line, options.turns());
@@ -196,7 +196,7 @@ fn look_again<L: Line>(
     line: &mut L,
 ) -> Option<Sighting>
     requires { core ≡ looker options.address options.patience }
-    ensures { OnLine (Made (goes_on trial) (λ sighting. One (LooksAt options sighting)) result) (L.told line.old) (L.told line.new) }
+    ensures { OnLine (MadeWhere (goes_on trial) (LooksAt options) result) (L.told line.old) (L.told line.new) }
 {
     match trial {
         None => None,
@@ -218,8 +218,7 @@ fn restore<L: Line>(
     line: &mut L,
 ) -> Option<bool>
     requires { HasDeposit options found.now.first deposit }
-    ensures { OnLine (Made (stores (verdict_of found.now)) (λ is_back. One (PutsBack options (number_in found.now.first) is_back)) result)
-        (L.told line.old) (L.told line.new) }
+    ensures { OnLine (MadeWhere (stores (verdict_of found.now)) (PutsBack options (number_in found.now.first)) result) (L.told line.old) (L.told line.new) }
 {
     match (judge(found), deposit) {
         (Verdict::Stores, Some(deposit)) => Some(put_back(deposit, options, line)),
@@ -234,7 +233,7 @@ fn find_memory<L: Line>(
     options: ProbeOptions,
     line: &mut L,
 ) -> Result<Option<Extent>, AllocError>
-    ensures searched { IfOk result (λ search. OnLine (Made (forgets verdict) (IsSearch options) search) (L.told line.old) (L.told line.new)) }
+    ensures searched { IfOk result (λ search. OnLine (MadeWhere (forgets verdict) (IsSearch options) search) (L.told line.old) (L.told line.new)) }
     ensures wanting { OnErr result ((forgets verdict ≡ true) × SaysNothing (L.told line.old) (L.told line.new)) }
 {
     match verdict {

@@ -2,7 +2,7 @@ use Rattle.std.proofs.Common.{ℕ, ap, sym, subst, ◌∙◌}
 use Rattle.machine_probe.specs.Follow.{stores}
 use Rattle.machine_probe.specs.PuttingBack.{PutsBack}
 use Rattle.machine_probe.specs.Rooms.{HasDeposit}
-use Rattle.machine_probe.specs.Runs.{OnLine, One}
+use Rattle.machine_probe.specs.Runs.{OnLine}
 use Rattle.machine_probe.proofs.Joins.{can_put_back, deposit_of, made, not_made, not_stores}
 use Rattle.machine_probe.proofs.runs.restore.Goals.{in_default-via-in-Stores+in_default, in_default-via-in_default}
 use Rattle.machine_probe.proofs.runs.restore.Goals as goal
@@ -14,7 +14,7 @@ returns-in-Stores-Some g c =
     let stored = ap stores (sym c.in-Stores-Some.ensures) in
     made _ _ c.put_back.result (g.L.Line.told c.args.line.now) (g.L.Line.told c.put_back.new.line) stored
     (deposit_of o f.first f.trial f.second c.in-Stores-Some.deposit
-    (λ (old : ℕ). OnLine (One (PutsBack o old c.put_back.result)) (g.L.Line.told c.args.line.now) (g.L.Line.told c.put_back.new.line)) stored
+    (λ (old : ℕ). OnLine (PutsBack o old c.put_back.result) (g.L.Line.told c.args.line.now) (g.L.Line.told c.put_back.new.line)) stored
     (λ old has. c.put_back.ensures old has)
     (subst (HasDeposit o f.first) c.in-Stores-Some.is-1 c.requires))
 

@@ -13,9 +13,8 @@ use Rattle.honest_line.specs.Honest.{IsHonest}
 use Rattle.machine_probe.specs.declared.memory_end.Limits.{Limits}
 use Rattle.machine_probe.specs.declared.pieces.Pieces.{Pieces}
 use Rattle.machine_probe.specs.declared.search.Search.{Search}
-use Rattle.machine_probe.specs.Passes.{ArePieces, IsPass, SearchGoesOn, Searches, ahead, found, last_words, limits, pass_over, passed, three_passes}
-use Rattle.machine_probe.specs.declared.memory_end.PassEnd.{PassEnd}
-use Rattle.machine_probe.specs.declared.memory_end.PassEnd.TheVariants.{Lacking, Over}
+use Rattle.machine_probe.specs.Passes.{Ahead, ArePieces, CameTo, IsPass, LastPass, NoPassLeft, OnePassMore, Searches, ahead, found, last_words, limits, pass_over, passed, three_passes}
+use Rattle.machine_probe.specs.declared.memory_end.PassEnd.TheVariants.{Lacking}
 use Rattle.looking_law.specs.Rows.{AreHonest, in_a_row}
 use Rattle.machine_probe.proofs.Founds.{IsOver, passed_within}
 use Rattle.machine_probe.proofs.LastWords.{last_asked}
@@ -176,35 +175,31 @@ lacking_is (Ended GaveUp) found next is = absurd (cc is)
 lacking_is TurnsOver found next is = absurd (cc is)
 lacking_is (LineFailed fault) found next is = absurd (cc is)
 
--- what is left of a search leaves the machine ready, if the passes behind this one do
-goes_on_leaves : (end : PassEnd) (next : ℕ → Search → List (List Item) → Type 0) (search : Search) (parts : List (List Item)) → ((from : ℕ) → end ≡ Lacking from → next from search parts → AllLeave parts) → SearchGoesOn end next search parts → AllLeave parts
-goes_on_leaves (Lacking from) next search parts so is = so from refl is
-goes_on_leaves (Over over) next search parts so is = subst AllLeave (sym is.1) tt
+-- a pass that lacked a word, and where the next one begins
+lacked_at : (at : Ahead) (pieces : Pieces) (next : ℕ) (said : List Item) → at.limits.patience < 2 ^ 32 → ArePieces at.from pieces → CameTo (pass_over at.limits at.from pieces) (Lacking next) said → NextAt at.from next pieces
+lacked_at at pieces next said long are came =
+    let lacks = lacking_is came.stop (found at.from pieces came.last) next (sym came.end_is) in
+    subst (λ n. NextAt at.from n pieces) (sym lacks.2)
+    (next_at at.limits at.from lacks.0 pieces came.last said long are (subst (λ (s : LookStop). IsPass (pass_over at.limits at.from pieces) s came.last said) lacks.1 came.is_pass))
 
-pass_then : (pieces : Pieces) (passes : List Pieces) (limits : Limits) (from : ℕ) (search : Search) (parts : List (List Item)) → limits.patience < 2 ^ 32 → ArePieces from pieces →
-    ((next : ℕ) (rest : List (List Item)) → NextAt from next pieces → Searches passes (ahead limits next) search rest → AllLeave rest) →
-    Searches (pieces ∷ passes) (ahead limits from) search parts → AllLeave parts
-pass_then pieces passes limits from search [] long are so is = absurd is
-pass_then pieces passes limits from search (said ∷ parts) long are so (stop, last, p, goes) = (
-  pass_leaves limits from pieces stop last said long are p,
-  goes_on_leaves (passed stop (found from pieces last)) (λ at. Searches passes (ahead limits at)) search parts
-      (λ next is rest. let lacks = lacking_is stop (found from pieces last) next is in
-      so next parts (subst (λ n. NextAt from n pieces) (sym lacks.2)
-      (next_at limits from lacks.0 pieces last said long are (subst (λ (s : LookStop). IsPass (pass_over limits from pieces) s last said) lacks.1 p))) rest) goes,
-)
+pass_then : (pieces : Pieces) (passes : List Pieces) (at : Ahead) (search : Search) (parts : List (List Item)) → at.limits.patience < 2 ^ 32 → ArePieces at.from pieces →
+    ((next : ℕ) (rest : List (List Item)) → NextAt at.from next pieces → Searches passes (ahead at.limits next) search rest → AllLeave rest) → Searches (pieces ∷ passes) at search parts → AllLeave parts
+pass_then pieces passes at search parts long are so (LastPass pieces' passes' at' search' said came) = (pass_leaves at.limits at.from pieces came.stop came.last said long are came.is_pass, tt)
+pass_then pieces passes at search parts long are so (OnePassMore pieces' passes' at' search' next said rest came more) =
+    (pass_leaves at.limits at.from pieces came.stop came.last said long are came.is_pass, so next rest (lacked_at at pieces next said long are came) more)
 
-none_then : (limits : Limits) (from : ℕ) (search : Search) (parts : List (List Item)) → Searches [] (ahead limits from) search parts → AllLeave parts
-none_then limits from search parts is = subst AllLeave (sym is.1) tt
+none_then : (at : Ahead) (search : Search) (parts : List (List Item)) → Searches [] at search parts → AllLeave parts
+none_then at search parts (NoPassLeft here) = tt
 
 search_leaves : (limits : Limits) (search : Search) (parts : List (List Item)) → limits.patience < 2 ^ 32 → Searches three_passes (ahead limits 0) search parts → AllLeave parts
 search_leaves limits search parts long is =
-    pass_then (record { bytes = 0o4000; count = 28 }) (record { bytes = 0o100; count = 32 } ∷ record { bytes = 2; count = 32 } ∷ []) limits 0 search parts long
+    pass_then (record { bytes = 0o4000; count = 28 }) (record { bytes = 0o100; count = 32 } ∷ record { bytes = 2; count = 32 } ∷ []) (ahead limits 0) search parts long
     (record { even = refl; whole = refl; some = omega arith; below = omega arith })
-    (λ from rest at. pass_then (record { bytes = 0o100; count = 32 }) (record { bytes = 2; count = 32 } ∷ []) limits from search rest long
+    (λ from rest at. pass_then (record { bytes = 0o100; count = 32 }) (record { bytes = 2; count = 32 } ∷ []) (ahead limits from) search rest long
     (record { even = at.even; whole = refl; some = omega arith; below = omega (arith, at.within) })
-    (λ next more here. pass_then (record { bytes = 2; count = 32 }) [] limits next search more long
+    (λ next more here. pass_then (record { bytes = 2; count = 32 }) [] (ahead limits next) search more long
     (record { even = here.even; whole = refl; some = omega arith; below = omega (arith, here.within, at.within) })
-    (λ last none there. none_then limits last search none)))
+    (λ last none there. none_then (ahead limits last) search none)))
     is
 
 -- ---- all of them

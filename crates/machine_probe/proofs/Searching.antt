@@ -22,13 +22,12 @@ use Rattle.looking_law.specs.Belief.{IsReadyMachine, IsTrueReading, MayLook, dia
 use Rattle.looking_law.specs.Harmless.{HoldsRead}
 use Rattle.looking_law.proofs.Believed.{leave_ready}
 use Rattle.machine_probe.specs.declared.memory_end.Limits.{Limits}
-use Rattle.machine_probe.specs.declared.memory_end.PassEnd.{PassEnd}
 use Rattle.machine_probe.specs.declared.memory_end.PassEnd.TheVariants.{Lacking, Over}
 use Rattle.machine_probe.specs.declared.pieces.Pieces.{Pieces}
 use Rattle.machine_probe.specs.declared.search.Search.{Search}
 use Rattle.machine_probe.specs.declared.search.Search.TheVariants.{Ends, Stopped}
 use Rattle.machine_probe.specs.MemoryEnd.{IsTrueEnd, FindsEnd, stop_of}
-use Rattle.machine_probe.specs.Passes.{ArePieces, IsPass, SearchGoesOn, Searches, ahead, found, last_words, pass_over, passed, three_passes}
+use Rattle.machine_probe.specs.Passes.{ArePieces, IsPass, LastPass, NoPassLeft, OnePassMore, Searches, ahead, found, last_words, pass_over, passed, three_passes}
 use Rattle.looking_law.specs.Rows.{AreHonest, in_a_row}
 use Rattle.machine_probe.specs.Steps.{LiesWithin, Stepped}
 use Rattle.machine_probe.proofs.Founds.{IsOver, all_read, lacking, paid_at, reached}
@@ -98,7 +97,7 @@ record Runs (passes : List Pieces) (limits : Limits) (from limit : ℕ) (search 
 run_none : (limits : Limits) (from : ℕ) (line : LineTold) → Runs [] limits from from (Ends from) line line
 run_none limits from line = record {
   parts = [];
-  searches = (refl, refl);
+  searches = NoPassLeft (ahead limits from);
   on_line = gains_none line.said;
   finds = λ machine now lost ready reaches within honest. (ap (λ (m : Machine). m.memory) honest.0, omega (arith, reaches, within));
   counted = refl;
@@ -142,17 +141,13 @@ over_right limits from pieces (LineFailed fault) last said search are reads pass
     searched : Over search ≡ Over (Stopped (LineFailed fault)) → search ≡ Stopped (LineFailed fault)
     searched e = cc e
 
--- how the search goes on from there
-over_goes : (end : PassEnd) (next : ℕ → Search → List (List Item) → Type 0) (search : Search) → Over search ≡ end → SearchGoesOn end next search []
-over_goes end next search is = subst (λ e. SearchGoesOn e next search []) is (refl, refl)
-
 run_over : (pieces : Pieces) (passes : List Pieces) (limits : Limits) (from : ℕ) (search : Search) (line line' : LineTold) → ArePieces from pieces → Stepped (pass_over limits from pieces) (Over search) line line' →
     Runs (pieces ∷ passes) limits from (from + pieces.bytes * pieces.count) search line line'
 run_over pieces passes limits from search line line' are s = record {
   parts = s.said ∷ [];
-  searches = (s.stop, s.last, s.is_pass, over_goes (passed s.stop (found from pieces s.last)) (λ at. Searches passes (ahead limits at)) search s.result_is);
+  searches = LastPass pieces passes (ahead limits from) search s.said s.came;
   on_line = subst (Gains line.said line'.said) (sym (append-nil s.said)) s.on_line;
-  finds = over_right limits from pieces s.stop s.last s.said search are s.reads s.is_pass s.result_is;
+  finds = over_right limits from pieces s.came.stop s.came.last s.said search are s.reads s.came.is_pass s.came.end_is;
   counted = s.counted;
   named = s.named;
 }
@@ -187,17 +182,13 @@ more_right limits from limit next pieces (Ended GaveUp) last said search parts a
 more_right limits from limit next pieces TurnsOver last said search parts are reads pass is fits finds machine now lost ready reaches within honest = absurd (cc is)
 more_right limits from limit next pieces (LineFailed fault) last said search parts are reads pass is fits finds machine now lost ready reaches within honest = absurd (cc is)
 
-more_goes : (end : PassEnd) (next : ℕ) (limits : Limits) (passes : List Pieces) (search : Search) (parts : List (List Item)) → Lacking next ≡ end → Searches passes (ahead limits next) search parts →
-    SearchGoesOn end (λ at. Searches passes (ahead limits at)) search parts
-more_goes end next limits passes search parts is goes = subst (λ e. SearchGoesOn e (λ at. Searches passes (ahead limits at)) search parts) is goes
-
 run_more : (pieces : Pieces) (passes : List Pieces) (limits : Limits) (from next limit : ℕ) (search : Search) (line line' line'' : LineTold) → ArePieces from pieces → Stepped (pass_over limits from pieces) (Lacking next) line line' →
     next + pieces.bytes ≤ limit + 2 → Runs passes limits next limit search line' line'' → Runs (pieces ∷ passes) limits from (from + pieces.bytes * pieces.count) search line line''
 run_more pieces passes limits from next limit search line line' line'' are s fits run = record {
   parts = s.said ∷ run.parts;
-  searches = (s.stop, s.last, s.is_pass, more_goes (passed s.stop (found from pieces s.last)) next limits passes search run.parts s.result_is run.searches);
+  searches = OnePassMore pieces passes (ahead limits from) search next s.said run.parts s.came run.searches;
   on_line = gains_join line.said line'.said line''.said s.said (in_a_row run.parts) s.on_line run.on_line;
-  finds = more_right limits from limit next pieces s.stop s.last s.said search run.parts are s.reads s.is_pass s.result_is fits run.finds;
+  finds = more_right limits from limit next pieces s.came.stop s.came.last s.said search run.parts are s.reads s.came.is_pass s.came.end_is fits run.finds;
   counted = subst (λ count. CountsFault (line_fault (stop_of search)) count line''.failures) s.counted run.counted;
   named = run.named;
 }

@@ -27,16 +27,18 @@ pub stepped : (limits : Limits) (from : ℕ) (pieces : Pieces) (core last : Read
     → IsInquired limits.turns (inquiry core last (Some stop)) before after → Stepped (pass_over limits from pieces) (passed stop (found from pieces last)) before after
 stepped limits from pieces core last stop before after are begins reads i =
     let s = i.turns.session in record {
-      stop = stop;
-      last = last;
       said = s.said;
-      is_pass = record {
-        inquired = subst (λ (r : Reader). Inquired limits.turns (inquiry r last (Some stop)) (Some []) (Some s.said)) begins
-            (record { heard = s.heard; said = s.said; host = s.host; goes_on = s.goes_on; within = s.within; items = s.items; on_line = refl });
-        end = i.turns.end;
+      came = record {
+        stop = stop;
+        last = last;
+        is_pass = record {
+          inquired = subst (λ (r : Reader). Inquired limits.turns (inquiry r last (Some stop)) (Some []) (Some s.said)) begins
+              (record { heard = s.heard; said = s.said; host = s.host; goes_on = s.goes_on; within = s.within; items = s.items; on_line = refl });
+          end = i.turns.end;
+        };
+        end_is = refl;
       };
       reads = subst IsReader begins reads;
-      result_is = refl;
       within = passed_within from pieces stop last are (record { addresses = i.same_addresses ∙ ap (λ (r : Reader). r.addresses) begins; kept = i.kept }) i.turns.end;
       on_line = s.on_line;
       counted = subst (λ fault. CountsFault fault before.failures after.failures) (same_fault stop (found from pieces last)) i.turns.counted;

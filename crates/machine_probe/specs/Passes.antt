@@ -70,6 +70,13 @@ passed (Ended (NoWord address)) found = Lacking found
 passed (Ended Complete) found = Over (Ends found)
 passed stop found = Over (Stopped stop)
 
+-- a pass came to this, with what was said of it
+pub record CameTo (pass : Pass) (end : PassEnd) (said : List Item) : Type 0 where
+  pub stop : LookStop
+  pub last : Reader
+  pub is_pass : IsPass pass stop last said
+  pub end_is : end ≡ passed stop (found pass.from pass.pieces last)
+
 -- what is ahead of a search: from which address on its passes go, and the limits of each
 pub record Ahead : Type 0 where
   pub limits : Limits
@@ -78,16 +85,12 @@ pub record Ahead : Type 0 where
 abbrev pub ahead : Limits → ℕ → Ahead
 ahead limits from = record { limits = limits; from = from }
 
--- how a search goes on behind a pass that came to this, where `next` says what the passes do that are left: with these where a piece
--- lacked its last word, from there on; else it is over
-abbrev pub SearchGoesOn : PassEnd → (next : ℕ → Search → List (List Item) → Type 0) → Search → List (List Item) → Type 0
-SearchGoesOn (Lacking from) next search parts = next from search parts
-SearchGoesOn (Over end) next search parts = (search ≡ end) × (parts ≡ [])
-
--- these passes came to this, with what was said in each. Behind the last pass memory ends
-abbrev pub Searches : List Pieces → Ahead → Search → List (List Item) → Type 0
-Searches [] at search parts = (search ≡ Ends at.from) × (parts ≡ [])
-Searches (pieces ∷ passes) at search [] = ⊥
-Searches (pieces ∷ passes) at search (said ∷ parts) =
-    (stop : LookStop) × (last : Reader) × IsPass (pass_over at.limits at.from pieces) stop last said
-    × SearchGoesOn (passed stop (found at.from pieces last)) (λ from. Searches passes (ahead at.limits from)) search parts
+-- passes over these pieces came to this, with what was said in each. Where none is left, memory ends; a pass ends the search; or a piece lacked its
+-- last word, and the passes that are left go over that piece
+pub data Searches : List Pieces → Ahead → Search → List (List Item) → Type 0 where
+  NoPassLeft : (at : Ahead) → Searches [] at (Ends at.from) []
+  LastPass : (pieces : Pieces) (passes : List Pieces) (at : Ahead) (search : Search) (said : List Item)
+      → CameTo (pass_over at.limits at.from pieces) (Over search) said → Searches (pieces ∷ passes) at search (said ∷ [])
+  OnePassMore : (pieces : Pieces) (passes : List Pieces) (at : Ahead) (search : Search) (from : ℕ) (said : List Item) (parts : List (List Item))
+      → CameTo (pass_over at.limits at.from pieces) (Lacking from) said → Searches passes (ahead at.limits from) search parts
+      → Searches (pieces ∷ passes) at search (said ∷ parts)

@@ -5,13 +5,12 @@ use Rattle.host_devices.specs.Devices.{LineTold}
 use Rattle.host_devices.specs.Failures.{CountsFault, IsLastFault}
 use Rattle.host_devices.specs.Told.{Gains}
 use Rattle.reading_core.specs.Invariant.{IsReader}
-use Rattle.reading_core.specs.Reader.{Reader}
 use Rattle.looking_engine.specs.Stopping.{LookStop, line_fault}
 use Rattle.machine_probe.specs.declared.memory_end.PassEnd.{PassEnd}
 use Rattle.machine_probe.specs.declared.memory_end.PassEnd.TheVariants.{Lacking, Over}
 use Rattle.machine_probe.specs.declared.pieces.Pieces.{Pieces}
 use Rattle.machine_probe.specs.MemoryEnd.{stop_of}
-use Rattle.machine_probe.specs.Passes.{IsPass, Pass, found, passed, reader_of}
+use Rattle.machine_probe.specs.Passes.{CameTo, Pass, reader_of}
 
 -- a piece that lacks its last word is one of the pieces
 abbrev pub LiesWithin : ℕ → Pieces → PassEnd → Type 0
@@ -25,12 +24,9 @@ stop_in (Over search) = stop_of search
 
 -- a pass came to this, with what the line told before and tells after
 pub record Stepped (pass : Pass) (result : PassEnd) (before after : LineTold) : Type 0 where
-  pub stop : LookStop
-  pub last : Reader
   pub said : List Item
-  pub is_pass : IsPass pass stop last said
+  pub came : CameTo pass result said
   pub reads : IsReader (reader_of pass)
-  pub result_is : result ≡ passed stop (found pass.from pass.pieces last)
   pub within : LiesWithin pass.from pass.pieces result
   pub on_line : Gains before.said after.said said
   pub counted : CountsFault (line_fault (stop_in result)) before.failures after.failures

@@ -23,7 +23,7 @@ use Rattle.tape_shelf.specs.SavedTape.{room_for}
 use Rattle.tape_shelf.specs.Shelf.{ShelfStep, NotReserved, NotResumed, NotPut}
 use Rattle.tape_shelf.specs.ShelfAt.{HasDoneThere, ShelfAt}
 use Rattle.tape_shelf.specs.ShelfTold.{HasDone}
-use Rattle.machine_look.specs.Verify.{IsCutShort}
+use Rattle.machine_look.specs.Verify.{IsComparisonCutShort}
 
 -- what a place that takes no tape makes of the save
 abbrev pub fault_of_shelf : ShelfFault → LookFault
@@ -39,7 +39,7 @@ abbrev pub IsCompareFault : List WordValue → Reader → Change ConsoleTold →
 IsCompareFault words first console Connect =
     (ended first.phase ≡ None) × IsAskedInVain console.before.call console.before.asked console.after.asked
     × (console.after.lines ≡ console.before.lines) × Keeps console.before.out console.after.out
-IsCompareFault words first console WriteOutput = IsCutShort words first console
+IsCompareFault words first console WriteOutput = IsComparisonCutShort words first console
 IsCompareFault words first console other = ⊥
 
 -- how `verify` comes to nothing: want of memory before the console is reached, or so

@@ -37,7 +37,7 @@ pub record IsVerifyReported (plan : PlanValue) (patience : ℕ) (console : Chang
   pub reported : Appends console.before.out console.after.out (verify_report plan.words verified.last verified.stop)
 
 -- a front of the report of what was read by then was written, and nothing else: words were looked at for so many turns, a reader behind another
-pub record IsCutShort (words : List WordValue) (first : Reader) (console : Change ConsoleTold) : Type 0 where
+pub record IsComparisonCutShort (words : List WordValue) (first : Reader) (console : Change ConsoleTold) : Type 0 where
   pub turns : ℕ
   pub few : turns ≤ most_turns
   pub last : Reader
@@ -46,7 +46,3 @@ pub record IsCutShort (words : List WordValue) (first : Reader) (console : Chang
   pub asked : AsksOnce (ended first.phase) console.before.call console.before.asked console.after.asked
   pub missing : List ℕ
   pub reported : WritesAllBut console.before.out console.after.out (verify_report words last stop) missing
-
--- so it is of a plan's words
-abbrev pub IsVerifyCutShort : PlanValue → ℕ → Change ConsoleTold → Type 0
-IsVerifyCutShort plan patience = IsCutShort plan.words (begun (addresses_of plan.words) [] patience)

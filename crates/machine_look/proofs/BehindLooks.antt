@@ -28,7 +28,6 @@ use Rattle.looking_engine.specs.declared.stop.Stop.TheVariants.{Ended, LineFaile
 use Rattle.looking_engine.proofs.Beliefs.{inquired_believable}
 use Rattle.sample_looks.specs.Finding.{IsSoIn}
 use Rattle.sample_looks.specs.Looked.{IsSeen}
-use Rattle.sample_looks.specs.declared.finding.Finding.{Finding}
 use Rattle.sample_looks.specs.declared.finding.Finding.TheVariants.{AllStand}
 use Rattle.sample_looks.specs.declared.looking.Looked.{Looked}
 use Rattle.sample_looks.proofs.Seen.{so_over}

@@ -18,11 +18,10 @@ use Rattle.looking_engine.specs.Stopping.{LookStop, TellsEnd, line_fault}
 use Rattle.looking_engine.specs.Inquired.{Inquired, inquiry}
 use Rattle.looking_engine.specs.declared.stop.Stop.TheVariants.{Ended}
 use Rattle.sample_looks.specs.Finding.{IsFound}
-use Rattle.sample_looks.specs.declared.finding.Finding.{Finding}
 use Rattle.sample_looks.specs.declared.finding.Finding.TheVariants.{AllStand}
 use Rattle.sample_looks.specs.declared.looking.Looked.{Looked}
 use Rattle.request_values.specs.Change.{Change, ◌⇒◌}
-use Rattle.machine_look.specs.Behind.{AreLookedAt, AreOfFound, IsHeldUp, IsRead, Reading, Saving, addresses_behind, all_stood}
+use Rattle.machine_look.specs.Behind.{AreLookedAt, AreOfFound, IsHeldUp, IsRead, Saving, addresses_behind, all_stood}
 use Rattle.tape_shelf.specs.FoundPart.{FillBlocks}
 use Rattle.machine_look.specs.Look.{IsGivenBack}
 use Rattle.machine_look.proofs.BehindLooks.{looks_hold, reading_holds}

@@ -20,7 +20,7 @@ abbrev pub first_of : List ℕ → Option ℕ
 first_of [] = None
 first_of (number ∷ more) = Some number
 
--- what a look gave that stopped so and read this number
+-- what a look gave that stopped so and read this number, if any: one that is complete has read it
 abbrev pub sighting_of : LookStop → Option ℕ → Sighting
 sighting_of (Ended Complete) (Some number) = look.Number number
 sighting_of (Ended Complete) None = look.GaveUp

@@ -48,6 +48,7 @@ pub record Pass : Type 0 where
   pub from : ℕ
   pub pieces : Pieces
 
+-- the pass that has these limits, from there on, over these pieces
 abbrev pub pass_over : Limits → ℕ → Pieces → Pass
 pass_over limits from pieces = record { limits = limits; from = from; pieces = pieces }
 
@@ -82,6 +83,7 @@ pub record Ahead : Type 0 where
   pub limits : Limits
   pub from : ℕ
 
+-- the passes that have these limits, from there on
 abbrev pub ahead : Limits → ℕ → Ahead
 ahead limits from = record { limits = limits; from = from }
 

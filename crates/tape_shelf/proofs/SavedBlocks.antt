@@ -14,11 +14,6 @@ use Rattle.tape_shelf.specs.SavedTape.{saved_block, saved_blocks, saved_tape, ta
 
 -- ---- parts of a list
 
-length_take_at_most : (n : ℕ) (xs : List ℕ) → length (take n xs) ≤ n
-length_take_at_most zero xs = omega arith
-length_take_at_most (suc n) [] = omega arith
-length_take_at_most (suc n) (x ∷ xs) = omega (arith, length_take_at_most n xs)
-
 length_take_no_more : (n : ℕ) (xs : List ℕ) → length (take n xs) ≤ length xs
 length_take_no_more zero xs = omega arith
 length_take_no_more (suc n) [] = omega arith
@@ -50,9 +45,6 @@ one_more_block from numbers n = ap (saved_blocks from numbers) (next n) ∙ one_
 pub bytes_length : (numbers : List ℕ) → length (flat_map low_first numbers) ≡ 2 * length numbers
 bytes_length [] = refl
 bytes_length (n ∷ numbers) = omega (arith, bytes_length numbers)
-
-these_few : (numbers : List ℕ) (n : ℕ) → length (take 256 (drop (256 * n) numbers)) ≤ 256
-these_few numbers n = length_take_at_most 256 (drop (256 * n) numbers)
 
 these_left : (numbers : List ℕ) (n : ℕ) → length (take 256 (drop (256 * n) numbers)) ≤ length numbers - 256 * n
 these_left numbers n = omega (arith, length_take_no_more 256 (drop (256 * n) numbers), length-drop (256 * n) numbers)

@@ -17,7 +17,7 @@ use Rattle.tape_shelf.specs.ShelfTold.{HasDone}
 -- the shelf was taken up, and then nothing, or all of the tape, was put there
 abbrev IsDone : SaveOptions → SaveTold → SaveTold → Type 0
 IsDone options before after =
-    (found numbers : List ℕ) × (taking : List ShelfStep) × TakesUp options.range found taking
+    (found numbers : List ℕ) × (taking : List ShelfStep) × TakesUp options.range before.shelf.left found taking
     × (steps : List ShelfStep) × ((steps ≡ []) ⊎ (steps ≡ puts options.range.from (found ++ numbers) options.start)) × HasDone (taking ++ steps) before.shelf after.shelf
 
 over : (options : SaveOptions) (before after : SaveTold) (counts : SaveCounts) (end : SaveEnd) → IsOver options before after counts end → IsDone options before after

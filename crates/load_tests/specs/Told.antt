@@ -28,14 +28,14 @@ record_told asked name known = record { asked = asked; name = name; known = know
 abbrev pub IsAskedAndClosed : (RecordDisk → FileKnown → List DiskStep → Type 0) → RecordDisk → Option (List DiskStep) → Type 0
 IsAskedAndClosed said disk asked = (last : RecordDisk) × DiskAsked (Some disk) (Some last) said × IsClosedBehind last asked
 
--- a shelf on a disk, for a tape of this name, and its room
+-- a shelf on a disk of which no file's text is known, for a tape of this name, and its room
 abbrev pub shelf_told : Option (List DiskStep) → List ℕ → Option Room → ShelfTold
-shelf_told asked name room = record { steps = None; disk = Some (record { asked = asked; name = name; room = room }) }
+shelf_told asked name room = record { steps = None; disk = Some (record { asked = asked; name = name; room = room }); left = None }
 
 -- a shelf was taken up, and the tape of what was found and read put there, or nothing
 abbrev pub IsTapePut : SaveOptions → ShelfTold → ShelfTold → Type 0
 IsTapePut options shelf shelf' =
-    (found numbers : List ℕ) × (taking : List ShelfStep) × TakesUp options.range found taking
+    (found numbers : List ℕ) × (taking : List ShelfStep) × TakesUp options.range shelf.left found taking
     × (steps : List ShelfStep) × ((steps ≡ []) ⊎ (steps ≡ puts options.range.from (found ++ numbers) options.start)) × HasDone (taking ++ steps) shelf shelf'
 
 -- or it came to nothing, whatever was done there

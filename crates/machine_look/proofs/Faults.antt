@@ -1,6 +1,5 @@
 -- Looks that come to nothing.
-use Rattle.std.proofs.Common.{◌≡◌, ◌<◌, ℕ, true, false, eqb, List, [], ◌∷◌, ◌++◌, length, Result, Ok, Err, IfOk, IsErrAnd, refl, arith, sym, subst, inl, inr, OnOk}
-use Rattle.std.proofs.lemmas.Bool.{eqb-true}
+use Rattle.std.proofs.Common.{◌≡◌, ◌<◌, ℕ, List, [], ◌∷◌, ◌++◌, length, Result, Ok, Err, IfOk, IsErrAnd, refl, arith, sym, subst, inl, inr, OnOk}
 use Rattle.std.specs.Io.KnownBytes.{Keeps}
 use Rattle.host_devices.specs.Turns.{most_turns}
 use Rattle.machine_look.specs.declared.look_fault.LookFault.{LookFault}
@@ -40,7 +39,7 @@ done_behind taking steps folder a b c first second = (folder, done_join folder t
 
 -- a reading that comes to nothing
 pub not_read : (saving : Saving) (taking : List ShelfStep) (before after : SaveTold) (mid : ShelfAt) (opened : List ℕ → Type 0) (folder : List ℕ) (fault : LookFault)
-    → TakesUp saving.options.range saving.found taking → mid.is_opened_as folder → AreDone folder taking before.shelf mid.told
+    → TakesUp saving.options.range before.shelf.left saving.found taking → mid.is_opened_as folder → AreDone folder taking before.shelf mid.told
     → IsReadFault saving (record { shelf = mid; console = console_of before }) (record { shelf = record { told = after.shelf; is_opened_as = opened }; console = console_of after }) fault
     → Keeps before.out after.out → IsSaveFault saving.options before after fault
 not_read saving taking before after mid opened folder Connect takes is_open taken fails same = (
@@ -76,14 +75,6 @@ not_closed options before after mid mid' opened folder read WriteTape is_open ta
 not_closed options before after mid mid' opened folder read other is_open taken added fails same = absurd fails
 
 -- ---- the last text
-
-pub closes_none : (from : ℕ) (numbers : List ℕ) (start : ℕ) → eqb (length numbers) 0 ≡ true → closes from numbers start ≡ []
-closes_none from [] start none = refl
-closes_none from (n ∷ numbers) start none = absurd (omega (arith, eqb-true (length (n ∷ numbers)) 0 none))
-
-pub closes_some : (from : ℕ) (numbers : List ℕ) (start : ℕ) → eqb (length numbers) 0 ≡ false → closes from numbers start ≡ Put (last_text from numbers start) ∷ []
-closes_some from [] start some = absurd (cc some)
-closes_some from (n ∷ numbers) start some = refl
 
 pub closes_long : (from : ℕ) (numbers : List ℕ) (start : ℕ) → 0 < length numbers → closes from numbers start ≡ Put (last_text from numbers start) ∷ []
 closes_long from [] start some = absurd (omega arith)

@@ -30,7 +30,7 @@ module _ (saving : Saving) (mid mid' : ShelfAt) where
         omega (arith, few, length-append saving.found last.values, range_low saving.options.range range),
       )
 
-  module _ (taking : List ShelfStep) (folder : List ℕ) (takes : TakesUp saving.options.range saving.found taking) (before after : SaveTold) (opened : List ℕ → Type 0) (taken : AreDone folder taking before.shelf mid.told) (is_open : mid.is_opened_as folder) where
+  module _ (before after : SaveTold) (taking : List ShelfStep) (folder : List ℕ) (takes : TakesUp saving.options.range before.shelf.left saving.found taking) (opened : List ℕ → Type 0) (taken : AreDone folder taking before.shelf mid.told) (is_open : mid.is_opened_as folder) where
     pub not_concluded : (course : Course) (fault : LookFault) → IsCourse saving (record { shelf = mid; console = console_of before }) (record { shelf = mid'; console = console_of after }) course
         → IsUnclosed (closing_text saving course) mid' (record { told = after.shelf; is_opened_as = opened }) fault → Keeps before.out after.out → IsSaveFault saving.options before after fault
     not_concluded (WasHeldUp looked) fault h unclosed same = absurd unclosed

@@ -66,7 +66,7 @@ pub record IsSaveNotBegun (fault : ShelfFault) (options : SaveOptions) (before a
 pub record IsTakenUpAlone (options : SaveOptions) (before after : SaveTold) : Type 0 where
   pub found : List ℕ
   pub taking : List ShelfStep
-  pub taken_up : TakesUp options.range found taking
+  pub taken_up : TakesUp options.range before.shelf.left found taking
   pub untouched : HasDone taking before.shelf after.shelf
   pub no_line : after.lines ≡ before.lines
   pub nothing_reported : Keeps before.out after.out

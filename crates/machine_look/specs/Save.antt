@@ -1,5 +1,5 @@
 -- What `save` does (this project's own).
-use Rattle.std.specs.Prelude.{◌≡◌, ℕ, ◌+◌, ◌<◌, ◌≤◌, List, [], ◌∷◌, ◌++◌, length, Option, None}
+use Rattle.std.specs.Prelude.{◌≡◌, ℕ, ◌+◌, ◌<◌, ◌≤◌, List, [], ◌∷◌, ◌++◌, length, Option, None, IfSome}
 use Rattle.std.specs.Io.KnownBytes.{Appends, Keeps}
 use Rattle.tape_values.specs.Tape.{plain_text}
 use Rattle.host_devices.specs.Turns.{most_turns}
@@ -14,7 +14,7 @@ use Rattle.request_values.specs.Change.{◌⇒◌}
 use Rattle.request_values.specs.declared.range.AddressRange.{AddressRange}
 use Rattle.sample_looks.specs.declared.looking.Looked.{Looked}
 use Rattle.machine_look.specs.Behind.{IsHeldUp, IsRead, addresses_in, tape_to_save}
-use Rattle.tape_shelf.specs.FoundPart.{FillBlocks}
+use Rattle.tape_shelf.specs.FoundPart.{AreFoundInPart, FillBlocks}
 use Rattle.machine_look.specs.declared.save_end.SaveEnd.{SaveEnd}
 use Rattle.machine_look.specs.declared.save_report.SaveCounts.{SaveCounts}
 use Rattle.machine_look.specs.declared.saving.SaveOptions.{SaveOptions}
@@ -58,12 +58,12 @@ save_told shelf console = record { shelf = shelf; asked = console.asked; call = 
 abbrev pub console_of : SaveTold → ConsoleTold
 console_of told = record { asked = told.asked; call = told.call; lines = told.lines; out = None }
 
--- a shelf is taken up for a save of a range, and these numbers are found there: none, in room that is new; or those of the blocks that an earlier
--- save left
-pub data TakesUp (range : AddressRange) : List ℕ → List ShelfStep → Type 0 where
-  InNewRoom : TakesUp range [] (Reserve (room_for range) ∷ [])
-  BehindPart : (found : List ℕ) → FillBlocks range found
-      → TakesUp range found (NotReserved (room_for range) PartIsThere ∷ Resume found ∷ [])
+-- a shelf is taken up for a save of a range, where this text had been left, and these numbers are found there: none, in room that is new; or those
+-- of the blocks of that text
+pub data TakesUp (range : AddressRange) (left : Option (List ℕ)) : List ℕ → List ShelfStep → Type 0 where
+  InNewRoom : TakesUp range left [] (Reserve (room_for range) ∷ [])
+  BehindPart : (found : List ℕ) → FillBlocks range found → IfSome left (λ text. AreFoundInPart range text found)
+      → TakesUp range left found (NotReserved (room_for range) PartIsThere ∷ Resume found ∷ [])
 
 -- the tape of numbers is what the words of the range say, and what is put on the shelf is that tape, byte for byte, and needs no more room than was
 -- taken
@@ -89,7 +89,7 @@ counts_held options looks = record { sent = looks.sent; spent = looks.spent; rea
 pub record IsSaveRead (turns : ℕ) (options : SaveOptions) (before after : SaveTold) : Type 0 where
   pub found : List ℕ
   pub taking : List ShelfStep
-  pub taken_up : TakesUp options.range found taking
+  pub taken_up : TakesUp options.range before.shelf.left found taking
   pub looks : Reader
   pub last : Reader
   pub stop : LookStop
@@ -111,7 +111,7 @@ pub record IsShelved (options : SaveOptions) (before after : SaveTold) : Type 0 
 pub record IsHeld (options : SaveOptions) (before after : SaveTold) : Type 0 where
   pub found : List ℕ
   pub taking : List ShelfStep
-  pub taken_up : TakesUp options.range found taking
+  pub taken_up : TakesUp options.range before.shelf.left found taking
   pub looked : Looked
   pub held : IsHeldUp (record { options = options; found = found }) (console_of before ⇒ console_of after) looked
   pub untouched : HasDone taking before.shelf after.shelf

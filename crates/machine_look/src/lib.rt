@@ -4,7 +4,8 @@
 //! of words and puts the tape of them on a `Shelf` (`tape_shelf`), block by block, behind those that an earlier
 //! one left there, and neither types a digit into a word. Both are promised to write exactly their report, and
 //! to say of memory only what was read; over an honest line that is what memory holds, and it is what it was. Of
-//! the words that a save found it says that they are what was found there, and that samples of them stood.
+//! the words that a save found it says that they are what the text has that was left there, where the shelf tells
+//! that, and that samples of them stood.
 //!
 //! The crate `requests` calls them, and their tests stand in `load_tests` and `command_tests`.
 #![tactic(auto)]

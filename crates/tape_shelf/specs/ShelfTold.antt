@@ -6,15 +6,16 @@ use Rattle.request_values.specs.Change.{Change}
 use Rattle.tape_shelf.specs.Shelf.{ShelfStep, Reserve, NotReserved, Resume, NotResumed, Add, NotAdded, Put, NotPut}
 use Rattle.tape_shelf.specs.ShelfDisk.{ShelfDisk, ShelfAsked, HasRoom, HasNoRoom, HasPart, HasNoPart, IsAdded, IsNotAdded, IsPutOn, closing_in}
 
--- what was asked of it so far, in its order; None where its type doesn't tell. And the disk on which its tape goes; None where it goes on none,
--- or the type doesn't say
+-- what was asked of it so far, in its order; the disk on which its tape goes, if on any; and the text that an earlier save left there. Each is None
+-- where its type doesn't tell
 pub record ShelfTold : Type 0 where
   pub steps : Option (List ShelfStep)
   pub disk : Option ShelfDisk
+  pub left : Option (List ℕ)
 
 -- a shelf that tells nothing
 abbrev pub untold_shelf : ShelfTold
-untold_shelf = record { steps = None; disk = None }
+untold_shelf = record { steps = None; disk = None; left = None }
 
 -- what a step asks of the disk, where the folder of the tape has this name
 abbrev pub AsksFor : List ℕ → ShelfStep → Change ShelfDisk → List DiskStep → Type 0

@@ -5,7 +5,7 @@ ghost use Rattle.std.specs.Io.KnownBytes.{Appends};
 ghost use Rattle.std.specs.String.{string_bytes};
 ghost use Rattle.host_devices.specs.Failures.{fault_of};
 ghost use Rattle.host_devices.specs.Told.{HasAsked};
-ghost use Rattle.record_file.specs.DiskStep.{Did, Failed, Link, LookAtName, SyncFile};
+ghost use Rattle.record_file.specs.DiskStep.{Did, Failed, HoldStill, Link, LookAtName, SyncFile};
 ghost use Rattle.record_file.specs.Folder.{IsFolderOf};
 ghost use Rattle.tape_shelf.specs.Room.{IsFolderOpened, room_of};
 ghost use Rattle.tape_shelf.specs.Shelf.{IsPutFault};
@@ -99,11 +99,10 @@ impl<D: Disk> Shelf for NewFile<'_, D> {
         name = shelf.name.now;
         room = option_map (room_of D.File.contents) shelf.part;
       });
+      left = D.holds shelf.disk (part_name shelf.name.now);
     } };
 
     ghost is_opened_as = { λ shelf. IsFolderOpened D.is_opened_as shelf.part };
-
-    ghost left = { λ shelf. D.holds shelf.disk (part_name shelf.name.now) };
 
     // `PartIsThere` also comes where another save writes the tape of this name.
     fn reserve(&mut self, alloc: Global, length: usize) -> Result<(), ShelfFault> {
@@ -154,6 +153,7 @@ fn make_part<D: Disk>(
     ensures asked { IfOk result (λ part. (folder : List ℕ) × D.is_opened_as part.folder folder × IsFolderOf name.now folder
         × HasAsked (D.asked disk.old) (D.asked disk.new)
         (λ steps. IsReserved name.now folder (D.File.contents part.held) (Failed (LookAtName name.now) ∷ steps))) }
+    ensures left { IfErr result (λ fault. fault ≡ ShelfFault.PartIsThere → HoldStill (D.holds disk.old) (D.holds disk.new)) }
     ensures failed { IfErr result (λ fault.
         HasAsked (D.asked disk.old) (D.asked disk.new) (λ steps. IsNotReserved name.now fault (Failed (LookAtName name.now) ∷ steps))) }
 {
@@ -192,6 +192,7 @@ fn make_filled<D: Disk>(
     ensures fresh { IfOk result (λ files. OnSome (D.asked disk.new) (D.File.contents files.1 ≡ Some [])) }
     ensures made { IfOk result (λ files. (dir : List ℕ) → D.is_opened_as folder.now dir
         → HasAsked (D.asked disk.old) (D.asked disk.new) (IsTakingHeld name.now dir (D.File.contents files.0) None)) }
+    ensures left { IfErr result (λ fault. fault ≡ ShelfFault.PartIsThere → HoldStill (D.holds disk.old) (D.holds disk.new)) }
     ensures not_made { IfErr result (λ fault. (dir : List ℕ) → D.is_opened_as folder.now dir
         → (zeros : Option (List ℕ)) × HasAsked (D.asked disk.old) (D.asked disk.new) (IsTakingHeld name.now dir zeros (Some fault))) }
 {
@@ -247,6 +248,7 @@ fn take_room<D: Disk>(
 fn make_held<D: Disk>(disk: &mut D, name: &str) -> Result<D::File, ShelfFault>
     ensures fresh { IfOk result (λ file. OnSome (D.asked disk.new) (D.File.contents file ≡ Some [])) }
     ensures asked { HasAsked (D.asked disk.old) (D.asked disk.new) (IsMakingHeld name.now (fault_of result)) }
+    ensures left { HoldStill (D.holds disk.old) (D.holds disk.new) }
 {
     match disk.open(Access::New, name) {
         Ok(file) => {
@@ -425,6 +427,7 @@ fn let_go<D: Disk>(disk: &mut D, name: &str, file: &D::File)
 fn find_free<D: Disk>(disk: &mut D, name: &str) -> Result<(), ShelfFault>
     ensures fault { IfErr result IsPutFault }
     ensures asked { HasAsked (D.asked disk.old) (D.asked disk.new) (IsSearch name.now (fault_of result)) }
+    ensures left { HoldStill (D.holds disk.old) (D.holds disk.new) }
 {
     if names_no_file(name) {
         return Err(ShelfFault::Write);

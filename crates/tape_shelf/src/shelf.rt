@@ -1,5 +1,6 @@
-ghost use Rattle.std.specs.Prelude.{◌≡◌, ℕ, List, Option, None, IfErr, IfOk, IfSome, OnOk, ⊤};
-ghost use Rattle.tape_shelf.specs.declared.shelf.ShelfFault.TheVariants.{Write};
+ghost use Rattle.std.specs.Prelude.{◌≡◌, ℕ, List, IfErr, IfOk, IfSome, OnOk, ⊤};
+ghost use Rattle.std.specs.Io.KnownBytes.{Keeps};
+ghost use Rattle.tape_shelf.specs.declared.shelf.ShelfFault.TheVariants.{PartIsThere, Write};
 ghost use Rattle.tape_shelf.specs.FoundPart.{AreFoundInPart, FillBlocks};
 ghost use Rattle.tape_shelf.specs.Shelf.{IsPutFault, Reserve, NotReserved, Resume, NotResumed, add_step, put_step};
 ghost use Rattle.tape_shelf.specs.ShelfTold.{ShelfTold, IsDone, untold_shelf};
@@ -28,18 +29,17 @@ pub enum ShelfFault {
 
 /// Where the tape of a save goes.
 pub trait Shelf {
-    /// What was asked so far, in its order, with what came of it, and the disk on which the tape goes; as far
-    /// as the type tells.
+    /// What was asked so far, in its order, with what came of it, the disk on which the tape goes, and the text
+    /// that an earlier save left there; as far as the type tells.
     ghost told: { Self → ShelfTold } = { λ _. untold_shelf };
 
     /// Whether the folder of the room was opened under a name, and nothing was done with it since.
     ghost is_opened_as: { Self → List ℕ → Type 0 } = { λ _ _. ⊤ };
 
-    /// The text that an earlier save left there, as far as the type tells.
-    ghost left: { Self → Option (List ℕ) } = { λ _. None };
-
-    /// Takes the room of so many bytes for a tape, where there is none yet. `NotOfSave` does not come.
+    /// Takes the room of so many bytes for a tape, where there is none yet. `NotOfSave` does not come; where
+    /// `PartIsThere` comes, what was left is as it was.
     fn reserve(&mut self, alloc: Global, length: usize) -> Result<(), ShelfFault>
+        ensures left { IfErr result (λ fault. fault ≡ PartIsThere → Keeps (told self.old).left (told self.new).left) }
         ensures done { OnOk result ((folder : List ℕ) × is_opened_as self.new folder × IsDone folder (Reserve length) (told self.old) (told self.new)) }
         ensures failed { IfErr result (λ fault. (folder : List ℕ) → IsDone folder (NotReserved length fault) (told self.old) (told self.new)) };
 
@@ -49,7 +49,7 @@ pub trait Shelf {
     /// `PartIsThere` where it can't be read, or somebody else holds it; `NotOfSave` where it is none of these words.
     fn resume(&mut self, alloc: Global, range: AddressRange) -> Result<Vec<u16>, ShelfFault>
         ensures found { IfOk result (λ found. FillBlocks range found.items) }
-        ensures left { IfOk result (λ found. IfSome (left self.old) (λ text. AreFoundInPart range text found.items)) }
+        ensures left { IfOk result (λ found. IfSome (told self.old).left (λ text. AreFoundInPart range text found.items)) }
         ensures done { IfOk result (λ found. (folder : List ℕ) × is_opened_as self.new folder
             × IsDone folder (Resume found.items) (told self.old) (told self.new)) }
         ensures failed { IfErr result (λ fault. (folder : List ℕ) → IsDone folder (NotResumed fault) (told self.old) (told self.new)) };

@@ -51,7 +51,7 @@ returns-in_err-counts-clause-fault g c =
     (save_at g.S.Shelf g.R.Reach c.read_over.new.shelf c.read_over.new.console) c.in_ok-course.course) c.deref-2.ensures.value c.in_ok-course.ensures.course in
     let unclosed = subst (λ (f : List ℕ). IsUnclosed (closing_text (record { options = c.args.options; found = f }) c.in_ok-course.course) mid' (shelf_at g.S.Shelf c.conclude.new.shelf) c.in_err-counts.field-0.0) c.deref-3.ensures.value c.in_err-counts.ensures.fault in
     error_is c.from_residual-in_err-counts.result c.in_err-counts.field-0.0 (IsSaveFault c.args.options before after) c.from_residual-in_err-counts.ensures.1
-    (not_concluded saving mid mid' taken.0 taken.2 taken.1 before after (g.S.Shelf.is_opened_as c.conclude.new.shelf) taken.4 taken.3 c.in_ok-course.course c.in_err-counts.field-0.0 course unclosed (Keeps-refl (g.W.Write.contents c.args.out.now)))
+    (not_concluded saving mid mid' before after taken.0 taken.2 taken.1 (g.S.Shelf.is_opened_as c.conclude.new.shelf) taken.4 taken.3 c.in_ok-course.course c.in_err-counts.field-0.0 course unclosed (Keeps-refl (g.W.Write.contents c.args.out.now)))
 
 pub returns-in_err-write_and_flush-clause-fault : goal.returns-in_err-write_and_flush-clause-fault
 returns-in_err-write_and_flush-clause-fault g c =
@@ -65,7 +65,7 @@ returns-in_err-write_and_flush-clause-fault g c =
     (save_at g.S.Shelf g.R.Reach c.read_over.new.shelf c.read_over.new.console) c.in_ok-course.course) c.deref-2.ensures.value c.in_ok-course.ensures.course in
     let counted = subst (λ (f : List ℕ). c.in_ok-counts.counts ≡ counts_of (record { options = c.args.options; found = f }) c.in_ok-course.course) c.deref-3.ensures.value c.in_ok-counts.ensures.counted in
     let closed = subst (λ (f : List ℕ). IsTapeClosed (record { options = c.args.options; found = f }) c.in_ok-course.course mid' (shelf_at g.S.Shelf c.conclude.new.shelf)) c.deref-3.ensures.value c.in_ok-counts.ensures.closed in
-    let over = concluded saving mid mid' taken.0 taken.2 taken.1 before after (g.S.Shelf.is_opened_as c.conclude.new.shelf) taken.4 taken.3 c.in_ok-course.course (c.in_ok-counts.counts, c.in_ok-counts.end) c.args.options.range.in_order c.conclude.ensures.fits
+    let over = concluded saving mid mid' before after taken.0 taken.2 taken.1 (g.S.Shelf.is_opened_as c.conclude.new.shelf) taken.4 taken.3 c.in_ok-course.course (c.in_ok-counts.counts, c.in_ok-counts.end) c.args.options.range.in_order c.conclude.ensures.fits
     c.in_ok-found.ensures.found course counted c.in_ok-counts.ensures.ended closed in
     let text = c.deref-4.ensures.0 ∙ c.save_report.ensures in
     error_is c.from_residual-in_err-write_and_flush.result WriteOutput (IsSaveFault c.args.options before after) c.from_residual-in_err-write_and_flush.ensures.1 (record {
@@ -91,7 +91,7 @@ returns-clause-reported g c =
     let text = c.deref-4.ensures.0 ∙ c.save_report.ensures in
     record {
       counts = c.in_ok-counts.counts;
-      over = concluded saving mid mid' taken.0 taken.2 taken.1 before after (g.S.Shelf.is_opened_as c.conclude.new.shelf) taken.4 taken.3 c.in_ok-course.course (c.in_ok-counts.counts, c.in_ok-counts.end) c.args.options.range.in_order c.conclude.ensures.fits
+      over = concluded saving mid mid' before after taken.0 taken.2 taken.1 (g.S.Shelf.is_opened_as c.conclude.new.shelf) taken.4 taken.3 c.in_ok-course.course (c.in_ok-counts.counts, c.in_ok-counts.end) c.args.options.range.in_order c.conclude.ensures.fits
           c.in_ok-found.ensures.found course counted c.in_ok-counts.ensures.ended closed;
       reported = subst (Appends (g.W.Write.contents c.args.out.now) (g.W.Write.contents c.write_and_flush.new.out)) text c.in_ok-write_and_flush.ensures.ok;
     }

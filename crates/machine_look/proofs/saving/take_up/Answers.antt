@@ -12,7 +12,7 @@ pub returns-in-Err-PartIsThere-clause-taken : goal.returns-in-Err-PartIsThere-cl
 returns-in-Err-PartIsThere-clause-taken g c =
     took_part c.resume.result (λ v. v.items) c.args.range (g.S.Shelf.is_opened_as c.resume.new.self) (g.S.Shelf.told c.args.shelf.now) (g.S.Shelf.told c.reserve.new.self) (g.S.Shelf.told c.resume.new.self)
     (λ folder. subst (λ n. IsDone folder (NotReserved n PartIsThere) (g.S.Shelf.told c.args.shelf.now) (g.S.Shelf.told c.reserve.new.self)) c.tape_room.ensures (subst (λ why. IsDone folder (NotReserved c.tape_room.result why) (g.S.Shelf.told c.args.shelf.now) (g.S.Shelf.told c.reserve.new.self)) c.in-Err-PartIsThere.field-0-is (c.in-Err-PartIsThere.ensures.failed folder)))
-    c.resume.ensures.found c.resume.ensures.done
+    (c.in-Err-PartIsThere.ensures.left c.in-Err-PartIsThere.field-0-is) c.resume.ensures.found c.resume.ensures.left c.resume.ensures.done
 
 pub returns-in-Err-PartIsThere-clause-failed : goal.returns-in-Err-PartIsThere-clause-failed
 returns-in-Err-PartIsThere-clause-failed g c =

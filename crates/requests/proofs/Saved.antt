@@ -15,21 +15,21 @@ use Rattle.requests.specs.Moment.{Moment, TakesNoInput, console_at}
 use Rattle.requests.specs.Saving.{AreWordsSaved, AreWordsUnsaved, IsLetGo, new_shelf, options_of}
 
 -- a shelf on a disk
-abbrev pub shelf_on : Option (List DiskStep) → List ℕ → Option Room → ShelfTold
-shelf_on asked name room = record { steps = None; disk = Some (record { asked = asked; name = name; room = room }) }
+abbrev pub shelf_on : Option (List DiskStep) → List ℕ → Option Room → Option (List ℕ) → ShelfTold
+shelf_on asked name room left = record { steps = None; disk = Some (record { asked = asked; name = name; room = room }); left = left }
 
-pub new_is : (name : Name) (asked asked' : Option (List DiskStep)) (name' : List ℕ) (room : Option Room) → asked' ≡ asked → name' ≡ name.now → room ≡ None
-    → shelf_on asked' name' room ≡ new_shelf name asked
-new_is name asked asked' name' room p q r = λ i. record { steps = None; disk = Some (record { asked = p i; name = q i; room = r i }) }
+pub new_is : (name : Name) (asked asked' : Option (List DiskStep)) (name' : List ℕ) (room : Option Room) (left : Option (List ℕ)) → asked' ≡ asked → name' ≡ name.now → room ≡ None
+    → shelf_on asked' name' room left ≡ new_shelf name asked left
+new_is name asked asked' name' room left p q r = λ i. record { steps = None; disk = Some (record { asked = p i; name = q i; room = r i }); left = left }
 
 module _ (save : Save) (before after : Moment) (no_input : TakesNoInput (before ⇒ after))
-    (end : SaveEnd) (shelf : ShelfTold)
-    (reported : IsSavedAndReported (options_of save) (save_told (new_shelf save.file before.asked.outside.disk) (console_at save.look before)) (save_told shelf (console_at save.look after)) end)
+    (end : SaveEnd) (left : Option (List ℕ)) (shelf : ShelfTold)
+    (reported : IsSavedAndReported (options_of save) (save_told (new_shelf save.file before.asked.outside.disk left) (console_at save.look before)) (save_told shelf (console_at save.look after)) end)
     (gone : IsLetGo shelf.disk after.asked.outside.disk) where
   pub saved : (result : Result Status Failure) → IfOk result (IsSaveEndStatus end) → IfOk result (AreWordsSaved save (before ⇒ after))
-  saved (Ok status) is = record { shelf = shelf; saved = (end, reported, is); let_go = gone; no_input = no_input }
+  saved (Ok status) is = record { left = left; shelf = shelf; saved = (end, reported, is); let_go = gone; no_input = no_input }
   saved (Err failure) is = tt
 
   pub unsaved : (result : Result Status Failure) → IfErr result (IsSaveEndFailure end save.file.now) → IfErr result (AreWordsUnsaved save (before ⇒ after))
   unsaved (Ok status) is = tt
-  unsaved (Err failure) is = record { shelf = shelf; failed = inr (end, reported, is); let_go = gone; no_input = no_input }
+  unsaved (Err failure) is = record { left = left; shelf = shelf; failed = inr (end, reported, is); let_go = gone; no_input = no_input }

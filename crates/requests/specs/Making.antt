@@ -23,16 +23,18 @@ IsNotPutWhole text fault before after =
 
 -- a whole tape was put into a new file of this name, on a disk that told the one before and tells the other now
 pub record IsPutOn (file : Name) (text : List ℕ) (asked : Change (Option (List DiskStep))) (status : Status) : Type 0 where
+  pub left : Option (List ℕ)
   pub shelf : ShelfTold
-  pub put : HasDone (Reserve (length text) ∷ Put text ∷ []) (new_shelf file asked.before) shelf
+  pub put : HasDone (Reserve (length text) ∷ Put text ∷ []) (new_shelf file asked.before left) shelf
   pub let_go : IsLetGo shelf.disk asked.after
   pub status_is : status ≡ Done
 
 -- or it was not
 pub record IsNotPutOn (file : Name) (text : List ℕ) (asked : Change (Option (List DiskStep))) (failure : Failure) : Type 0 where
+  pub left : Option (List ℕ)
   pub shelf : ShelfTold
   pub fault : ShelfFault
-  pub not_put : IsNotPutWhole text fault (new_shelf file asked.before) shelf
+  pub not_put : IsNotPutWhole text fault (new_shelf file asked.before left) shelf
   pub let_go : IsLetGo shelf.disk asked.after
   pub is_called : IsFailureOf (request_fault.Shelf fault) file.now file.now failure
 

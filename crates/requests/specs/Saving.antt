@@ -1,5 +1,5 @@
 -- What becomes of a request to save what a real machine holds.
-use Rattle.std.specs.Prelude.{◌⊎◌, List, Option, None, Some}
+use Rattle.std.specs.Prelude.{◌⊎◌, ℕ, List, Option, None, Some}
 use Rattle.host_devices.specs.Told.{HasAsked}
 use Rattle.record_file.specs.DiskStep.{DiskStep}
 use Rattle.machine_look.specs.LookFault.{IsSaveFault}
@@ -22,14 +22,15 @@ use Rattle.requests.specs.Moment.{Moment, TakesNoInput, console_at}
 abbrev pub options_of : Save → SaveOptions
 options_of save = record { range = save.range; start = save.start; patience = save.look.patience }
 
--- a shelf that is new, for a tape of this name, on a disk that tells this; what is done on it the shelf does not tell, but asks of the disk
-abbrev pub new_shelf : Name → Option (List DiskStep) → ShelfTold
-new_shelf name asked = record { steps = None; disk = Some (record { asked = asked; name = name.now; room = None }) }
+-- a shelf that is new, for a tape of this name, on a disk that tells this, where this text was left; what is done on it the shelf does not tell, but
+-- asks of the disk
+abbrev pub new_shelf : Name → Option (List DiskStep) → Option (List ℕ) → ShelfTold
+new_shelf name asked left = record { steps = None; disk = Some (record { asked = asked; name = name.now; room = None }); left = left }
 
--- what a save is told before it, with a shelf that is new, and behind it, with this one
-abbrev pub saves_of : Save → ShelfTold → Change Moment → Change SaveTold
-saves_of save shelf moments =
-    save_told (new_shelf save.file moments.before.asked.outside.disk) (console_at save.look moments.before)
+-- what a save is told before it, with a shelf that is new, where this text was left, and behind it, with this shelf
+abbrev pub saves_of : Save → Option (List ℕ) → ShelfTold → Change Moment → Change SaveTold
+saves_of save left shelf moments =
+    save_told (new_shelf save.file moments.before.asked.outside.disk left) (console_at save.look moments.before)
     ⇒ save_told shelf (console_at save.look moments.after)
 
 -- a shelf was let go, and then its disk tells this
@@ -55,14 +56,16 @@ IsSaveFailure save told failure =
 
 -- words were saved in the file that is named, of the console that is named, on a shelf that was new, and was let go; no input was taken
 pub record AreWordsSaved (save : Save) (moments : Change Moment) (status : Status) : Type 0 where
+  pub left : Option (List ℕ)
   pub shelf : ShelfTold
-  pub saved : IsSaveOver save (saves_of save shelf moments) status
+  pub saved : IsSaveOver save (saves_of save left shelf moments) status
   pub let_go : IsLetGo shelf.disk moments.after.asked.outside.disk
   pub no_input : TakesNoInput moments
 
 -- or that failed
 pub record AreWordsUnsaved (save : Save) (moments : Change Moment) (failure : Failure) : Type 0 where
+  pub left : Option (List ℕ)
   pub shelf : ShelfTold
-  pub failed : IsSaveFailure save (saves_of save shelf moments) failure
+  pub failed : IsSaveFailure save (saves_of save left shelf moments) failure
   pub let_go : IsLetGo shelf.disk moments.after.asked.outside.disk
   pub no_input : TakesNoInput moments

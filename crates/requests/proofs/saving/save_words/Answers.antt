@@ -1,6 +1,7 @@
 use Rattle.std.proofs.Common.{◌≡◌, inl, refl, ap, option_map, subst}
 use Rattle.endings.specs.Held.{Held}
 use Rattle.tape_shelf.specs.Room.{room_of}
+use Rattle.tape_shelf.specs.ShelfDisk.{part_name}
 use Rattle.machine_look.specs.LookFault.{IsSaveFault}
 use Rattle.machine_look.specs.Save.{IsSavedAndReported, save_told}
 use Rattle.tape_shelf.specs.ShelfTold.{ShelfTold}
@@ -34,10 +35,12 @@ returns g c =
     (ap (λ (h : Held). h.out) c.streams.view_is) c.back.ensures c.save-saved.ensures.call in
     let fresh = c.new-shelf in
     let kept = c.save-saved.new.shelf in
-    let shelf : ShelfTold = shelf_on (disk kept.disk) kept.name.now (room kept.part) in
-    let first : ShelfTold = shelf_on (disk fresh.result.disk) fresh.result.name.now (room fresh.result.part) in
-    let is_new : first ≡ new_shelf save.file (disk inside.disk) =
-    new_is save.file (disk inside.disk) _ _ _ (ap disk fresh.ensures.disk) fresh.ensures.name (ap room fresh.ensures.room) in
+    let holds = g.K.Disk.Disk.holds in
+    let left = holds fresh.result.disk (part_name fresh.result.name.now) in
+    let shelf : ShelfTold = shelf_on (disk kept.disk) kept.name.now (room kept.part) (holds kept.disk (part_name kept.name.now)) in
+    let first : ShelfTold = shelf_on (disk fresh.result.disk) fresh.result.name.now (room fresh.result.part) left in
+    let is_new : first ≡ new_shelf save.file (disk inside.disk) left =
+    new_is save.file (disk inside.disk) _ _ _ left (ap disk fresh.ensures.disk) fresh.ensures.name (ap room fresh.ensures.room) in
     let read = ap (λ (h : Held). h.input) c.streams.view_is in
     let quiet = ap (λ (h : Held). h.err) c.streams.view_is in
     rw (← c.system.view_is) (elim c.match-saved.branch [
@@ -46,13 +49,14 @@ returns g c =
           let reported = subst (λ s. IsSavedAndReported (options_of save) (save_told s (console_at look before)) (save_told shelf (console_at look after)) end) is_new
           (said (λ x y. IsSavedAndReported (options_of save) (save_told first x) (save_told shelf y) end) w.in-Ok.ensures.reported) in
           rw (w.result-is, c.new-system.ensures) (record {
-            ok = saved save before after (record { no_file = refl; nothing_read = read }) end shelf reported c.close.ensures.asked w.after_save.result w.after_save.ensures.status;
-            err = unsaved save before after (record { no_file = refl; nothing_read = read }) end shelf reported c.close.ensures.asked w.after_save.result w.after_save.ensures.failure;
+            ok = saved save before after (record { no_file = refl; nothing_read = read }) end left shelf reported c.close.ensures.asked w.after_save.result w.after_save.ensures.status;
+            err = unsaved save before after (record { no_file = refl; nothing_read = read }) end left shelf reported c.close.ensures.asked w.after_save.result w.after_save.ensures.failure;
             quiet = quiet;
           })
       | in-Err w ↦ rw (w.result-is, c.new-system.ensures) (record {
         ok = tt;
         err = record {
+          left = left;
           shelf = shelf;
           failed = inl (record {
             fault = w.in-Err.fault;

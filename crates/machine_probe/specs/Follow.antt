@@ -61,8 +61,8 @@ pub record IsTried (options : ProbeOptions) (f : Findings) (parts : List (List I
   pub trial : MadeWhere (is_number f.first) (IsTrialOf options (number_in f.first)) f.trial in_trial
   pub second_look : MadeWhere (goes_on f.trial) (LooksAt options) f.second in_second_look
 
--- the runs of a probe gave these findings: behind that the old number is put back where the console stored another, or memory's end is searched
--- where it forgets
+-- the runs of a probe gave these findings: it tried, and then the old number is put back where the console stored another, and memory's end is
+-- searched where it forgets
 pub record IsProbe (options : ProbeOptions) (f : Findings) (parts : List (List Item)) : Type 0 where
   pub address : f.address ≡ options.address
   pub in_tries : List (List Item)

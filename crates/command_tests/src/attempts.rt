@@ -3,15 +3,13 @@
 use console_lines::Devices;
 use endings::{Status, Streams};
 use record_file::Locks;
-use request_values::{Load, LoadOptions, MachineRequest, Request};
+use request_values::Request;
 use requests::{SharedSystem, attempt};
-use simulated_system::QUIET_MS;
 use std::alloc::{AllocError, Global};
 use std::io::Stderr;
 use std::mem;
 use std::net::Net;
 use std::time::Clock;
-use tape_image::Start;
 use witness::Witness;
 
 /// No terminal looks on.
@@ -73,30 +71,4 @@ pub(crate) fn run<F: Locks + Devices + Net + Clock>(
     ended.status = status;
     ended.out = streams.out;
     ended.err = streams.err;
-}
-
-// A load that survives three mishaps.
-const OPTIONS: LoadOptions = LoadOptions {
-    patience: 3,
-    recheck: false,
-    fast: false,
-};
-
-/// A load of a tape, recorded under this name. The error is that the request itself has no room.
-pub(crate) fn load_of<'a>(
-    alloc: Global,
-    tape: &'a str,
-    record: Option<&'a str>,
-) -> Result<Request<'a>, AllocError> {
-    Ok(Request::Machine(MachineRequest::Load(
-        Vec::from_slice(alloc, &[tape])?,
-        Load {
-            line: "127.0.0.1:2323",
-            record,
-            options: OPTIONS,
-            start: Start::OfTape,
-            listen: None,
-            quiet_ms: QUIET_MS,
-        },
-    )))
 }

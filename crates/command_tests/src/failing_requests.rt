@@ -1,42 +1,20 @@
 //! Requests whose standard input or output fails: what they end with, and that it is not asked again; and of several
 //! tapes that can't be opened which is named.
 
-use crate::attempts::{Ended, NOBODY, load_of, run};
+use crate::attempts::{Ended, NOBODY, run};
+use crate::commands::{Asked, LARGEST, PATIENT_LOAD};
 use endings::{Output, Status, Streams};
-use odt_machine::{LARGEST_WORDS, PLAIN_STYLE};
-use request_values::{CheckOptions, Console, PrintRequest, Request, TapeRequest};
 use requests::{SharedSystem, attempt};
 use simulated_system::{
     AMPLE, BrokenInput, BrokenOutput, NOWHERE, ONE_WORD, SimulatedSystem, SystemSetting,
     UnflushedOutput,
 };
-use std::alloc::{AllocError, Global};
 use std::fs;
 use std::test::Fail;
 use witness::Witness;
 
-// What is asked for.
-#[derive(Clone, Copy)]
-enum Asked {
-    CheckInput,
-    Type,
-    Load,
-}
-
 // The tape that is loaded.
 const TAPE: &str = "failing.lda";
-
-// The request.
-fn request_of(alloc: Global, asked: Asked) -> Result<Request<'static>, AllocError> {
-    match asked {
-        Asked::CheckInput => Ok(Request::Tape(TapeRequest::Print(PrintRequest::CheckInput))),
-        Asked::Type => Ok(Request::Tape(TapeRequest::Print(PrintRequest::Type(Console {
-            words: LARGEST_WORDS,
-            style: PLAIN_STYLE,
-        })))),
-        Asked::Load => load_of(alloc, TAPE, None),
-    }
-}
 
 // The keys that open a word.
 const KEYS: &[u8] = b"001000/";
@@ -51,11 +29,11 @@ const OUTPUT_FAILED: &[u8] = b"ldaodt: cannot write output\n";
 // so many reads.
 fn is_told_alone<W: Output>(
     rt: &HostRuntime,
-    (asked, reads): (Asked, u32),
+    (asked, reads): (Asked<'_>, u32),
     streams: &mut Streams<BrokenInput<'_>, W, Vec<u8>>,
     line: &[u8],
 ) -> bool {
-    let Ok(request) = request_of(rt.alloc(), asked) else {
+    let Ok(request) = asked.request(rt.alloc()) else {
         return false;
     };
     let system = SimulatedSystem::new(rt, SystemSetting { reads, ..AMPLE });
@@ -73,7 +51,13 @@ fn is_told_alone<W: Output>(
 
 // Whether a request whose input fails before the byte at this place says so and reads no more, where this is
 // printed by then.
-fn input_stops(rt: &HostRuntime, asked: Asked, bytes: &[u8], place: usize, printed: &[u8]) -> bool {
+fn input_stops(
+    rt: &HostRuntime,
+    asked: Asked<'_>,
+    bytes: &[u8],
+    place: usize,
+    printed: &[u8],
+) -> bool {
     let mut streams = Streams {
         input: BrokenInput::new(bytes, place),
         out: Vec::new(rt.alloc()),
@@ -89,20 +73,20 @@ fn standard_input_fails(rt: HostRuntime) {
     for (place, _) in KEYS.iter().enumerate() {
         // Digits are echoed, so what was read is what was answered.
         let answered = KEYS.get(..place).unwrap_or_default();
-        let stops = input_stops(&rt, Asked::Type, KEYS, place, answered);
+        let stops = input_stops(&rt, Asked::Type(LARGEST), KEYS, place, answered);
         assert!(rt; stops, "before key {place}");
     }
 }
 
 // What is asked for, what stands on standard input, and how many reads the console behind the port answers.
-type Row = (Asked, &'static [u8], u32);
+type Row = (Asked<'static>, &'static [u8], u32);
 
 // Requests that print. The last is a load whose line fails before its report does.
 const PRINTING: [Row; 4] = [
     (Asked::CheckInput, &ONE_WORD, 0),
-    (Asked::Type, KEYS, 0),
-    (Asked::Load, &[], 1_000_000),
-    (Asked::Load, &[], 3),
+    (Asked::Type(LARGEST), KEYS, 0),
+    (Asked::Load(&[TAPE], PATIENT_LOAD), &[], 1_000_000),
+    (Asked::Load(&[TAPE], PATIENT_LOAD), &[], 3),
 ];
 
 // A request's streams, with this output.
@@ -158,23 +142,14 @@ const UNOPENED: [(&[&str], &str); 3] = [
 
 // Whether of tapes of these names just this is said.
 fn is_said(rt: &HostRuntime, names: &[&str], line: &str) -> bool {
-    let Ok(names) = Vec::from_slice(rt.alloc(), names) else {
-        return false;
-    };
-    let Ok(mut ended) = Ended::with_room(rt.alloc()) else {
+    let (Ok(request), Ok(mut ended)) = (
+        Asked::Check(names).request(rt.alloc()),
+        Ended::with_room(rt.alloc()),
+    ) else {
         return false;
     };
     let system = SimulatedSystem::new(rt, AMPLE);
-    run(
-        &system,
-        rt.alloc(),
-        Request::Tape(TapeRequest::Print(PrintRequest::Check(
-            names,
-            CheckOptions { blocks: false },
-        ))),
-        &[],
-        &mut ended,
-    );
+    run(&system, rt.alloc(), request, &[], &mut ended);
     ended.is(Status::DeviceFailed, "", line)
 }
 

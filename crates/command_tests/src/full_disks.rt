@@ -1,8 +1,10 @@
 //! Loads whose record has room for so many bytes alone, and requests whose line fails after so many reads: what the
 //! record then holds.
 
-use crate::attempts::{Ended, load_of, run};
+use crate::attempts::{Ended, run};
+use crate::commands::{Asked, PATIENT_LOAD};
 use endings::Status;
+use request_values::Load;
 use simulated_system::{AMPLE, ONE_WORD, SimulatedSystem, SystemSetting, remove};
 use std::alloc::AllocError;
 use std::os::unix::fs::symlink;
@@ -42,7 +44,11 @@ const ROWS: [Row; 6] = [
 
 // Loads the tape over a system. The error is that the request itself has no room.
 fn load(rt: &HostRuntime, setting: SystemSetting, ended: &mut Ended) -> Result<(), AllocError> {
-    let request = load_of(rt.alloc(), TAPE, Some(RECORD))?;
+    let recorded = Load {
+        record: Some(RECORD),
+        ..PATIENT_LOAD
+    };
+    let request = Asked::Load(&[TAPE], recorded).request(rt.alloc())?;
     let system = SimulatedSystem::new(rt, setting);
     run(&system, rt.alloc(), request, &[], ended);
     Ok(())

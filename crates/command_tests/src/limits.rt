@@ -1,15 +1,14 @@
 //! What no command line can ask for: a check of no tape, and a machine that is too large.
 
 use crate::attempts::{Ended, run};
+use crate::commands::Asked;
 use endings::Status;
 use odt_machine::PLAIN_STYLE;
-use request_values::{Console, PrintRequest, Request, Stage, TapeRequest};
+use request_values::Console;
 use simulated_system::{ONE_WORD, WRONG_SUM};
-use std::alloc::{AllocError, Global};
 use std::test::Fail;
 use std::{fs, io};
 use tape_commands::check_to;
-use tape_image::Start;
 
 #[test]
 fn no_tape_has_no_word(rt: HostRuntime) {
@@ -30,16 +29,6 @@ const TOO_LARGE: Console = Console {
     style: PLAIN_STYLE,
 };
 
-// A dialogue with it.
-fn dialogue(alloc: Global, tape: &str) -> Result<Request<'_>, AllocError> {
-    let names = Vec::from_slice(alloc, &[tape])?;
-    let stage = Stage {
-        console: TOO_LARGE,
-        start: Start::OfTape,
-    };
-    Ok(Request::Tape(TapeRequest::Print(PrintRequest::Dialogue(names, stage))))
-}
-
 // The line that says that a machine is too large.
 const REFUSED: &str = "ldaodt: machine too large\n";
 
@@ -49,12 +38,13 @@ const TAPE_REFUSED: &str = "ldaodt: tape refused at 9: BadSum\n";
 // Whether a request writes no output, and ends so.
 fn is_refused(
     rt: &HostRuntime,
-    request: Request<'_>,
+    asked: Asked<'_>,
     input: &[u8],
     status: Status,
     line: &str,
 ) -> bool {
-    let Ok(mut ended) = Ended::with_room(rt.alloc()) else {
+    let (Ok(request), Ok(mut ended)) = (asked.request(rt.alloc()), Ended::with_room(rt.alloc()))
+    else {
         return false;
     };
     run(rt, rt.alloc(), request, input, &mut ended);
@@ -63,10 +53,7 @@ fn is_refused(
 
 // Whether a dialogue over a tape ends so.
 fn is_dialogue_refused(rt: &HostRuntime, tape: &str, status: Status, line: &str) -> bool {
-    match dialogue(rt.alloc(), tape) {
-        Ok(request) => is_refused(rt, request, &[], status, line),
-        Err(_) => false,
-    }
+    is_refused(rt, Asked::Dialogue(&[tape], TOO_LARGE), &[], status, line)
 }
 
 // Puts both tapes there.
@@ -84,15 +71,7 @@ fn remove_tapes(rt: &HostRuntime) -> io::Result<()> {
 fn a_machine_that_is_too_large_is_refused(rt: HostRuntime) -> Result<(), Fail> {
     put_tapes(&rt)?;
     let status = Status::BadCommandLine;
-    assert!(rt;
-        is_refused(
-            &rt,
-            Request::Tape(TapeRequest::Print(PrintRequest::Type(TOO_LARGE))),
-            b"0/",
-            status,
-            REFUSED
-        )
-    );
+    assert!(rt; is_refused(&rt, Asked::Type(TOO_LARGE), b"0/", status, REFUSED));
     assert!(rt; is_dialogue_refused(&rt, GOOD, status, REFUSED));
     assert!(rt; is_dialogue_refused(&rt, BAD, Status::Refused, TAPE_REFUSED));
     Ok(remove_tapes(&rt)?)

@@ -2,13 +2,10 @@
 //! a port and at a device.
 
 use crate::attempts::{Ended, run};
+use crate::commands::{Asked, LOAD, LOOK};
 use endings::Status;
-use request_values::{
-    AddressRange, Load, LoadOptions, Look, MachineRequest, PrintRequest, Probe, Request, Save,
-    TapeRequest,
-};
-use simulated_system::{AMPLE, DEVICE, ONE_WORD, QUIET_MS, SimulatedSystem, SystemSetting, remove};
-use std::alloc::{AllocError, Global};
+use request_values::{Load, Look};
+use simulated_system::{AMPLE, DEVICE, ONE_WORD, SimulatedSystem, SystemSetting, remove};
 use std::fs;
 use std::test::Fail;
 use tape_image::Start;
@@ -16,62 +13,9 @@ use tape_image::Start;
 // The tape, and the file of a save.
 const TAPE: &str = "machines.lda";
 
+const TAPES: &[&str] = &[TAPE];
+
 const SAVED: &str = "machines-saved.lda";
-
-// The port at which the console is.
-const PORT: &str = "127.0.0.1:2323";
-
-// A load through the port.
-const LOAD: Load<'static> = Load {
-    line: PORT,
-    record: None,
-    options: LoadOptions {
-        patience: 0,
-        recheck: false,
-        fast: false,
-    },
-    start: Start::OfTape,
-    listen: None,
-    quiet_ms: QUIET_MS,
-};
-
-// A look through it.
-const LOOK: Look<'static> = Look {
-    line: PORT,
-    patience: 0,
-    quiet_ms: QUIET_MS,
-};
-
-// What is asked for.
-#[derive(Clone, Copy)]
-enum Asked {
-    Load(Load<'static>),
-    Verify(Look<'static>),
-    Save(Look<'static>),
-    Probe(Look<'static>),
-}
-
-// The request, with the smallest tape, or for its word.
-fn request_of(alloc: Global, asked: Asked) -> Result<Request<'static>, AllocError> {
-    let names = Vec::from_slice(alloc, &[TAPE])?;
-    Ok(match asked {
-        Asked::Load(load) => Request::Machine(MachineRequest::Load(names, load)),
-        Asked::Verify(look) => Request::Machine(MachineRequest::Verify(names, look)),
-        Asked::Save(look) => match AddressRange::new(0o001000, 0o001000) {
-            Some(range) => Request::Machine(MachineRequest::Save(Save {
-                file: SAVED,
-                range,
-                start: 1,
-                look,
-            })),
-            None => Request::Tape(TapeRequest::Print(PrintRequest::CheckInput)),
-        },
-        Asked::Probe(look) => Request::Machine(MachineRequest::Probe(Probe {
-            address: 0o001000,
-            look,
-        })),
-    })
-}
 
 // A machine of which the tape's word stands.
 const LOADED: SystemSetting = SystemSetting {
@@ -99,7 +43,7 @@ const GREETING: SystemSetting = SystemSetting {
 
 // What is asked for, of which machine, and how it ends, with how many connections.
 type Row = (
-    Asked,
+    Asked<'static>,
     SystemSetting,
     Status,
     &'static str,
@@ -110,10 +54,13 @@ type Row = (
 // Loads with each start, and what is heard behind them.
 static LOADS: [Row; 7] = [
     (
-        Asked::Load(Load {
-            start: Start::Nowhere,
-            ..LOAD
-        }),
+        Asked::Load(
+            TAPES,
+            Load {
+                start: Start::Nowhere,
+                ..LOAD
+            },
+        ),
         AMPLE,
         Status::Done,
         "sent 23 spent 0 verified 1 of 1\nend Loaded\n",
@@ -121,11 +68,14 @@ static LOADS: [Row; 7] = [
         1,
     ),
     (
-        Asked::Load(Load {
-            start: Start::At(0o002000),
-            listen: Some(1),
-            ..LOAD
-        }),
+        Asked::Load(
+            TAPES,
+            Load {
+                start: Start::At(0o002000),
+                listen: Some(1),
+                ..LOAD
+            },
+        ),
         GREETING,
         Status::Done,
         "sent 30 spent 0 verified 1 of 1\nend Started\nHELLO\r\n",
@@ -133,11 +83,14 @@ static LOADS: [Row; 7] = [
         1,
     ),
     (
-        Asked::Load(Load {
-            line: DEVICE,
-            listen: Some(60),
-            ..LOAD
-        }),
+        Asked::Load(
+            TAPES,
+            Load {
+                line: DEVICE,
+                listen: Some(60),
+                ..LOAD
+            },
+        ),
         GREETING,
         Status::Done,
         "sent 30 spent 0 verified 1 of 1\nend Started\nHELLO\r\n",
@@ -145,11 +98,14 @@ static LOADS: [Row; 7] = [
         1,
     ),
     (
-        Asked::Load(Load {
-            start: Start::Nowhere,
-            listen: Some(1),
-            ..LOAD
-        }),
+        Asked::Load(
+            TAPES,
+            Load {
+                start: Start::Nowhere,
+                listen: Some(1),
+                ..LOAD
+            },
+        ),
         GREETING,
         Status::Done,
         "sent 23 spent 0 verified 1 of 1\nend Loaded\n",
@@ -157,7 +113,7 @@ static LOADS: [Row; 7] = [
         1,
     ),
     (
-        Asked::Load(LOAD),
+        Asked::Load(TAPES, LOAD),
         GREETING,
         Status::Done,
         "sent 30 spent 0 verified 1 of 1\nend Started\n",
@@ -165,10 +121,13 @@ static LOADS: [Row; 7] = [
         1,
     ),
     (
-        Asked::Load(Load {
-            line: "/dev/ttyUSB1",
-            ..LOAD
-        }),
+        Asked::Load(
+            TAPES,
+            Load {
+                line: "/dev/ttyUSB1",
+                ..LOAD
+            },
+        ),
         AMPLE,
         Status::DeviceFailed,
         "",
@@ -176,10 +135,13 @@ static LOADS: [Row; 7] = [
         1,
     ),
     (
-        Asked::Load(Load {
-            line: DEVICE,
-            ..LOAD
-        }),
+        Asked::Load(
+            TAPES,
+            Load {
+                line: DEVICE,
+                ..LOAD
+            },
+        ),
         SystemSetting { reads: 12, ..AMPLE },
         Status::DeviceFailed,
         "sent 0 spent 0 verified 0 of 1\nend LineFailed\n",
@@ -191,7 +153,7 @@ static LOADS: [Row; 7] = [
 // Looks and saves.
 static LOOKS: [Row; 7] = [
     (
-        Asked::Verify(LOOK),
+        Asked::Verify(TAPES, LOOK),
         LOADED,
         Status::Done,
         "sent 9 spent 0 looked 1 of 1 differ 0\nend Same\n",
@@ -199,10 +161,13 @@ static LOOKS: [Row; 7] = [
         1,
     ),
     (
-        Asked::Verify(Look {
-            line: DEVICE,
-            ..LOOK
-        }),
+        Asked::Verify(
+            TAPES,
+            Look {
+                line: DEVICE,
+                ..LOOK
+            },
+        ),
         OTHER,
         Status::Differs,
         "001000 177777 011064 differs 011065\nsent 9 spent 0 looked 1 of 1 differ 1\nend Differs\n",
@@ -210,7 +175,7 @@ static LOOKS: [Row; 7] = [
         1,
     ),
     (
-        Asked::Verify(LOOK),
+        Asked::Verify(TAPES, LOOK),
         SMALL,
         Status::NotLoaded,
         "sent 8 spent 0 looked 0 of 1 differ 0\nend NoWord 001000\n",
@@ -218,7 +183,7 @@ static LOOKS: [Row; 7] = [
         1,
     ),
     (
-        Asked::Verify(LOOK),
+        Asked::Verify(TAPES, LOOK),
         SystemSetting { reads: 0, ..AMPLE },
         Status::DeviceFailed,
         "",
@@ -226,7 +191,7 @@ static LOOKS: [Row; 7] = [
         1,
     ),
     (
-        Asked::Save(LOOK),
+        Asked::Save(SAVED, 0o001000, LOOK),
         SMALL,
         Status::NotLoaded,
         "sent 8 spent 0 read 0 of 1\nend NoWord 001000\n",
@@ -234,10 +199,14 @@ static LOOKS: [Row; 7] = [
         1,
     ),
     (
-        Asked::Save(Look {
-            line: DEVICE,
-            ..LOOK
-        }),
+        Asked::Save(
+            SAVED,
+            0o001000,
+            Look {
+                line: DEVICE,
+                ..LOOK
+            },
+        ),
         LOADED,
         Status::Done,
         "sent 9 spent 0 read 1 of 1\nend Saved\n",
@@ -245,7 +214,7 @@ static LOOKS: [Row; 7] = [
         1,
     ),
     (
-        Asked::Save(LOOK),
+        Asked::Save(SAVED, 0o001000, LOOK),
         OTHER,
         Status::DeviceFailed,
         "",
@@ -327,7 +296,7 @@ static PROBES: [Row; 6] = [
 // Whether a request ends so.
 fn is_so(rt: &HostRuntime, row: &Row) -> bool {
     let (asked, setting, status, out, err, connections) = *row;
-    let (Ok(request), Ok(mut ended)) = (request_of(rt.alloc(), asked), Ended::with_room(rt.alloc()))
+    let (Ok(request), Ok(mut ended)) = (asked.request(rt.alloc()), Ended::with_room(rt.alloc()))
     else {
         return false;
     };

@@ -1,13 +1,12 @@
 //! Want of memory while a load or a look goes on: each growth is refused in turn, those behind the
 //! connection, too.
 
-use crate::attempts::{Ended, OUT_OF_MEMORY, load_of, run};
+use crate::attempts::{Ended, OUT_OF_MEMORY, run};
+use crate::commands::{Asked, LOOK, PATIENT_LOAD};
 use endings::Status;
-use request_values::{
-    AddressRange, Look, MachineRequest, PrintRequest, Request, Save, TapeRequest,
-};
+use request_values::{Load, Look};
 use scarce_memory::{Famine, ROOMS};
-use simulated_system::{AMPLE, ONE_WORD, QUIET_MS, SimulatedSystem, SystemSetting};
+use simulated_system::{AMPLE, ONE_WORD, SimulatedSystem, SystemSetting};
 use std::alloc::{AllocError, Global};
 use std::fs;
 use std::test::Fail;
@@ -36,10 +35,9 @@ const SAVED: &str = "scarce-saved.lda";
 const BESIDE_SAVED: &str = "scarce-saved.lda.part";
 
 // A look at the machine.
-const LOOK: Look<'static> = Look {
-    line: "127.0.0.1:2323",
+const PATIENT_LOOK: Look<'static> = Look {
     patience: 3,
-    quiet_ms: QUIET_MS,
+    ..LOOK
 };
 
 // What is reported of a tape of so many zeroes: a key to begin with, and of each word, which stands already,
@@ -53,44 +51,6 @@ const ZEROES_SAVED: &str = "sent 16001 spent 0 read 2000 of 2000\nend Saved\n";
 
 // What is reported of the smallest tape.
 const STARTED: &str = "sent 30 spent 0 verified 1 of 1\nend Started\n";
-
-// What is asked for.
-#[derive(Clone, Copy)]
-enum Asked<'a> {
-    // Load the tape, with a record in this file, or in memory.
-    Load(Option<&'a str>),
-
-    // Look whether memory has the tape's words.
-    Verify,
-
-    // Save as many words as that tape has.
-    Save,
-}
-
-// The request for it. The error is that it has no room.
-fn request_of(alloc: Global, asked: Asked<'_>) -> Result<Request<'_>, AllocError> {
-    match asked {
-        Asked::Load(record) => load_of(alloc, TAPE, record),
-        Asked::Verify => verify_of(alloc, TAPE, LOOK),
-        Asked::Save => Ok(save_of(SAVED, LOOK)),
-    }
-}
-
-fn verify_of<'a>(alloc: Global, tape: &'a str, look: Look<'a>) -> Result<Request<'a>, AllocError> {
-    Ok(Request::Machine(MachineRequest::Verify(Vec::from_slice(alloc, &[tape])?, look)))
-}
-
-fn save_of<'a>(name: &'a str, look: Look<'a>) -> Request<'a> {
-    match AddressRange::new(0o001000, 0o010636) {
-        Some(range) => Request::Machine(MachineRequest::Save(Save {
-            file: name,
-            range,
-            start: 1,
-            look,
-        })),
-        None => Request::Tape(TapeRequest::Print(PrintRequest::CheckInput)),
-    }
-}
 
 // The text of a tape with these bytes at 001000, and no start.
 fn text_of(alloc: Global, bytes: &[u8]) -> Option<Vec<u8>> {
@@ -129,7 +89,7 @@ fn attempt(
     asked: Asked<'_>,
     ended: &mut Ended,
 ) -> Result<(), AllocError> {
-    let request = request_of(alloc, asked)?;
+    let request = asked.request(alloc)?;
     run(system, alloc, request, &[], ended);
     Ok(())
 }
@@ -227,7 +187,7 @@ fn done_at_last(rt: &HostRuntime, asked: Asked<'_>, report: &str) -> Option<Refu
 #[test]
 fn each_growth_of_a_load_is_refused_in_turn(rt: HostRuntime) -> Result<(), Fail> {
     assert!(rt; put_tape(&rt, &[0; 2 * WORDS]), "no tape");
-    let refusals = done_at_last(&rt, Asked::Load(None), ZEROES_LOADED);
+    let refusals = done_at_last(&rt, Asked::Load(&[TAPE], PATIENT_LOAD), ZEROES_LOADED);
     assert!(rt; refusals.is_some_and(|refusals| refusals.behind > 0));
     Ok(fs::remove_file(&rt, TAPE)?)
 }
@@ -236,7 +196,7 @@ fn each_growth_of_a_load_is_refused_in_turn(rt: HostRuntime) -> Result<(), Fail>
 #[test]
 fn each_growth_of_a_verify_is_refused_in_turn(rt: HostRuntime) -> Result<(), Fail> {
     assert!(rt; put_tape(&rt, &[0; 2 * LOOKED]), "no tape");
-    let refusals = done_at_last(&rt, Asked::Verify, ZEROES_THERE);
+    let refusals = done_at_last(&rt, Asked::Verify(&[TAPE], PATIENT_LOOK), ZEROES_THERE);
     assert!(rt; refusals.is_some_and(|refusals| refusals.all > 0 && refusals.behind == 0));
     Ok(fs::remove_file(&rt, TAPE)?)
 }
@@ -244,7 +204,11 @@ fn each_growth_of_a_verify_is_refused_in_turn(rt: HostRuntime) -> Result<(), Fai
 // So is all that a save needs.
 #[test]
 fn each_growth_of_a_save_is_refused_in_turn(rt: HostRuntime) -> Result<(), Fail> {
-    let refusals = done_at_last(&rt, Asked::Save, ZEROES_SAVED);
+    let refusals = done_at_last(
+        &rt,
+        Asked::Save(SAVED, 0o010636, PATIENT_LOOK),
+        ZEROES_SAVED,
+    );
     assert!(rt; refusals.is_some_and(|refusals| refusals.all > 0 && refusals.behind == 0));
     Ok(fs::remove_file(&rt, SAVED)?)
 }
@@ -254,7 +218,11 @@ fn each_growth_of_a_save_is_refused_in_turn(rt: HostRuntime) -> Result<(), Fail>
 fn recorded_at_last(rt: &HostRuntime) -> Option<Refusals> {
     let mut name = String::new(rt.alloc());
     add_long_name(&mut name).ok()?;
-    done_at_last(rt, Asked::Load(Some(name.as_str())), STARTED)
+    let recorded = Load {
+        record: Some(name.as_str()),
+        ..PATIENT_LOAD
+    };
+    done_at_last(rt, Asked::Load(&[TAPE], recorded), STARTED)
 }
 
 #[test]

@@ -2,19 +2,14 @@
 //! there is a simulated one.
 
 use crate::attempts::{Ended, OUT_OF_MEMORY, run};
-use crate::commands::{COMMANDS, Command, STALE};
+use crate::commands::{Asked, COMMANDS, LARGEST, LOAD, LOOK, OPTIONS, STALE};
 use endings::Status;
-use odt_machine::{LARGEST_WORDS, PLAIN_STYLE};
-use request_values::{
-    CheckOptions, Console, Load, LoadOptions, Look, MachineRequest, PrintRequest, Probe, Rehearsal,
-    Request, Stage, TapeRequest,
-};
+use odt_machine::PLAIN_STYLE;
+use request_values::{Console, Load, LoadOptions, Look, PrintRequest, Request, TapeRequest};
 use scarce_memory::{Famine, ROOMS};
 use simulated_system::{NOTHING, ONE_WORD, ONE_WORD_TEXT, PADDED, WRONG_SUM};
-use std::alloc::{AllocError, Global};
 use std::test::Fail;
 use std::{fs, io};
-use tape_image::Start;
 
 // The files that the requests name.
 const FILES: [(&str, &[u8]); 7] = [
@@ -27,44 +22,30 @@ const FILES: [(&str, &[u8]); 7] = [
     ("scarce.record", b"LDAODT 1\n001000 177777 011064\nG\n"),
 ];
 
-// Loads that survive eight mishaps.
-const OPTIONS: LoadOptions = LoadOptions {
-    patience: 8,
-    recheck: false,
-    fast: false,
+// A port where nobody listens.
+const NOBODY: &str = "127.0.0.1:1";
+
+// A load through it that would survive eight mishaps.
+const VAIN_LOAD: Load<'static> = Load {
+    line: NOBODY,
+    options: LoadOptions {
+        patience: 8,
+        ..OPTIONS
+    },
+    ..LOAD
 };
 
 // A load whose start was typed in an earlier life, so that nothing is connected to.
 const MARKED_LOAD: Load<'static> = Load {
-    line: "127.0.0.1:1",
     record: Some("scarce.record"),
-    options: OPTIONS,
-    start: Start::OfTape,
-    listen: None,
-    quiet_ms: 2000,
-};
-
-// A load through a port where nobody listens.
-const VAIN_LOAD: Load<'static> = Load {
-    line: "127.0.0.1:1",
-    record: None,
-    options: OPTIONS,
-    start: Start::OfTape,
-    listen: None,
-    quiet_ms: 2000,
+    ..VAIN_LOAD
 };
 
 // A look through such a port.
 const VAIN_LOOK: Look<'static> = Look {
-    line: "127.0.0.1:1",
+    line: NOBODY,
     patience: 8,
-    quiet_ms: 2000,
-};
-
-// A console over all the memory that there may be.
-const LARGEST: Console = Console {
-    words: LARGEST_WORDS,
-    style: PLAIN_STYLE,
+    ..LOOK
 };
 
 // What `check` prints of the smallest tape, and the same tape again.
@@ -85,62 +66,15 @@ const SMALL_MACHINE: &str =
 const DIGIT_LOST: &str =
     "sent 34 lost 1 spent 1 verified 1 of 1\nend Started\nodt Running 001000\n001000 011064 stands\n";
 
-// What is asked for, with the names that a request has in a vector.
-#[derive(Clone, Copy)]
-enum Asked {
-    Plain(Command),
-    CheckInput,
-    Check(&'static [&'static str]),
-    Dialogue(&'static [&'static str], Console),
-    Rehearse(&'static str, &'static str),
-    Type(Console),
-    Load(&'static [&'static str], Load<'static>),
-    Probe(Look<'static>),
-}
-
-// The request of a row.
-fn request_of(alloc: Global, asked: Asked) -> Result<Request<'static>, AllocError> {
-    Ok(match asked {
-        Asked::Plain(command) => {
-            command.request(alloc, "scarce-one-word.lda", "scarce-stale.script")?
-        }
-        Asked::CheckInput => Request::Tape(TapeRequest::Print(PrintRequest::CheckInput)),
-        Asked::Check(tapes) => Request::Tape(TapeRequest::Print(PrintRequest::Check(
-            Vec::from_slice(alloc, tapes)?,
-            CheckOptions { blocks: false },
-        ))),
-        Asked::Dialogue(tapes, console) => {
-            let stage = Stage {
-                console,
-                start: Start::OfTape,
-            };
-            Request::Tape(TapeRequest::Print(PrintRequest::Dialogue(
-                Vec::from_slice(alloc, tapes)?,
-                stage,
-            )))
-        }
-        Asked::Rehearse(tape, script) => Request::Tape(TapeRequest::Print(PrintRequest::Rehearse(
-            Rehearsal {
-                tape,
-                script,
-                more: Vec::new(alloc),
-            },
-        ))),
-        Asked::Type(console) => Request::Tape(TapeRequest::Print(PrintRequest::Type(console))),
-        Asked::Load(tapes, load) => Request::Machine(MachineRequest::Load(
-            Vec::from_slice(alloc, tapes)?,
-            load,
-        )),
-        Asked::Probe(look) => Request::Machine(MachineRequest::Probe(Probe {
-            address: 0o001000,
-            look,
-        })),
-    })
-}
-
 // What is asked for, what stands on standard input, and with ample memory how it ends, the output and
 // the line on standard error.
-type Row = (Asked, &'static [u8], Status, &'static str, &'static str);
+type Row = (
+    Asked<'static>,
+    &'static [u8],
+    Status,
+    &'static str,
+    &'static str,
+);
 
 // Requests that one command alone has, some of them refused behind their growths.
 static REQUESTS: [Row; 13] = [
@@ -241,13 +175,13 @@ fn is_orderly(ended: &Ended, whole: &str) -> bool {
 // where it ended otherwise.
 fn refusals_of(
     rt: &HostRuntime,
-    asked: Asked,
+    asked: Asked<'_>,
     input: &[u8],
     whole: &str,
     ended: &mut Ended,
 ) -> Option<usize> {
     // The names stand in the same room.
-    let Ok(request) = request_of(rt.alloc(), asked) else {
+    let Ok(request) = asked.request(rt.alloc()) else {
         return Some(0);
     };
     run(rt, rt.alloc(), request, input, ended);
@@ -257,7 +191,7 @@ fn refusals_of(
 // Does a request in rooms that grow until memory is not wanting, and answers how often it was.
 fn run_scarcely(
     rt: &HostRuntime,
-    asked: Asked,
+    asked: Asked<'_>,
     input: &[u8],
     whole: &str,
     ended: &mut Ended,
@@ -307,7 +241,7 @@ fn each_growth_is_refused_in_turn(rt: HostRuntime) -> Result<(), Fail> {
     put_files(&rt)?;
     for (place, command) in COMMANDS.iter().enumerate() {
         let row = (
-            Asked::Plain(*command),
+            command.asked(&["scarce-one-word.lda"], "scarce-stale.script"),
             [].as_slice(),
             Status::Done,
             command.text(),

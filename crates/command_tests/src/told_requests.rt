@@ -1,6 +1,7 @@
 //! What a system tells of the requests that are done in it: which files were opened, what was asked for lines and given
 //! back of them, and whether anything was asked of the disk.
 
+use crate::commands::{Asked, LOAD, LOOK, PORT};
 use crate::told_consoles::ToldConsoles;
 use crate::told_inputs::ToldInputs;
 use crate::told_system::{ToldSystem, attempt_told};
@@ -8,83 +9,25 @@ use endings::Status;
 use honest_line::MemoryLine;
 use host_devices::Item;
 use odt_machine::{LARGEST_WORDS, Odt, PLAIN_STYLE};
-use request_values::{
-    AddressRange, Load, LoadOptions, Look, MachineRequest, PrintRequest, Probe, Request, Save,
-    TapeRequest,
-};
+use request_values::Load;
 use simulated_system::{LineRequest, ONE_WORD, QUIET_MS, ToldDisk, ToldOpening, remove};
-use std::alloc::{AllocError, Global};
 use std::fs;
 use std::process::Abort;
 use std::rt::Files;
 use std::test::Fail;
 use std::time::Clock;
-use tape_image::Start;
 
 const TAPE: &str = "told.lda";
+
+const TAPES: &[&str] = &[TAPE];
 
 const RECORD: &str = "told.record";
 
 const SAVED: &str = "told-saved.lda";
 
-const PORT: &str = "127.0.0.1:2323";
-
-const LOOK: Look<'static> = Look {
-    line: PORT,
-    patience: 0,
-    quiet_ms: QUIET_MS,
-};
-
-// What is asked for. A load may have a record.
-#[derive(Clone, Copy)]
-enum Asked {
-    CheckInput,
-    Load(Option<&'static str>),
-    Verify,
-    Save,
-    Probe,
-}
-
-// The request, with the smallest tape, or for its word.
-fn request_of(alloc: Global, asked: Asked) -> Result<Request<'static>, AllocError> {
-    let names = Vec::from_slice(alloc, &[TAPE])?;
-    Ok(match asked {
-        Asked::CheckInput => Request::Tape(TapeRequest::Print(PrintRequest::CheckInput)),
-        Asked::Load(record) => Request::Machine(MachineRequest::Load(
-            names,
-            Load {
-                line: PORT,
-                record,
-                options: LoadOptions {
-                    patience: 0,
-                    recheck: false,
-                    fast: false,
-                },
-                start: Start::OfTape,
-                listen: None,
-                quiet_ms: QUIET_MS,
-            },
-        )),
-        Asked::Verify => Request::Machine(MachineRequest::Verify(names, LOOK)),
-        Asked::Save => match AddressRange::new(0o001000, 0o001000) {
-            Some(range) => Request::Machine(MachineRequest::Save(Save {
-                file: SAVED,
-                range,
-                start: 1,
-                look: LOOK,
-            })),
-            None => Request::Tape(TapeRequest::Print(PrintRequest::CheckInput)),
-        },
-        Asked::Probe => Request::Machine(MachineRequest::Probe(Probe {
-            address: 0o001000,
-            look: LOOK,
-        })),
-    })
-}
-
 // A request and how it ends, with a machine of zeros behind the port or none; and what is told of it.
 struct Row {
-    asked: Asked,
+    asked: Asked<'static>,
     has_machine: bool,
     status: Status,
     opens_tape: bool,
@@ -104,7 +47,7 @@ const ROWS: [Row; 7] = [
         asks_disk: false,
     },
     Row {
-        asked: Asked::Load(None),
+        asked: Asked::Load(TAPES, LOAD),
         has_machine: true,
         status: Status::Done,
         opens_tape: true,
@@ -112,7 +55,13 @@ const ROWS: [Row; 7] = [
         asks_disk: false,
     },
     Row {
-        asked: Asked::Load(Some(RECORD)),
+        asked: Asked::Load(
+            TAPES,
+            Load {
+                record: Some(RECORD),
+                ..LOAD
+            },
+        ),
         has_machine: true,
         status: Status::Done,
         opens_tape: true,
@@ -120,7 +69,7 @@ const ROWS: [Row; 7] = [
         asks_disk: true,
     },
     Row {
-        asked: Asked::Load(None),
+        asked: Asked::Load(TAPES, LOAD),
         has_machine: false,
         status: Status::DeviceFailed,
         opens_tape: true,
@@ -128,7 +77,7 @@ const ROWS: [Row; 7] = [
         asks_disk: false,
     },
     Row {
-        asked: Asked::Verify,
+        asked: Asked::Verify(TAPES, LOOK),
         has_machine: true,
         status: Status::Differs,
         opens_tape: true,
@@ -136,7 +85,7 @@ const ROWS: [Row; 7] = [
         asks_disk: false,
     },
     Row {
-        asked: Asked::Save,
+        asked: Asked::Save(SAVED, 0o001000, LOOK),
         has_machine: true,
         status: Status::Done,
         opens_tape: false,
@@ -144,7 +93,7 @@ const ROWS: [Row; 7] = [
         asks_disk: true,
     },
     Row {
-        asked: Asked::Probe,
+        asked: Asked::Probe(LOOK),
         has_machine: true,
         status: Status::Done,
         opens_tape: false,
@@ -197,7 +146,7 @@ fn is_given_back(lines: &[MemoryLine], row: &Row) -> bool {
 // Whether a request ends so, and this is told of it.
 fn is_told<R: Abort + Files + Clock>(rt: &R, host: &HostRuntime, row: &Row) -> bool {
     let alloc = host.alloc();
-    let Ok(request) = request_of(alloc, row.asked) else {
+    let Ok(request) = row.asked.request(alloc) else {
         return false;
     };
     let odt = if row.has_machine {

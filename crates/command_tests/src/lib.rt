@@ -4,7 +4,8 @@
 //! Contracts say what the calls answer beside the answer for want of memory, and let that one come at
 //! any time; here stands what no clause can say: that they succeed where memory is ample; that with a
 //! growth refused they answer just that, with nothing written but the beginning of the whole; and that a
-//! device that failed is not asked again.
+//! device that failed is not asked again. A `ToldSystem` tells what each of its parts was asked: the
+//! witness that what `attempt` promises can be met.
 //!
 //! What the built program shows from outside is tested in `tests/` at the top: the largest sizes and
 //! scripts and records with a byte changed among it. These tests stand in a crate of their own, since a

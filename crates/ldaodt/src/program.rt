@@ -27,8 +27,8 @@ use witness::Witness;
 ///
 /// Reports and help go to standard output, which is flushed; refused command lines and faults go to
 /// standard error, a fault as one line, and behind it the system's reason, as the witness has it. What can't be written
-/// there is not told, nor that nobody reads any more what only prints. A load shows on the terminal, where there is
-/// one, how far it is. A run at a machine has the line of a log behind all else, where the words ask for one.
+/// there is not told, nor that nobody reads any more what only prints. A load or a look shows on the terminal, where
+/// there is one, how far it is. A run at a machine has the line of a log behind all else, where the words ask for one.
 pub(crate) fn program<K: Kinds, R: Read, W: Output, E: FaultOutput, T: Print>(
     rt: &HostRuntime,
     system: System<K>,

@@ -19,7 +19,7 @@ pub enum LoadFault {
     /// No connection could be made.
     Connect,
 
-    /// The record may not be written, or can't be written anew. Nothing was sent.
+    /// The record may not be written, or can't be written anew. Nothing was sent but looks.
     WriteRecord,
 
     /// The report can't be written. What was sent was sent, and what was kept is kept.

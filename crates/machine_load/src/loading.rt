@@ -61,8 +61,8 @@ use tape_image::Plan;
 /// was, `WriteRecord` right behind the looks, and before the connection, with the record as it was, where it
 /// is protected, or would have to be written in place and a byte of it would become another one.
 /// `WriteOutput` is a report that could not be written whole. `Memory` comes only where a growth was
-/// refused, for the record or for the looks: before any key but theirs, with nothing reported. Behind them a
-/// load takes no memory but for stubs, and want of that ends these alone.
+/// refused, for the record or for the looks: before any key but theirs, with nothing reported. Once its record
+/// is begun a load takes no memory but for stubs, and want of that ends these alone.
 pub fn load<S: Surroundings, W: Write, O: Onlooker>(
     alloc: Global,
     plan: Plan,

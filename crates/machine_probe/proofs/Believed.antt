@@ -10,7 +10,7 @@ use Rattle.machine_probe.specs.declared.search.Search.{Search}
 use Rattle.machine_probe.specs.declared.search.Search.TheVariants as search
 use Rattle.machine_probe.specs.MemoryEnd.{IsTrueEnd}
 use Rattle.looking_law.specs.Rows.{AreHonest}
-use Rattle.probe_report.specs.declared.findings.Attempt.{Attempt}
+use Rattle.probe_report.specs.declared.findings.TrialFindings.{TrialFindings}
 use Rattle.probe_report.specs.declared.findings.Extent.{Extent}
 use Rattle.probe_report.specs.declared.findings.Extent.TheVariants as extent
 use Rattle.probe_report.specs.declared.findings.Findings.{Findings}
@@ -101,7 +101,7 @@ look_right options sighting parts machine now lost address long l ready honest =
     same : {a b : Sighting} → Some a ≡ Some b → a ≡ b
     same e = cc e
 
-trial_leaves : (options : ProbeOptions) (old : ℕ) (attempt : Attempt) (parts : List (List Item)) (machine now : Machine) (lost : ℕ) → IsAddress options.address → options.patience < 2 ^ 32 →
+trial_leaves : (options : ProbeOptions) (old : ℕ) (attempt : TrialFindings) (parts : List (List Item)) (machine now : Machine) (lost : ℕ) → IsAddress options.address → options.patience < 2 ^ 32 →
     (t : IsTrialOf options old attempt parts) → IsReadyMachine machine → IsHonest machine t.said lost now → Leaves machine now
 trial_leaves options old attempt parts machine now lost address long t ready honest =
     let s = t.conducted in
@@ -139,14 +139,14 @@ row_look : (options : ProbeOptions) (sighting : Sighting) (parts : List (List It
 row_look options sighting parts machine now lost address long l ready honest =
     let one = one_part machine now parts l.said lost l.part honest in look_right options sighting parts machine now one.lost address long l ready one.honest
 
-row_trial : (options : ProbeOptions) (old : ℕ) (attempt : Attempt) (parts : List (List Item)) (machine now : Machine) (lost : ℕ) → IsAddress options.address → options.patience < 2 ^ 32 → IsTrialOf options old attempt parts →
+row_trial : (options : ProbeOptions) (old : ℕ) (attempt : TrialFindings) (parts : List (List Item)) (machine now : Machine) (lost : ℕ) → IsAddress options.address → options.patience < 2 ^ 32 → IsTrialOf options old attempt parts →
     IsReadyMachine machine → AreHonest machine parts lost now → Leaves machine now
 row_trial options old attempt parts machine now lost address long t ready honest =
     let one = one_part machine now parts t.said lost t.part honest in trial_leaves options old attempt parts machine now one.lost address long t ready one.honest
 
 -- ---- runs that were made, or not
 
-made_trial : (options : ProbeOptions) (wanted : Bool) (old : ℕ) (found : Option Attempt) (parts : List (List Item)) (machine now : Machine) (lost : ℕ) → IsAddress options.address → options.patience < 2 ^ 32 →
+made_trial : (options : ProbeOptions) (wanted : Bool) (old : ℕ) (found : Option TrialFindings) (parts : List (List Item)) (machine now : Machine) (lost : ℕ) → IsAddress options.address → options.patience < 2 ^ 32 →
     MadeWhere wanted (IsTrialOf options old) found parts → IsReadyMachine machine → AreHonest machine parts lost now → Leaves machine now
 made_trial options true old None parts machine now lost address long is ready honest = absurd is
 made_trial options true old (Some attempt) parts machine now lost address long is ready honest = row_trial options old attempt parts machine now lost address long is ready honest
@@ -194,7 +194,7 @@ same_is_kept (trial.LineFailed fault) = refl
 numbers_kept : (old now : ℕ) (end : TrialEnd) → now ≡ old → stores (on_numbers old now end) ≡ false
 numbers_kept old now end is = rw (eq-eqb now old is) (same_is_kept end)
 
-never_stores : (word : ℕ) (first : Sighting) (attempt : Option Attempt) (second : Option Sighting) → ((n : ℕ) → first ≡ look.Number n → n ≡ word) → ((n : ℕ) → second ≡ Some (look.Number n) → n ≡ word) →
+never_stores : (word : ℕ) (first : Sighting) (attempt : Option TrialFindings) (second : Option Sighting) → ((n : ℕ) → first ≡ look.Number n → n ≡ word) → ((n : ℕ) → second ≡ Some (look.Number n) → n ≡ word) →
     stores (on_looks first attempt second) ≡ false
 never_stores word (look.Number old) (Some attempt) (Some (look.Number now)) h k = numbers_kept old now attempt.end (k now refl ∙ sym (h old refl))
 never_stores word (look.Number old) (Some attempt) (Some look.NoWord) h k = refl

@@ -4,7 +4,7 @@ use Rattle.host_devices.specs.declared.item.Item.{Item}
 use Rattle.host_devices.specs.Told.{Gains, SaysNothing}
 use Rattle.host_devices.proofs.Told.{gains_join, gains_kept, gains_none}
 use Rattle.looking_law.specs.Rows.{in_a_row}
-use Rattle.probe_report.specs.declared.findings.Attempt.{Attempt}
+use Rattle.probe_report.specs.declared.findings.TrialFindings.{TrialFindings}
 use Rattle.probe_report.specs.declared.findings.Findings.{Findings}
 use Rattle.probe_report.specs.declared.findings.Sighting.{Sighting}
 use Rattle.probe_report.specs.declared.findings.Sighting.TheVariants.{Number, NoWord, GaveUp, TurnsOver, LineFailed}
@@ -21,7 +21,7 @@ use Rattle.trial_core.specs.Trial.{begun_trial, ended as trial_ended}
 use Rattle.looking_law.specs.Again.{looker}
 use Rattle.machine_probe.specs.declared.probe_options.ProbeOptions.{ProbeOptions}
 use Rattle.machine_probe.specs.declared.putting_back.Deposit.{Deposit}
-use Rattle.machine_probe.specs.Came.{attempt_of, first_of, sighting_of}
+use Rattle.machine_probe.specs.Came.{trial_findings_of, first_of, sighting_of}
 use Rattle.machine_probe.specs.Follow.{IsBrokenOff, IsProbe, IsTried, MadeWhere, forgets, goes_on, is_number, number_in, stores}
 use Rattle.machine_probe.specs.PuttingBack.{PutsBack}
 use Rattle.machine_probe.specs.Rooms.{HasDeposit}
@@ -74,9 +74,9 @@ look_is options core last stop turns number sighting line line' begins limit s e
     }) s.on_line
 
 -- what the engine of the trial answers is a trial
-pub trial_is : (options : ProbeOptions) (old : ℕ) (first last : Trial) (stop : TrialStop) (turns : ℕ) (attempt : Attempt) (line line' : Option (List Item)) →
+pub trial_is : (options : ProbeOptions) (old : ℕ) (first last : Trial) (stop : TrialStop) (turns : ℕ) (attempt : TrialFindings) (line line' : Option (List Item)) →
     first ≡ begun_trial options.address old options.patience → turns ≡ turns_of options.patience → Conducted turns (trying first last (Some stop)) line line' → TellsEnd stop (trial_ended last.phase) →
-    attempt ≡ attempt_of last stop → OnLine (IsTrialOf options old attempt) line line'
+    attempt ≡ trial_findings_of last stop → OnLine (IsTrialOf options old attempt) line line'
 trial_is options old first last stop turns attempt line line' begins limit s end came =
     one (IsTrialOf options old attempt) line line' s.said (record {
       said = s.said;
@@ -93,7 +93,7 @@ trial_is options old first last stop turns attempt line line' begins limit s end
         on_line = refl;
       }));
       end = end;
-      attempt_is = came;
+      findings_are = came;
     }) s.on_line
 
 -- ---- runs that are made, or not
@@ -107,7 +107,7 @@ not_made {A} true run line is = absurd (cc is)
 not_made {A} false run line is = record { parts = []; are = refl; on_line = gains_none line }
 
 -- where the console stored the digits, the old number can be put back
-pub can_put_back : (options : ProbeOptions) (first : Sighting) (trial : Option Attempt) (second : Option Sighting) → stores (on_looks first trial second) ≡ true → HasDeposit options first None → ⊥
+pub can_put_back : (options : ProbeOptions) (first : Sighting) (trial : Option TrialFindings) (second : Option Sighting) → stores (on_looks first trial second) ≡ true → HasDeposit options first None → ⊥
 can_put_back options (Number old) trial second is has = has
 can_put_back options NoWord trial second is has = cc is
 can_put_back options GaveUp trial second is has = cc is
@@ -115,7 +115,7 @@ can_put_back options TurnsOver trial second is has = cc is
 can_put_back options (LineFailed fault) trial second is has = cc is
 
 -- and it is the number that was read
-pub deposit_of : (options : ProbeOptions) (first : Sighting) (trial : Option Attempt) (second : Option Sighting) (deposit : Deposit) (P : ℕ → Type 0) → stores (on_looks first trial second) ≡ true →
+pub deposit_of : (options : ProbeOptions) (first : Sighting) (trial : Option TrialFindings) (second : Option Sighting) (deposit : Deposit) (P : ℕ → Type 0) → stores (on_looks first trial second) ≡ true →
     ((old : ℕ) → HasDeposit options (Number old) (Some deposit) → P old) → HasDeposit options first (Some deposit) → P (number_in first)
 deposit_of options (Number old) trial second deposit P is so has = so old has
 deposit_of options NoWord trial second deposit P is so has = absurd (cc is)

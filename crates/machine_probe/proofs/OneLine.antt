@@ -18,7 +18,7 @@ use Rattle.machine_probe.specs.declared.memory_end.PassEnd.TheVariants.{Lacking}
 use Rattle.looking_law.specs.Rows.{AreHonest, in_a_row}
 use Rattle.machine_probe.proofs.Founds.{IsOver, passed_within}
 use Rattle.machine_probe.proofs.LastWords.{last_asked}
-use Rattle.probe_report.specs.declared.findings.Attempt.{Attempt}
+use Rattle.probe_report.specs.declared.findings.TrialFindings.{TrialFindings}
 use Rattle.probe_report.specs.declared.findings.Extent.{Extent}
 use Rattle.probe_report.specs.declared.findings.Findings.{Findings}
 use Rattle.probe_report.specs.declared.findings.Sighting.{Sighting}
@@ -112,7 +112,7 @@ look_leaves options sighting parts address long l =
     let run : Run = Look (options.address ∷ []) options.patience s.heard in
     leave_ready run l.said (one_address options.address address, long) (subst (IsToldOf (dialogue_of run)) (sym s.on_line) (told_look l.stop _ (dialogue_of run) s.said s.items))
 
-trial_leaves_ready : (options : ProbeOptions) (old : ℕ) (attempt : Attempt) (parts : List (List Item)) → IsAddress options.address → options.patience < 2 ^ 32 → (t : IsTrialOf options old attempt parts) → LeavesReady t.said
+trial_leaves_ready : (options : ProbeOptions) (old : ℕ) (attempt : TrialFindings) (parts : List (List Item)) → IsAddress options.address → options.patience < 2 ^ 32 → (t : IsTrialOf options old attempt parts) → LeavesReady t.said
 trial_leaves_ready options old attempt parts address long t =
     let s = t.conducted in
     let run : Run = Try options.address old options.patience s.heard in

@@ -2,7 +2,7 @@
 use Rattle.std.specs.Prelude.{ℕ, nat_lt, List, [], ◌∷◌, Option, Some, None}
 use Rattle.machine_probe.specs.declared.search.Search.{Search}
 use Rattle.machine_probe.specs.declared.search.Search.TheVariants as search
-use Rattle.probe_report.specs.declared.findings.Attempt.{Attempt}
+use Rattle.probe_report.specs.declared.findings.TrialFindings.{TrialFindings}
 use Rattle.probe_report.specs.declared.findings.Extent.{Extent}
 use Rattle.probe_report.specs.declared.findings.Extent.TheVariants as extent
 use Rattle.probe_report.specs.declared.findings.Sighting.{Sighting}
@@ -38,8 +38,8 @@ trial_end_of TurnsOver = trial.TurnsOver
 trial_end_of (LineFailed fault) = trial.LineFailed fault
 
 -- what a trial gave that stopped so: its end, what it saw, and whether it had a mishap
-abbrev pub attempt_of : Trial → TrialStop → Attempt
-attempt_of t stop = record { end = trial_end_of stop; seen = t.seen; had_mishap = nat_lt 0 t.spent }
+abbrev pub trial_findings_of : Trial → TrialStop → TrialFindings
+trial_findings_of t stop = record { end = trial_end_of stop; seen = t.seen; had_mishap = nat_lt 0 t.spent }
 
 -- what a search gave that came out so
 abbrev pub extent_of : Search → Extent

@@ -1,7 +1,7 @@
 -- Which runs a probe makes.
 use Rattle.std.specs.Prelude.{◌≡◌, ◌⊎◌, ℕ, Bool, true, false, List, [], ◌++◌, Option, Some, None}
 use Rattle.host_devices.specs.declared.item.Item.{Item}
-use Rattle.probe_report.specs.declared.findings.Attempt.{Attempt}
+use Rattle.probe_report.specs.declared.findings.TrialFindings.{TrialFindings}
 use Rattle.probe_report.specs.declared.findings.Findings.{Findings}
 use Rattle.probe_report.specs.declared.findings.Sighting.{Sighting}
 use Rattle.probe_report.specs.declared.findings.Sighting.TheVariants as look
@@ -30,7 +30,7 @@ has_line (trial.LineFailed fault) = false
 has_line end = true
 
 -- there was a trial, and the line goes on behind it
-abbrev pub goes_on : Option Attempt → Bool
+abbrev pub goes_on : Option TrialFindings → Bool
 goes_on None = false
 goes_on (Some attempt) = has_line attempt.end
 

@@ -6,7 +6,7 @@ use Rattle.machine_probe.specs.declared.search.Search.{Search}
 use Rattle.machine_probe.specs.MemoryEnd.{IsFound}
 use Rattle.machine_probe.specs.Passes.{Searches, ahead, limits, three_passes}
 use Rattle.looking_law.specs.Rows.{in_a_row}
-use Rattle.probe_report.specs.declared.findings.Attempt.{Attempt}
+use Rattle.probe_report.specs.declared.findings.TrialFindings.{TrialFindings}
 use Rattle.probe_report.specs.declared.findings.Extent.{Extent}
 use Rattle.probe_report.specs.declared.findings.Sighting.{Sighting}
 use Rattle.reading_core.specs.Reader.{Reader, ended}
@@ -17,7 +17,7 @@ use Rattle.trial_core.specs.declared.trial.Trial.{Trial}
 use Rattle.trial_core.specs.Trial.{begun_trial, ended as trial_ended}
 use Rattle.looking_law.specs.Again.{looker}
 use Rattle.machine_probe.specs.declared.probe_options.ProbeOptions.{ProbeOptions}
-use Rattle.machine_probe.specs.Came.{attempt_of, extent_of, first_of, sighting_of}
+use Rattle.machine_probe.specs.Came.{trial_findings_of, extent_of, first_of, sighting_of}
 use Rattle.machine_probe.specs.Turns.{turns_of}
 
 -- a look at the word gave this
@@ -31,14 +31,14 @@ pub record LooksAt (options : ProbeOptions) (sighting : Sighting) (parts : List 
   pub sighting_is : sighting ≡ sighting_of stop (first_of last.values)
 
 -- a trial of the word, which holds this number, gave this
-pub record IsTrialOf (options : ProbeOptions) (old : ℕ) (attempt : Attempt) (parts : List (List Item)) : Type 0 where
+pub record IsTrialOf (options : ProbeOptions) (old : ℕ) (attempt : TrialFindings) (parts : List (List Item)) : Type 0 where
   pub said : List Item
   pub part : parts ≡ said ∷ []
   pub stop : TrialStop
   pub last : Trial
   pub conducted : Conducted (turns_of options.patience) (trying (begun_trial options.address old options.patience) last (Some stop)) (Some []) (Some said)
   pub end : TellsEnd stop (trial_ended last.phase)
-  pub attempt_is : attempt ≡ attempt_of last stop
+  pub findings_are : attempt ≡ trial_findings_of last stop
 
 -- a search of memory's end gave this, a part for each of its passes
 pub record IsSearch (options : ProbeOptions) (extent : Extent) (parts : List (List Item)) : Type 0 where

@@ -5,7 +5,7 @@ ghost use Rattle.reading_core.specs.Invariant.{IsReader};
 ghost use Rattle.host_devices.specs.Told.{SaysNothing};
 ghost use Rattle.looking_law.specs.Again.{looker};
 ghost use Rattle.probe_report.specs.Judging.{verdict_of};
-ghost use Rattle.machine_probe.specs.Came.{attempt_of, extent_of, first_of, sighting_of, trial_end_of};
+ghost use Rattle.machine_probe.specs.Came.{trial_findings_of, extent_of, first_of, sighting_of, trial_end_of};
 ghost use Rattle.machine_probe.specs.Follow.{IsBrokenOff, IsProbe, MadeWhere, forgets, goes_on, is_number, number_in, stores};
 ghost use Rattle.machine_probe.specs.PuttingBack.{PutsBack};
 ghost use Rattle.machine_probe.specs.Rooms.{AreLookers, HasDeposit};
@@ -17,7 +17,7 @@ use crate::putting_back::{Deposit, put_back};
 use crate::search::Search;
 use host_devices::{Line, Unwatched};
 use looking_engine::{Stop, conduct, inquire};
-use probe_report::{Attempt, Extent, Findings, Sighting, TrialEnd, Verdict, judge};
+use probe_report::{Extent, Findings, Sighting, TrialEnd, TrialFindings, Verdict, judge};
 use reading_core::{End, ReadingCore};
 use std::alloc::{AllocError, Global};
 use trial_core::{End as LastOfTrial, Trial};
@@ -144,7 +144,7 @@ fn deposit_for(
 }
 
 // The trial, where the first look read the word.
-fn try_word<L: Line>(first: Sighting, options: ProbeOptions, line: &mut L) -> Option<Attempt>
+fn try_word<L: Line>(first: Sighting, options: ProbeOptions, line: &mut L) -> Option<TrialFindings>
     requires { IsAddress options.address }
     ensures { OnLine (MadeWhere (is_number first) (IsTrialOf options (number_in first)) result) (L.told line.old) (L.told line.new) }
 {
@@ -155,20 +155,20 @@ fn try_word<L: Line>(first: Sighting, options: ProbeOptions, line: &mut L) -> Op
 }
 
 // A trial of the word, which holds this number.
-fn try_number<L: Line>(old: u16, options: ProbeOptions, line: &mut L) -> Attempt
+fn try_number<L: Line>(old: u16, options: ProbeOptions, line: &mut L) -> TrialFindings
     requires { IsAddress options.address }
     ensures { OnLine (IsTrialOf options old result) (L.told line.old) (L.told line.new) }
 {
     let trial = Trial::new(options.address, old, options.patience);
     let (trial, stop) = conduct(trial, line, options.turns());
-    attempt_of(trial, stop)
+    trial_findings_of(trial, stop)
 }
 
 // What a trial gave that stopped so.
-fn attempt_of(trial: Trial, stop: Stop<LastOfTrial>) -> Attempt
-    ensures { result ≡ attempt_of trial stop }
+fn trial_findings_of(trial: Trial, stop: Stop<LastOfTrial>) -> TrialFindings
+    ensures { result ≡ trial_findings_of trial stop }
 {
-    Attempt {
+    TrialFindings {
         end: trial_end_of(stop),
         seen: trial.seen,
         had_mishap: trial.spent > 0,
@@ -190,7 +190,7 @@ fn trial_end_of(stop: Stop<LastOfTrial>) -> TrialEnd
 
 // The second look, behind every trial whose line goes on: digits may have been typed in each of them.
 fn look_again<L: Line>(
-    trial: Option<Attempt>,
+    trial: Option<TrialFindings>,
     core: ReadingCore,
     options: ProbeOptions,
     line: &mut L,
@@ -201,7 +201,7 @@ fn look_again<L: Line>(
     match trial {
         None => None,
         Some(
-            Attempt {
+            TrialFindings {
                 end: TrialEnd::LineFailed(_),
                 ..
             },

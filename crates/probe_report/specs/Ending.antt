@@ -1,6 +1,6 @@
 -- How a probe ends (this project's choice).
 use Rattle.std.specs.Prelude.{ℕ, ◌==◌, if◌then◌else◌, Bool, Option, Some, None}
-use Rattle.probe_report.specs.declared.findings.Attempt.{Attempt}
+use Rattle.probe_report.specs.declared.findings.TrialFindings.{TrialFindings}
 use Rattle.probe_report.specs.declared.findings.Findings.{Findings}
 use Rattle.probe_report.specs.declared.findings.Extent.{Extent}
 use Rattle.probe_report.specs.declared.findings.Extent.TheVariants as extent
@@ -35,13 +35,13 @@ second_end f old end (Some look.GaveUp) = GaveUp
 second_end f old end None = GaveUp
 
 -- behind the trial: a second look, but where the line failed
-abbrev pub attempt_end : Findings → ℕ → TrialEnd → ProbeEnd
-attempt_end f old (trial.LineFailed fault) = LineFailed fault
-attempt_end f old end = second_end f old end f.second
+abbrev pub trial_end : Findings → ℕ → TrialEnd → ProbeEnd
+trial_end f old (trial.LineFailed fault) = LineFailed fault
+trial_end f old end = second_end f old end f.second
 
 -- behind a first look that read the word
-abbrev pub first_end : Findings → ℕ → Option Attempt → ProbeEnd
-first_end f old (Some attempt) = attempt_end f old attempt.end
+abbrev pub first_end : Findings → ℕ → Option TrialFindings → ProbeEnd
+first_end f old (Some found) = trial_end f old found.end
 first_end f old None = GaveUp
 
 -- behind the first look

@@ -1,6 +1,6 @@
 -- What a probe's findings say of a console (this project's choice).
 use Rattle.std.specs.Prelude.{ℕ, ◌==◌, if◌then◌else◌, Option, Some}
-use Rattle.probe_report.specs.declared.findings.Attempt.{Attempt}
+use Rattle.probe_report.specs.declared.findings.TrialFindings.{TrialFindings}
 use Rattle.probe_report.specs.declared.findings.Findings.{Findings}
 use Rattle.probe_report.specs.declared.findings.Sighting.{Sighting}
 use Rattle.probe_report.specs.declared.findings.Sighting.TheVariants.{Number}
@@ -19,8 +19,8 @@ abbrev pub on_numbers : ℕ → ℕ → TrialEnd → Verdict
 on_numbers old now end = if now == old then on_same_number end else Stores
 
 -- a first look, the trial and a second look, as far as they were made
-abbrev pub on_looks : Sighting → Option Attempt → Option Sighting → Verdict
-on_looks (Number old) (Some attempt) (Some (Number now)) = on_numbers old now attempt.end
+abbrev pub on_looks : Sighting → Option TrialFindings → Option Sighting → Verdict
+on_looks (Number old) (Some trial) (Some (Number now)) = on_numbers old now trial.end
 on_looks first trial second = Unknown
 
 -- the same of all that was found

@@ -6,7 +6,7 @@ use Rattle.byte_io.specs.Text.{line}
 use Rattle.trial_core.specs.declared.habit.Habit.{Habit}
 use Rattle.trial_core.specs.declared.habit.Habit.TheVariants.{Unseen, Yes, Mixed}
 use Rattle.trial_core.specs.declared.habit.Seen.{Seen}
-use Rattle.probe_report.specs.declared.findings.Attempt.{Attempt}
+use Rattle.probe_report.specs.declared.findings.TrialFindings.{TrialFindings}
 
 -- the thing was seen, or seen to be missing
 abbrev pub is_seen : Habit → Bool
@@ -52,6 +52,6 @@ seen_lines seen had_mishap =
     ++ mixed_lines (codes "the echo of an illegal key") seen.echo_illegal had_mishap
 
 -- of a trial, if there was one
-abbrev pub style_lines : Option Attempt → List ℕ
+abbrev pub style_lines : Option TrialFindings → List ℕ
 style_lines None = []
-style_lines (Some attempt) = seen_lines attempt.seen attempt.had_mishap
+style_lines (Some trial) = seen_lines trial.seen trial.had_mishap

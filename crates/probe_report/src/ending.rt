@@ -1,8 +1,8 @@
 //! How a probe ends.
 ghost use Rattle.std.specs.Prelude.{◌≡◌};
-ghost use Rattle.probe_report.specs.Ending.{attempt_end, first_end, probe_end, same_end, search_end, second_end};
+ghost use Rattle.probe_report.specs.Ending.{first_end, probe_end, same_end, search_end, second_end, trial_end};
 
-use crate::findings::{Attempt, Extent, Findings, Sighting, TrialEnd};
+use crate::findings::{Extent, Findings, Sighting, TrialEnd, TrialFindings};
 use crate::probe_end::ProbeEnd;
 
 /// How a probe ends with these findings, where a prompt was heard or not.
@@ -24,16 +24,16 @@ fn first_end(findings: &Findings, old: u16) -> ProbeEnd
     ensures { result ≡ first_end findings.now old findings.now.trial }
 {
     match findings.trial {
-        Some(attempt) => attempt_end(findings, old, attempt),
+        Some(trial) => trial_end(findings, old, trial),
         None => ProbeEnd::GaveUp,
     }
 }
 
 // Behind the trial.
-fn attempt_end(findings: &Findings, old: u16, attempt: Attempt) -> ProbeEnd
-    ensures { result ≡ attempt_end findings.now old attempt.end }
+fn trial_end(findings: &Findings, old: u16, trial: TrialFindings) -> ProbeEnd
+    ensures { result ≡ trial_end findings.now old trial.end }
 {
-    match attempt.end {
+    match trial.end {
         TrialEnd::LineFailed(fault) => ProbeEnd::LineFailed(fault),
         end => second_end(findings, old, end),
     }

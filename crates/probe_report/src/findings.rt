@@ -41,7 +41,7 @@ pub enum TrialEnd {
 
 /// What the trial gave.
 #[derive(Clone, Copy, Debug, PartialEq, Eq)]
-pub struct Attempt {
+pub struct TrialFindings {
     /// How it ended.
     pub end: TrialEnd,
 
@@ -78,7 +78,7 @@ pub struct Findings {
     pub first: Sighting,
 
     /// The trial.
-    pub trial: Option<Attempt>,
+    pub trial: Option<TrialFindings>,
 
     /// The second look at the word.
     pub second: Option<Sighting>,

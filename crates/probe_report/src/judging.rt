@@ -23,8 +23,8 @@ pub fn judge(findings: &Findings) -> Verdict
     ensures { result ≡ verdict_of findings.now }
 {
     match (findings.first, findings.trial, findings.second) {
-        (Sighting::Number(old), Some(attempt), Some(Sighting::Number(now))) => {
-            on_numbers(old, now, attempt.end)
+        (Sighting::Number(old), Some(trial), Some(Sighting::Number(now))) => {
+            on_numbers(old, now, trial.end)
         }
         _ => Verdict::Unknown,
     }

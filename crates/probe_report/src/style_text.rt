@@ -4,20 +4,20 @@ ghost use Rattle.arrayvec.specs.ArrayVec.{array_vec_len};
 ghost use Rattle.byte_io.specs.Text.{line};
 ghost use Rattle.probe_report.specs.StyleText.{is_done, is_seen, mishap_text, mixed_lines, number_lines, seen_lines, style_lines, style_of};
 
-use crate::findings::Attempt;
+use crate::findings::TrialFindings;
 use crate::report::Report;
 use byte_io::{push_bytes, push_decimal};
 use odt_machine::Style;
 use trial_core::{Habit, Seen};
 
 /// Puts the lines of the style that a trial saw, if there was one.
-pub(crate) fn push_style(text: &mut Report, trial: Option<Attempt>)
+pub(crate) fn push_style(text: &mut Report, trial: Option<TrialFindings>)
     requires { array_vec_len text.old ≤ 300 }
     ensures items { text.new.items ≡ text.old.items ++ style_lines trial }
     ensures length { array_vec_len text.new ≤ array_vec_len text.old + 314 }
 {
     match trial {
-        Some(attempt) => push_seen(text, attempt.seen, attempt.had_mishap),
+        Some(trial) => push_seen(text, trial.seen, trial.had_mishap),
         None => {}
     }
 }

@@ -30,7 +30,7 @@ use witness::Witness;
 ///
 /// Part by part, where the system tells: the files that are named are opened in their order; the console that is
 /// named is asked for once, and no other; its line is given back, with what was said on it and no more; the disk is
-/// asked for what the record or the saved tape takes.
+/// asked for what the record takes, or the tape that is saved or made.
 ///
 /// What is asked of the caller is only that a value of the input's type fits into memory, as each type
 /// of a program does. It has to be said where the type is not known, since the input is lent as a slice of

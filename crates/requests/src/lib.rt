@@ -4,7 +4,7 @@
 //! status; where it can't be done, one line on standard error says why, by the name of what was at fault. Its
 //! contract says what is written, and, part by part where the system tells, what was asked of it: the files that
 //! are named, the console that is named and no other, what was said on its line until that was given back, of the disk
-//! what the record or the saved tape takes.
+//! what the record takes, or the tape that is saved or made.
 //!
 //! What becomes of a request at a real machine stands here, of any other in `tape_commands`; which status and which
 //! line a failure has in `endings`. The program `ldaodt` has the request from `command_line`, which makes it of words.

@@ -35,9 +35,10 @@ use tape_image::Plan;
 /// `CannotRead` names the tape or the record that can't be opened or read. It comes with nothing reported, as do
 /// `TapeRefused` and `OneTapeRefused`, for which no console and no record are asked for, `RecordInUse`,
 /// `RecordRefused` and `CannotConnect`, which leave the record as it was. `CannotWriteFile` is a record that can't
-/// be written: behind the looks with nothing reported, later behind the report. `LineFailed`, `StartInDoubt` and
-/// `RecordStale` come behind the report. `CannotWrite` is a report, or what was heard, that could not be written
-/// whole. `NoMemory` comes only where a growth was refused, before any key but those of looks.
+/// be written: one that is protected before there is a connection, another right behind the looks, both with nothing
+/// reported; later behind the report. `LineFailed`, `StartInDoubt` and `RecordStale` come behind the report.
+/// `CannotWrite` is a report, or what was heard, that could not be written whole. `NoMemory` comes only where a growth
+/// was refused, before any key but those of looks.
 ///
 /// What is asked of the caller is only that a value of the input's type fits into memory, as each type of a
 /// program does.

@@ -23,8 +23,8 @@ use tape_shelf::NewFile;
 /// The report goes to standard output, and no input is opened. A terminal, where there is one, shows how far the
 /// save is.
 ///
-/// `FileIsThere` and `CannotWriteFile` come before the console is reached, or where the tape can't be put there at
-/// the end; `PartIsThere` and `PartNotOfSave` before the console is reached, with what is beside the file as it was;
+/// `FileIsThere` and `CannotWriteFile` come before the console is reached, or where a block can't be added, or the
+/// tape not be put there at the end; `PartIsThere` and `PartNotOfSave` before the console is reached, with what is beside the file as it was;
 /// `CannotConnect` before anything was sent. `PartStale` comes behind the report, with what is beside the file as it
 /// was; `LineFailed` too, with the words that were read by then in the file, if any were. `CannotWrite` is a report
 /// that could not be written whole; the tape is where it belongs. `NoMemory` comes only where a growth was refused,

@@ -11,10 +11,10 @@ use witness::{Watched, Witness};
 
 /// Of which types the parts of a system are.
 pub trait Kinds {
-    /// The files of tapes and scripts.
+    /// The files of tapes, of scripts and of words.
     type Inputs: InputFiles + Drop;
 
-    /// The disk of records and of saved tapes.
+    /// The disk of records and of new tapes.
     type Disk: Disk + Drop;
 
     /// The consoles that names stand for.
@@ -29,10 +29,10 @@ pub trait Kinds {
 /// Contracts see what was asked of each part, as far as it tells.
 #[derive(Drop)]
 pub struct System<K: Kinds> {
-    /// The files of tapes and scripts, which are read.
+    /// The files of tapes, of scripts and of words, which are read.
     pub inputs: K::Inputs,
 
-    /// The disk of records and of saved tapes.
+    /// The disk of records and of new tapes.
     pub disk: K::Disk,
 
     /// The consoles that names stand for.

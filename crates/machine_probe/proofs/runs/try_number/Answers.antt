@@ -3,5 +3,5 @@ use Rattle.machine_probe.proofs.runs.try_number.Goals as goal
 
 pub returns : goal.returns
 returns g c =
-    trial_is c.args.options c.args.old c.new-trial.result c.conduct-stop.result.0 c.conduct-stop.result.1 c.turns.result c.attempt_of.result (g.L.Line.told c.args.line.now) (g.L.Line.told c.conduct-stop.new.line)
-    c.new-trial.ensures.begun c.turns.ensures c.conduct-stop.ensures.tried.turns.session c.conduct-stop.ensures.tried.turns.end c.attempt_of.ensures
+    trial_is c.args.options c.args.old c.new-trial.result c.conduct-stop.result.0 c.conduct-stop.result.1 c.turns.result c.trial_findings_of.result (g.L.Line.told c.args.line.now) (g.L.Line.told c.conduct-stop.new.line)
+    c.new-trial.ensures.begun c.turns.ensures c.conduct-stop.ensures.tried.turns.session c.conduct-stop.ensures.tried.turns.end c.trial_findings_of.ensures

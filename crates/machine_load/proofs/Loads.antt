@@ -23,7 +23,7 @@ use Rattle.machine_load.specs.Load.{Asks, IsHeldUp, IsIdleLife, IsLived, IsLoad,
 use Rattle.machine_load.specs.Looks.{behind_looks}
 use Rattle.machine_load.specs.Parts.{ArePartsOver, course, held}
 use Rattle.machine_load.specs.RecordDisk.{DiskAsked, IsBegunOn, IsOnlyRead, disk_asked_before, disk_asked_by}
-use Rattle.machine_load.specs.Reporting.{IsTold, IsUntold}
+use Rattle.machine_load.specs.Reporting.{IsLifeReported, IsLifeUnreported}
 use Rattle.machine_load.specs.Scene.{IsLoaded, IsNotLoaded, LoadTells, Scene, finish_told}
 use Rattle.machine_load.specs.Step.{RecordGivenBack}
 use Rattle.machine_load.proofs.Begun.{never_begun}
@@ -120,7 +120,7 @@ module _ {L K : Type 0} (tells : LoadTells L K) (task : LoadTask) (before opened
 
 module _ {L K : Type 0} (tells : LoadTells L K) (task : LoadTask) (before between after : Scene) (lived : Lived L)
     (is : IsLivedIn tells task (before ⇒ between) lived) (out_same : between.setting.out ≡ before.setting.out) where
-  reported : (outcome : Outcome L) → IsTold tells.line lived (between ⇒ after) outcome → IsLoaded tells task (before ⇒ after) outcome
+  reported : (outcome : Outcome L) → IsLifeReported tells.line lived (between ⇒ after) outcome → IsLoaded tells task (before ⇒ after) outcome
   reported outcome told = subst (IsLoaded tells task (before ⇒ after)) (sym told.outcome_is) (record {
     reported = record {
       looks = lived.looks;
@@ -137,7 +137,7 @@ module _ {L K : Type 0} (tells : LoadTells L K) (task : LoadTask) (before betwee
     disk = subst (λ disk. DiskAsked before.disk disk (disk_asked_by lived.end lived.line)) (sym told.nothing_asked.disk_same) is.disk;
   })
 
-  cut_short : (why : LoadFault) → IsUntold tells.line lived (between ⇒ after) why → IsNotLoaded tells.keeper task (before ⇒ after) why
+  cut_short : (why : LoadFault) → IsLifeUnreported tells.line lived (between ⇒ after) why → IsNotLoaded tells.keeper task (before ⇒ after) why
   cut_short why untold = subst (IsNotLoaded tells.keeper task (before ⇒ after)) (sym untold.fault_is) (record {
     fault = record {
       finish = finish_told tells.line lived;
@@ -152,10 +152,10 @@ module _ {L K : Type 0} (tells : LoadTells L K) (task : LoadTask) (before betwee
         (untold_on before.disk between.disk lived.end lived.line is.disk);
   })
 
-  pub answered : (result : Result (Outcome L) LoadFault) → IfOk result (IsTold tells.line lived (between ⇒ after)) → IfOk result (IsLoaded tells task (before ⇒ after))
+  pub answered : (result : Result (Outcome L) LoadFault) → IfOk result (IsLifeReported tells.line lived (between ⇒ after)) → IfOk result (IsLoaded tells task (before ⇒ after))
   answered (Ok outcome) told = reported outcome told
   answered (Err why) told = tt
 
-  pub answered_in_vain : (result : Result (Outcome L) LoadFault) → IfErr result (IsUntold tells.line lived (between ⇒ after)) → IfErr result (IsNotLoaded tells.keeper task (before ⇒ after))
+  pub answered_in_vain : (result : Result (Outcome L) LoadFault) → IfErr result (IsLifeUnreported tells.line lived (between ⇒ after)) → IfErr result (IsNotLoaded tells.keeper task (before ⇒ after))
   answered_in_vain (Ok outcome) untold = tt
   answered_in_vain (Err why) untold = cut_short why untold

@@ -20,14 +20,14 @@ pub record AsksNoMore (scenes : Change Scene) : Type 0 where
   pub disk_same : scenes.after.disk ≡ scenes.before.disk
 
 -- a life was reported, and this is given back
-pub record IsTold {L : Type 0} (tell : Line L) (lived : Lived L) (scenes : Change Scene) (outcome : Outcome L) : Type 0 where
+pub record IsLifeReported {L : Type 0} (tell : Line L) (lived : Lived L) (scenes : Change Scene) (outcome : Outcome L) : Type 0 where
   pub outcome_is : outcome ≡ outcome_of lived
   pub nothing_asked : AsksNoMore scenes
   pub reported : Appends scenes.before.setting.out scenes.after.setting.out (finish_report (finish_told tell lived))
   pub lines_kept : scenes.after.setting.lines ≡ scenes.before.setting.lines
 
 -- its report could not be written whole, and its line was given back, where it has one
-pub record IsUntold {L : Type 0} (tell : Line L) (lived : Lived L) (scenes : Change Scene) (why : LoadFault) : Type 0 where
+pub record IsLifeUnreported {L : Type 0} (tell : Line L) (lived : Lived L) (scenes : Change Scene) (why : LoadFault) : Type 0 where
   pub fault_is : why ≡ WriteOutput
   pub nothing_asked : AsksNoMore scenes
   pub reported : WritesPrefix scenes.before.setting.out scenes.after.setting.out (finish_report (finish_told tell lived))

@@ -13,7 +13,7 @@ ghost use Rattle.machine_load.specs.Load.{IsOpened, words_taken};
 ghost use Rattle.machine_load.specs.LoadFault.{IsBeginningFault, IsOpeningFault};
 ghost use Rattle.machine_load.specs.Looks.{AreFewLooks};
 ghost use Rattle.machine_load.specs.RecordDisk.{DiskAsked, disk_asked_before, IsOnlyRead};
-ghost use Rattle.machine_load.specs.Reporting.{IsTold, IsUntold};
+ghost use Rattle.machine_load.specs.Reporting.{IsLifeReported, IsLifeUnreported};
 ghost use Rattle.machine_load.specs.Scene.{around_of, gone_of, keeper_of, scene, tells_of, IsLoaded, IsNotLoaded};
 ghost use Rattle.machine_load.specs.Stubs.{AreFew};
 ghost use Rattle.record_file.specs.OldRecord.{HoldsNoRecord};
@@ -235,9 +235,9 @@ fn report<S: Surroundings, W: Write>(
     out: &mut W,
 ) -> Result<Outcome<S::Line>, LoadFault>
     requires few { IfSome lived.looks AreFewLooks × IfSome lived.stubs AreFew }
-    ensures ok { IfOk result (IsTold S.Line.Line lived
+    ensures ok { IfOk result (IsLifeReported S.Line.Line lived
         (scene S.Surroundings W.Write around.old out.old ⇒ scene S.Surroundings W.Write around.new out.new)) }
-    ensures err { IfErr result (IsUntold S.Line.Line lived
+    ensures err { IfErr result (IsLifeUnreported S.Line.Line lived
         (scene S.Surroundings W.Write around.old out.old ⇒ scene S.Surroundings W.Write around.new out.new)) }
 {
     let text = load_report(&lived.core, lived.looks, lived.stubs, lived.end);

@@ -25,6 +25,7 @@ mod progress;
 mod sockets;
 #[cfg(test)]
 mod streams;
+mod synced_text;
 mod telling;
 #[cfg(test)]
 mod terminals;
@@ -32,3 +33,4 @@ mod terminals;
 mod told_devices;
 #[cfg(test)]
 mod told_outlets;
+mod told_terminal;

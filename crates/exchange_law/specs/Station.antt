@@ -1,7 +1,8 @@
 -- A station: a machine at whose console ODT listens, or on which a program runs, which may be a stub (this project's choice). A stub takes stretches of
 -- memory one after another: for each it hears two characters a byte, then it answers with what memory holds there, then the next; behind the last it halts.
 -- What it does is said as a host sees it, and no more than a host relies on: how it makes bytes of characters is left open.
-use Rattle.std.specs.Prelude.{◌≡◌, ℕ, zero, suc, ◌+◌, ◌-◌, ◌*◌, ◌/◌, ◌<◌, ◌≤◌, ◌⊎◌, Bool, true, false, nat_lt, List, [], ◌∷◌, ◌++◌, length, Option, Some, None, ⊤}
+use Rattle.std.specs.Prelude.{◌≡◌, ℕ, zero, suc, ◌+◌, ◌-◌, ◌*◌, ◌/◌, ◌<◌, ◌≤◌, ◌⊎◌, Bool, true, false, nat_lt, ⊤}
+use Rattle.std.specs.Prelude.{List, [], ◌∷◌, ◌++◌, length, Option, Some, None}
 use Rattle.octal.specs.Octal.{is_digit}
 use Rattle.tape_image.specs.Memory.{byte_of}
 use Rattle.odt_machine.specs.Character.{carriage_return, line_feed, prompt}

@@ -12,6 +12,6 @@ step_of NotResumed = shelf.NotResumed PartIsThere
 step_of (Added text) = shelf.Add text.items
 step_of (Put text) = shelf.Put text.items
 
--- these steps were done on it, and its tape goes on no disk
+-- these steps were done on it, its tape goes on no disk, and what was left there it does not tell
 abbrev pub noted : List ShelfNote → ShelfTold
-noted notes = record { steps = Some (map step_of notes); disk = None }
+noted notes = record { steps = Some (map step_of notes); disk = None; left = None }

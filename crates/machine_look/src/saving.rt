@@ -61,11 +61,11 @@ pub fn save<S: Shelf, R: Reach, W: Write, O: Onlooker>(
     out: &mut W,
     onlooker: &O,
 ) -> Result<SaveEnd, LookFault>
-    ensures reported { IfOk result (IsSavedAndReported options
+    ensures ok { IfOk result (IsSavedAndReported options
         (save_told (S.told shelf.old) (console_told R.Reach W.Write console.old out.old))
         (save_told (S.told shelf.new) (console_told R.Reach W.Write console.new out.new))) }
     ensures call { R.call console.new ≡ R.call console.old }
-    ensures fault { IfErr result (IsSaveFault options
+    ensures err { IfErr result (IsSaveFault options
         (save_told (S.told shelf.old) (console_told R.Reach W.Write console.old out.old))
         (save_told (S.told shelf.new) (console_told R.Reach W.Write console.new out.new))) }
 {

@@ -34,10 +34,10 @@ pub fn verify<R: Reach, W: Write, O: Onlooker>(
     out: &mut W,
     onlooker: &O,
 ) -> Result<VerifyEnd, LookFault>
-    ensures reported { IfOk result (IsVerifyReported plan.now patience
+    ensures ok { IfOk result (IsVerifyReported plan.now patience
         (console_told R.Reach W.Write console.old out.old ⇒ console_told R.Reach W.Write console.new out.new)) }
     ensures call { R.call console.new ≡ R.call console.old }
-    ensures fault { IfErr result (IsVerifyFault plan.now patience
+    ensures err { IfErr result (IsVerifyFault plan.now patience
         (console_told R.Reach W.Write console.old out.old ⇒ console_told R.Reach W.Write console.new out.new)) }
 {
     let core = ReadingCore::of_plan(alloc, plan, patience)?;

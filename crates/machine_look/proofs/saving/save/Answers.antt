@@ -14,8 +14,8 @@ use Rattle.machine_look.proofs.Faults.{not_read}
 use Rattle.machine_look.proofs.Saves.{concluded, not_concluded, room_for_counts}
 use Rattle.machine_look.proofs.saving.save.Goals as goal
 
-pub returns-in_err-course-clause-fault : goal.returns-in_err-course-clause-fault
-returns-in_err-course-clause-fault g c =
+pub returns-in_err-course-clause-err : goal.returns-in_err-course-clause-err
+returns-in_err-course-clause-err g c =
     let before : SaveTold = save_told (g.S.Shelf.told c.args.shelf.now) (console_told g.R.Reach g.W.Write c.args.console.now c.args.out.now) in
     let after : SaveTold = save_told (g.S.Shelf.told c.read_over.new.shelf) (console_told g.R.Reach g.W.Write c.read_over.new.console c.args.out.now) in
     let saving : Saving = record { options = c.args.options; found = c.in_ok-found.found.items } in
@@ -39,8 +39,8 @@ conclude-requires-clause-room g c =
     subst (λ (f : List ℕ). HasRoomForCounts c.args.options f c.in_ok-course.course) (sym c.deref-3.ensures.value)
     (room_for_counts saving mid mid' (console_of before) (console_of after) c.in_ok-course.course c.args.options.range.in_order c.in_ok-found.ensures.found course)
 
-pub returns-in_err-counts-clause-fault : goal.returns-in_err-counts-clause-fault
-returns-in_err-counts-clause-fault g c =
+pub returns-in_err-counts-clause-err : goal.returns-in_err-counts-clause-err
+returns-in_err-counts-clause-err g c =
     let before : SaveTold = save_told (g.S.Shelf.told c.args.shelf.now) (console_told g.R.Reach g.W.Write c.args.console.now c.args.out.now) in
     let after : SaveTold = save_told (g.S.Shelf.told c.conclude.new.shelf) (console_told g.R.Reach g.W.Write c.read_over.new.console c.args.out.now) in
     let saving : Saving = record { options = c.args.options; found = c.in_ok-found.found.items } in
@@ -53,8 +53,8 @@ returns-in_err-counts-clause-fault g c =
     error_is c.from_residual-in_err-counts.result c.in_err-counts.field-0.0 (IsSaveFault c.args.options before after) c.from_residual-in_err-counts.ensures.1
     (not_concluded saving mid mid' before after taken.0 taken.2 taken.1 (g.S.Shelf.is_opened_as c.conclude.new.shelf) taken.4 taken.3 c.in_ok-course.course c.in_err-counts.field-0.0 course unclosed (Keeps-refl (g.W.Write.contents c.args.out.now)))
 
-pub returns-in_err-write_and_flush-clause-fault : goal.returns-in_err-write_and_flush-clause-fault
-returns-in_err-write_and_flush-clause-fault g c =
+pub returns-in_err-write_and_flush-clause-err : goal.returns-in_err-write_and_flush-clause-err
+returns-in_err-write_and_flush-clause-err g c =
     let before : SaveTold = save_told (g.S.Shelf.told c.args.shelf.now) (console_told g.R.Reach g.W.Write c.args.console.now c.args.out.now) in
     let after : SaveTold = save_told (g.S.Shelf.told c.conclude.new.shelf) (console_told g.R.Reach g.W.Write c.read_over.new.console c.write_and_flush.new.out) in
     let saving : Saving = record { options = c.args.options; found = c.in_ok-found.found.items } in
@@ -76,8 +76,8 @@ returns-in_err-write_and_flush-clause-fault g c =
       reported = subst (λ t. WritesAllBut (g.W.Write.contents c.args.out.now) (g.W.Write.contents c.write_and_flush.new.out) t c.in_err-write_and_flush.ensures.err.0) text c.in_err-write_and_flush.ensures.err.1;
     })
 
-pub returns-clause-reported : goal.returns-clause-reported
-returns-clause-reported g c =
+pub returns-clause-ok : goal.returns-clause-ok
+returns-clause-ok g c =
     let before : SaveTold = save_told (g.S.Shelf.told c.args.shelf.now) (console_told g.R.Reach g.W.Write c.args.console.now c.args.out.now) in
     let after : SaveTold = save_told (g.S.Shelf.told c.conclude.new.shelf) (console_told g.R.Reach g.W.Write c.read_over.new.console c.write_and_flush.new.out) in
     let saving : Saving = record { options = c.args.options; found = c.in_ok-found.found.items } in

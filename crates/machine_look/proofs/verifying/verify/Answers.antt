@@ -16,30 +16,30 @@ use Rattle.machine_look.proofs.Faults.{no_value}
 use Rattle.machine_look.proofs.Verified.{compare_fault, differ_is, last_is, verified_of}
 use Rattle.machine_look.proofs.verifying.verify.Goals as goal
 
-pub returns-in_err-core-clause-reported : goal.returns-in_err-core-clause-reported
-returns-in_err-core-clause-reported g c = no_value c.from_residual.result _ _ c.from_residual.ensures.1
+pub returns-in_err-core-clause-ok : goal.returns-in_err-core-clause-ok
+returns-in_err-core-clause-ok g c = no_value c.from_residual.result _ _ c.from_residual.ensures.1
 
-pub returns-in_err-core-clause-fault : goal.returns-in_err-core-clause-fault
-returns-in_err-core-clause-fault g c =
+pub returns-in_err-core-clause-err : goal.returns-in_err-core-clause-err
+returns-in_err-core-clause-err g c =
     error_is c.from_residual.result Memory
     (IsVerifyFault c.args.plan.now c.args.patience (console_told g.R.Reach g.W.Write c.args.console.now c.args.out.now ⇒ console_told g.R.Reach g.W.Write c.args.console.now c.args.out.now))
     c.from_residual.ensures.1 (refl, refl, Keeps-refl (g.W.Write.contents c.args.out.now))
 
-pub returns-in_err-core-2-clause-reported : goal.returns-in_err-core-2-clause-reported
-returns-in_err-core-2-clause-reported g c = no_value c.from_residual-in_err-core-2.result _ _ c.from_residual-in_err-core-2.ensures.1
+pub returns-in_err-core-2-clause-ok : goal.returns-in_err-core-2-clause-ok
+returns-in_err-core-2-clause-ok g c = no_value c.from_residual-in_err-core-2.result _ _ c.from_residual-in_err-core-2.ensures.1
 
-pub returns-in_err-core-2-clause-fault : goal.returns-in_err-core-2-clause-fault
-returns-in_err-core-2-clause-fault g c =
+pub returns-in_err-core-2-clause-err : goal.returns-in_err-core-2-clause-err
+returns-in_err-core-2-clause-err g c =
     let before = console_told g.R.Reach g.W.Write c.args.console.now c.args.out.now in
     let after = console_told g.R.Reach g.W.Write c.compare_over.new.console c.compare_over.new.out in
     error_is c.from_residual-in_err-core-2.result c.in_err-core-2.field-0.0 (IsVerifyFault c.args.plan.now c.args.patience (before ⇒ after)) c.from_residual-in_err-core-2.ensures.1
     (compare_fault c.args.plan.now c.args.patience c.words-words.result.now c.in_ok-core.core (before ⇒ after) c.in_err-core-2.field-0.0 c.words-words.ensures.value c.in_ok-core.ensures.begun c.in_err-core-2.ensures.fault)
 
-pub returns-in_err-write_and_flush-clause-reported : goal.returns-in_err-write_and_flush-clause-reported
-returns-in_err-write_and_flush-clause-reported g c = no_value c.from_residual-in_err-write_and_flush.result _ _ c.from_residual-in_err-write_and_flush.ensures.1
+pub returns-in_err-write_and_flush-clause-ok : goal.returns-in_err-write_and_flush-clause-ok
+returns-in_err-write_and_flush-clause-ok g c = no_value c.from_residual-in_err-write_and_flush.result _ _ c.from_residual-in_err-write_and_flush.ensures.1
 
-pub returns-in_err-write_and_flush-clause-fault : goal.returns-in_err-write_and_flush-clause-fault
-returns-in_err-write_and_flush-clause-fault g c =
+pub returns-in_err-write_and_flush-clause-err : goal.returns-in_err-write_and_flush-clause-err
+returns-in_err-write_and_flush-clause-err g c =
     let before = console_told g.R.Reach g.W.Write c.args.console.now c.args.out.now in
     let after = console_told g.R.Reach g.W.Write c.compare_over.new.console c.write_and_flush.new.out in
     let plan = c.args.plan.now in
@@ -65,8 +65,8 @@ returns-in_err-write_and_flush-clause-fault g c =
       reported = front.1;
     })
 
-pub returns-clause-reported : goal.returns-clause-reported
-returns-clause-reported g c =
+pub returns-clause-ok : goal.returns-clause-ok
+returns-clause-ok g c =
     let before = console_told g.R.Reach g.W.Write c.args.console.now c.args.out.now in
     let after = console_told g.R.Reach g.W.Write c.compare_over.new.console c.write_and_flush.new.out in
     let plan = c.args.plan.now in
@@ -85,5 +85,5 @@ returns-clause-reported g c =
           (subst (Appends (g.W.Write.contents c.compare_over.new.out) after.out) text c.in_ok-write_and_flush.ensures.ok);
     }
 
-pub returns-clause-fault : goal.returns-clause-fault
-returns-clause-fault g c = tt
+pub returns-clause-err : goal.returns-clause-err
+returns-clause-err g c = tt

@@ -47,7 +47,7 @@ returns g c =
       | in-Ok w ↦
           let end = w.in-Ok.end in
           let reported = subst (λ s. IsSavedAndReported (options_of save) (save_told s (console_at look before)) (save_told shelf (console_at look after)) end) is_new
-          (said (λ x y. IsSavedAndReported (options_of save) (save_told first x) (save_told shelf y) end) w.in-Ok.ensures.reported) in
+          (said (λ x y. IsSavedAndReported (options_of save) (save_told first x) (save_told shelf y) end) w.in-Ok.ensures.ok) in
           rw (w.result-is, c.new-system.ensures) (record {
             ok = saved save before after (record { no_file = refl; nothing_read = read }) end left shelf reported c.close.ensures.asked w.after_save.result w.after_save.ensures.status;
             err = unsaved save before after (record { no_file = refl; nothing_read = read }) end left shelf reported c.close.ensures.asked w.after_save.result w.after_save.ensures.failure;
@@ -61,7 +61,7 @@ returns g c =
           failed = inl (record {
             fault = w.in-Err.fault;
             is_so = subst (λ s. IsSaveFault (options_of save) (save_told s (console_at look before)) (save_told shelf (console_at look after)) w.in-Err.fault) is_new
-                (said (λ x y. IsSaveFault (options_of save) (save_told first x) (save_told shelf y) w.in-Err.fault) w.in-Err.ensures.fault);
+                (said (λ x y. IsSaveFault (options_of save) (save_told first x) (save_told shelf y) w.in-Err.fault) w.in-Err.ensures.err);
             is_called = w.failure-failure.ensures;
           });
           let_go = c.close.ensures.asked;

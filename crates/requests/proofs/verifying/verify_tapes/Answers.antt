@@ -41,7 +41,7 @@ returns g c =
     rw (← c.system.view_is, c.new-system.ensures) (elim c.match-verified.branch [
       | in-Ok-verified w ↦
           let end = w.in-Ok-verified.end in
-          let reported = said (λ x y. IsVerifyReported plan look.patience (x ⇒ y) end) w.in-Ok-verified.ensures.reported in
+          let reported = said (λ x y. IsVerifyReported plan look.patience (x ⇒ y) end) w.in-Ok-verified.ensures.ok in
           rw (w.outcome-is) (record {
             ok = verified names look before after plan planned' refl end reported w.after_verify-outcome.result w.after_verify-outcome.ensures;
             err = unverified names look before after plan planned' refl end reported w.after_verify-outcome.result w.after_verify-outcome.ensures;
@@ -54,7 +54,7 @@ returns g c =
           planned = planned';
           failed = inl (record {
             fault = w.in-Err-verified.fault;
-            is_so = said (λ x y. IsVerifyFault plan look.patience (x ⇒ y) w.in-Err-verified.fault) w.in-Err-verified.ensures.fault;
+            is_so = said (λ x y. IsVerifyFault plan look.patience (x ⇒ y) w.in-Err-verified.fault) w.in-Err-verified.ensures.err;
             is_called = w.failure-failure.ensures;
           });
           no_disk = refl;

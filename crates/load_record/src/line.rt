@@ -11,20 +11,20 @@ use tape_image::Word;
 pub(crate) fn value_text(word: Word) -> [u8; 7]
     ensures { result ≡ value_text word }
 {
-    let [a, b, c, d, e, f] = oct6(word.value());
-    [b' ', a, b, c, d, e, f]
+    let mut text = [b' '; 7];
+    text[1..].copy_from_slice(&oct6(word.value()));
+    text
 }
 
 /// The word's address, mask and value, one space between.
 pub(crate) fn word_fields(word: Word) -> [u8; 20]
     ensures { result ≡ word_fields word }
 {
-    let [a, b, c, d, e, f] = oct6(word.address());
-    let [g, h, i, j, k, l] = oct6(word.mask());
-    let [m, n, o, p, q, r] = oct6(word.value());
-    [
-        a, b, c, d, e, f, b' ', g, h, i, j, k, l, b' ', m, n, o, p, q, r,
-    ]
+    let mut text = [b' '; 20];
+    text[..6].copy_from_slice(&oct6(word.address()));
+    text[7..13].copy_from_slice(&oct6(word.mask()));
+    text[14..].copy_from_slice(&oct6(word.value()));
+    text
 }
 
 /// The line of a word of which the tape has one byte alone, in version 2.
@@ -40,9 +40,10 @@ pub(crate) fn half_line(word: Word) -> [u8; 22]
 pub(crate) fn ended_run_text(word: Word) -> [u8; 14]
     ensures { result ≡ line_end ∷ run_text (word ∷ []) }
 {
-    let [a, b, c, d, e, f] = oct6(word.address());
-    let [g, h, i, j, k, l] = oct6(word.value());
-    [b'\n', a, b, c, d, e, f, b' ', g, h, i, j, k, l]
+    let mut text = [b'\n'; 14];
+    text[1..7].copy_from_slice(&oct6(word.address()));
+    text[7..].copy_from_slice(&value_text(word));
+    text
 }
 
 /// LF, and then the ended line of a word of which the tape has one byte alone.

@@ -6,7 +6,7 @@
 PREFIX ?= /usr/local
 export PREFIX DESTDIR
 
-.PHONY: all ldaodt test check edits demo bench hostile install uninstall dist deb
+.PHONY: all ldaodt test check edits demo bench hostile install uninstall dist deb ldaodt-arm64 dist-arm64 deb-arm64 check-arm64
 
 all: ldaodt
 
@@ -55,3 +55,17 @@ dist: ldaodt
 # The same as a Debian package, where dpkg-deb is.
 deb: ldaodt
 	@tools/lay-out deb
+
+# All three for 64-bit ARM, as a Raspberry Pi: CONTRIBUTING.md says what they want. They are no part of the gate.
+ldaodt-arm64: ldaodt
+	@tools/build-arm64
+
+dist-arm64: ldaodt-arm64
+	@tools/lay-out dist ldaodt-arm64
+
+deb-arm64: ldaodt-arm64
+	@tools/lay-out deb ldaodt-arm64
+
+# The program for ARM from outside, under an emulator.
+check-arm64: ldaodt-arm64
+	@tools/check-arm64

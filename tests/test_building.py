@@ -67,6 +67,8 @@ class Building(Case):
             self.write(name, CODE * (3 if name == "left" else 1))
         os.mkdir(f"{self.room}/bin")
         os.mkdir(f"{self.room}/copies")
+        # Before the folder of this test goes away.
+        self.addCleanup(self.leaves_no_copy)
         with open(f"{self.room}/bin/rt", "w", encoding="utf-8") as file:
             file.write(FAKE)
         os.chmod(f"{self.room}/bin/rt", 0o755)
@@ -90,7 +92,7 @@ class Building(Case):
 
     def leaves_no_copy(self):
         """Looks until the copies are gone, which the tool doesn't wait for."""
-        until = time.monotonic() + 20
+        until = time.monotonic() + 60
         while os.listdir(f"{self.room}/copies") and time.monotonic() < until:
             time.sleep(0.05)
         self.assertEqual(os.listdir(f"{self.room}/copies"), [])
@@ -104,7 +106,6 @@ class Building(Case):
         self.assertEqual(sorted(notes), ["left", "low", "right"])
         self.assertEqual([self.is_built(it) for it in ("low", "left", "right", "apart", "top")], [True, True, True, False, False])
         self.assertEqual(sorted(ran.stdout.splitlines()), [f"{it} is built: logic=proved functions=1" for it in ("left", "low", "right")])
-        self.leaves_no_copy()
 
     def test_a_crate_begins_when_those_below_it_are_built(self):
         _, notes = self.build("top", "4", meeting="left right")
@@ -196,7 +197,6 @@ class Building(Case):
         self.assertEqual(ran.returncode, 130)
         self.assertNotIn("prove-below", said)
         self.assertEqual(os.listdir(f"{self.top}/crates/low/out/incremental"), ["earlier"])
-        self.leaves_no_copy()
 
     def test_words_that_name_no_crate(self):
         for words in ([], ["none"], ["top", "many"]):

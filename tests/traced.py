@@ -1,26 +1,58 @@
 """The program, stopped at each call that it makes of the system: something can happen right before one, and one can be
-answered otherwise than by the system. For Linux on x86-64, where the program is one thread.
+answered otherwise than by the system. For Linux, where the program is one thread. On ARM that is untried: what stands for it here is
+from the system's headers.
 """
 import ctypes
 import os
+import platform
 import signal
 import struct
 import subprocess
 
 import outside
 
-# The calls that tests know by name, by their numbers.
-NAMES = {1: "write", 2: "open", 8: "lseek", 16: "ioctl", 42: "connect", 44: "sendto", 54: "setsockopt", 72: "fcntl", 73: "flock", 74: "fsync",
-         75: "fdatasync", 77: "ftruncate", 82: "rename", 86: "link", 87: "unlink", 91: "fchmod", 257: "openat", 263: "unlink", 264: "renameat", 265: "link",
-         316: "renameat2", 332: "statx"}
 
-# Where the system keeps a process's registers: a call's number, its answer, and its first arguments.
-NUMBER, ANSWER, ARGUMENTS = 8 * 15, 8 * 10, (8 * 14, 8 * 13, 8 * 12)
+class X86:
+    """The numbers of the calls that tests know by name, and where a process's registers have a call."""
+
+    NAMES = {1: "write", 2: "open", 8: "lseek", 16: "ioctl", 42: "connect", 44: "sendto", 54: "setsockopt", 72: "fcntl", 73: "flock", 74: "fsync",
+             75: "fdatasync", 77: "ftruncate", 82: "rename", 86: "link", 87: "unlink", 91: "fchmod", 257: "openat", 263: "unlink", 264: "renameat", 265: "link",
+             316: "renameat2", 332: "statx"}
+    POKE, NUMBER, ANSWER, ARGUMENTS = 6, 8 * 15, 8 * 10, (8 * 14, 8 * 13, 8 * 12)
+
+    def put(self, process, place, value):
+        ptrace(self.POKE, process, place, value)
+
+
+class Arm:
+    """The same of 64-bit ARM: its registers come and go as a whole, and a call's number is none of them."""
+
+    NAMES = {25: "fcntl", 29: "ioctl", 32: "flock", 35: "unlink", 37: "link", 38: "renameat", 46: "ftruncate", 52: "fchmod", 56: "openat", 62: "lseek",
+             64: "write", 82: "fsync", 83: "fdatasync", 203: "connect", 206: "sendto", 208: "setsockopt", 276: "renameat2", 291: "statx"}
+    GET, SET, REGISTERS, COUNT = 0x4204, 0x4205, 1, 34
+    NUMBER, ANSWER, ARGUMENTS = 0x404, 0, (0, 1, 2)
+
+    def put(self, process, place, value):
+        if place == self.NUMBER:
+            self.pass_on(self.SET, process, place, ctypes.c_int(value))
+        else:
+            registers = (ctypes.c_int64 * self.COUNT)()
+            self.pass_on(self.GET, process, self.REGISTERS, registers)
+            registers[place] = value
+            self.pass_on(self.SET, process, self.REGISTERS, registers)
+
+    def pass_on(self, request, process, which, data):
+        """Hands over some of a process's registers: a place and a length tell where they are."""
+        place = (ctypes.c_uint64 * 2)(ctypes.addressof(data), ctypes.sizeof(data))
+        ptrace(request, process, which, ctypes.addressof(place))
+
+
+PROCESSOR = {"x86_64": X86, "aarch64": Arm}.get(platform.machine(), X86)()
 
 # Where in what a look tells of a file its number stands, of eight bytes, and its file system's number, of two times four.
 INODE, DEVICE = 32, 136
 
-TRACED, POKE, TO_NEXT_CALL, OPTIONS, CALL = 0, 6, 24, 0x4200, 0x420E
+TRACED, TO_NEXT_CALL, OPTIONS, CALL = 0, 24, 0x4200, 0x420E
 TELL_CALLS, ENDS_WITH_US = 1, 0x100000
 AT_A_CALL = signal.SIGTRAP | 0x80
 IS_BEFORE = 1
@@ -39,7 +71,7 @@ class Call:
     """A call that a process is about to make."""
 
     def __init__(self, process, number, arguments):
-        self.process, self.name, self.arguments = process, NAMES.get(number), arguments
+        self.process, self.name, self.arguments = process, PROCESSOR.NAMES.get(number), arguments
 
     def opened(self):
         """The name of the file that it opens, where it opens one."""
@@ -69,11 +101,11 @@ class Call:
 
     def takes(self, count):
         """A write is of so many bytes at most."""
-        ptrace(POKE, self.process, ARGUMENTS[2], min(count, self.arguments[2]))
+        PROCESSOR.put(self.process, PROCESSOR.ARGUMENTS[2], min(count, self.arguments[2]))
 
     def fails(self, error):
         """The system is not asked; the call's answer is this error."""
-        ptrace(POKE, self.process, NUMBER, -1)
+        PROCESSOR.put(self.process, PROCESSOR.NUMBER, -1)
         return -error
 
     def finds_another_file(self, place):
@@ -108,7 +140,7 @@ def follow(process, before):
         elif callable(answer):
             answer()
         elif answer is not None:
-            ptrace(POKE, process, ANSWER, answer)
+            PROCESSOR.put(process, PROCESSOR.ANSWER, answer)
 
 
 def run(words, before, seconds=60, **more):

@@ -27,14 +27,14 @@ pub begun_beside : {K : Type 0} (name : List ℕ) (made after : Made) (device : 
 begun_beside name made after device text a b kept keeper is h =
     (h.0, h.1, Beside after h.0 (subst (λ k. IsBeside name made (course {E = RecordFault} (Ok k)) after h.0) is h.2))
 
-pub begun_in_place : {K : Type 0} (name : List ℕ) (made after : Made) (device device' : Bool) (text : Option (List ℕ)) (a b c : Option (List DiskStep)) (kept : Option K)
-    → kept ≡ None → device' ≡ device → HasAsked a b (IsBeside name made (course {E = RecordFault} (Ok kept)) after) → HasAsked b c (IsWrittenOver name after text device')
+pub begun_in_place : {K : Type 0} (name : List ℕ) (made after : Made) (device device' : Bool) (text : Option (List ℕ)) (size : ℕ) (a b c : Option (List DiskStep)) (kept : Option K)
+    → kept ≡ None → device' ≡ device → HasAsked a b (IsBeside name made (course {E = RecordFault} (Ok kept)) after) → HasAsked b c (IsWrittenOver name after text size device')
     → HasAsked a c (IsBegun name made device text)
-begun_in_place name made after device device' text a b c kept is same h w = (
+begun_in_place name made after device device' text size a b c kept is same h w = (
   h.0 ++ w.0,
   tells_join a b c h.0 w.0 h.1 w.1,
-  InPlace after h.0 w.0 (subst (λ k. IsBeside name made (course {E = RecordFault} (Ok k)) after h.0) is h.2)
-      (subst (λ d. IsWrittenOver name after text d w.0) same w.2),
+  InPlace after size h.0 w.0 (subst (λ k. IsBeside name made (course {E = RecordFault} (Ok k)) after h.0) is h.2)
+      (subst (λ d. IsWrittenOver name after text size d w.0) same w.2),
 )
 
 pub not_begun_in_place : {K : Type 0} (name : List ℕ) (made after : Made) (a b c : Option (List DiskStep)) (kept : Option K)

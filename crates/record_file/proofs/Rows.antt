@@ -1,10 +1,10 @@
 -- Rows of the tables of what is asked, by what came of a call.
 use Rattle.std.proofs.Common.{◌≡◌, ℕ, ◌+◌, ◌<◌, ◌≤◌, ◌⊎◌, inl, inr, ◌∙◌, sym, subst, refl, List, [], ◌∷◌, ◌++◌, Bool, true, false, Option, Some, None, Result, Ok, Err}
-use Rattle.record_file.specs.Beginning.{IsLeftover, Left, Strange as StrangeNew, Taken, IsMaking, Fresh, Again, IsMakingHeld, new_name, Course, NotReplaced, GivenUp, Replaced, names, IsRenaming, Whole, Unsynced, NotRenamed, Moved, IsFolderSync, IsFileCut, IsLetGo, Goes, LeadsElsewhere, Stays, StaysBehindLink, IsWriting, NotHeld as NotHeldNew, NoRoom, NotWritten, Written, IsBeside, IsMadeReady, ReadyDevice, ReadyFile, IsUnready, MovedAway, IsWrittenOver, Device as OverDevice, PlainFile as OverFile, AtFolder, course, IsMakingSynced, OldFile, NewFile, NewBehindLink, Unresolved}
+use Rattle.record_file.specs.Beginning.{IsLeftover, Left, Strange as StrangeNew, Taken, IsMaking, Fresh, Again, IsMakingHeld, new_name, Course, NotReplaced, GivenUp, Replaced, names, IsRenaming, Whole, Unsynced, NotRenamed, Moved, IsFileCut, IsLetGo, Goes, LeadsElsewhere, Stays, StaysBehindLink, IsWriting, NotHeld as NotHeldNew, NoRoom, NotWritten, Written, IsBeside, IsMadeReady, ReadyDevice, ReadyFile, IsUnready, MovedAway, IsWrittenOver, Device as OverDevice, PlainFile as OverFile, AtFolder, course, IsPlaceSynced, FolderShut, may_be_shut}
 use Rattle.record_file.specs.Course.{is_done, was_made, renamed}
 use Rattle.host_devices.proofs.Told.{tells_join}
 use Rattle.host_devices.specs.Told.{HasAsked, Tells}
-use Rattle.record_file.specs.DiskStep.{DiskStep, LedTo, Resolve, Look, LookAtName, FindSoleFile, Open, Hold, Rename, Remove, SyncFolder, Did, Failed, step_by, answered, IsNameSeen, Seen, Unseen, IsLookAtName, SeenThere, UnseenThere}
+use Rattle.record_file.specs.DiskStep.{DiskStep, LedTo, Look, LookAtName, FindSoleFile, Open, Hold, Rename, Remove, SyncFolder, Did, Failed, step_by, answered, IsNameSeen, Seen, Unseen, IsLookAtName, SeenThere, UnseenThere}
 use Rattle.record_file.specs.Folder.{IsFolderOf}
 use Rattle.record_file.specs.Holding.{hold_steps, IsHeld, PlainFile, Device, Unknown, InUse, Moved as HeldMoved, DeviceMoved, IsFound, IsMade, Linked, Appeared, LeadsNowhere, IsOpened, Found, Strange, IsTry, Taken as TakenIn, NotHeld, AreVain, OneMore, IsHeldAtLast, IsNotHeld}
 use Rattle.record_file.specs.declared.disk.Access.TheVariants.{ReadOnly, New, Created}
@@ -154,21 +154,17 @@ reached name device is = subst (λ d. IsWayFound name d Anew (Did (FindSoleFile 
 pub out_of_reach : (name : List ℕ) (device : Bool) → device ≡ false → IsWayFound name device InPlace (Failed (FindSoleFile name) ∷ [])
 out_of_reach name device is = subst (λ d. IsWayFound name d InPlace (Failed (FindSoleFile name) ∷ [])) (sym is) OutOfReach
 
--- ---- where the file was made
+-- ---- where the file stands
+pub folder_shut : (name place target folder : List ℕ) (made : Made) (done : Bool) → place ≡ target → done ≡ may_be_shut made → IsFolderOf place folder
+    → IsPlaceSynced name made done (LedTo name target ∷ Failed (Open ReadOnly folder) ∷ [])
+folder_shut name place target folder made done same is f =
+    subst (λ d. IsPlaceSynced name made d (LedTo name target ∷ Failed (Open ReadOnly folder) ∷ [])) (sym is)
+    (FolderShut target folder (subst (λ p. IsFolderOf p folder) same f))
 
-pub old_file : (name : List ℕ) (made : Made) → made ≡ Before → IsMakingSynced name made true []
-old_file name made is = subst (λ m. IsMakingSynced name m true []) (sym is) OldFile
-
-pub new_file : (name : List ℕ) (made : Made) (synced : Bool) (steps : List DiskStep) → made ≡ Here → IsFolderSync name synced steps
-    → IsMakingSynced name made synced steps
-new_file name made synced steps is s = subst (λ m. IsMakingSynced name m synced steps) (sym is) (NewFile synced steps s)
-
-pub new_behind_link : (name target : List ℕ) (made : Made) (synced : Bool) (steps : List DiskStep) → made ≡ BehindLink → IsFolderSync target synced steps
-    → IsMakingSynced name made synced (LedTo name target ∷ steps)
-new_behind_link name target made synced steps is s = subst (λ m. IsMakingSynced name m synced (LedTo name target ∷ steps)) (sym is) (NewBehindLink target synced steps s)
-
-pub unresolved : (name : List ℕ) (made : Made) → made ≡ BehindLink → IsMakingSynced name made false (Failed (Resolve name) ∷ [])
-unresolved name made is = subst (λ m. IsMakingSynced name m false (Failed (Resolve name) ∷ [])) (sym is) Unresolved
+-- of a file that is known to be the same kind as before
+pub same_place : (name : List ℕ) (before after : Made × Bool) (synced : Bool) (a b : Option (List DiskStep)) → after ≡ before
+    → HasAsked a b (IsPlaceSynced name after.0 synced) → HasAsked a b (IsPlaceSynced name before.0 synced)
+same_place name before after synced a b is h = subst (λ kind. HasAsked a b (IsPlaceSynced name kind.0 synced)) is h
 
 -- ---- what came of a part
 
@@ -225,37 +221,42 @@ beside_kept name made after a b kept false keeper is h = subst (λ k. HasAsked a
 
 -- ---- in place
 
-pub ready_device : (name : List ℕ) (made : Made) (device : Bool) (a b : Option (List DiskStep)) → device ≡ true
-    → HasAsked a b (IsMakingSynced name made true) → HasAsked a b (IsMadeReady name made device)
-ready_device name made device a b is h = (h.0, h.1, subst (λ d. IsMadeReady name made d h.0) (sym is) (ReadyDevice h.0 h.2))
+pub ready_device : (name : List ℕ) (made : Made) (device : Bool) → device ≡ true → IsMadeReady name made device []
+ready_device name made device is = subst (λ d. IsMadeReady name made d []) (sym is) ReadyDevice
 
-looked : (name : List ℕ) (made : Made) (steps look : List DiskStep) → IsMakingSynced name made true steps → IsNameSeen name true look
+looked : (name : List ℕ) (made : Made) (steps look : List DiskStep) → IsPlaceSynced name made true steps → IsNameSeen name true look
     → IsMadeReady name made false (steps ++ look)
 looked name made steps look s Seen = ReadyFile steps s
 
 pub ready_file : (name : List ℕ) (made : Made) (device : Bool) (a b c : Option (List DiskStep)) → device ≡ false
-    → HasAsked a b (IsMakingSynced name made true) → HasAsked b c (IsNameSeen name true) → HasAsked a c (IsMadeReady name made device)
+    → HasAsked a b (IsPlaceSynced name made true) → HasAsked b c (IsNameSeen name true) → HasAsked a c (IsMadeReady name made device)
 ready_file name made device a b c is h l =
     (h.0 ++ l.0, tells_join a b c h.0 l.0 h.1 l.1, subst (λ d. IsMadeReady name made d (h.0 ++ l.0)) (sym is) (looked name made h.0 l.0 h.2 l.2))
 
-looked_in_vain : (name : List ℕ) (made : Made) (steps look : List DiskStep) → IsMakingSynced name made true steps → IsNameSeen name false look
+looked_in_vain : (name : List ℕ) (made : Made) (steps look : List DiskStep) → IsPlaceSynced name made true steps → IsNameSeen name false look
     → IsUnready name made (steps ++ look)
 looked_in_vain name made steps look s (Unseen found) = MovedAway found steps s
 
-pub unready_file : (name : List ℕ) (made : Made) (a b c : Option (List DiskStep)) → HasAsked a b (IsMakingSynced name made true)
+pub unready_file : (name : List ℕ) (made : Made) (a b c : Option (List DiskStep)) → HasAsked a b (IsPlaceSynced name made true)
     → HasAsked b c (IsNameSeen name false) → HasAsked a c (IsUnready name made)
 unready_file name made a b c h l = (h.0 ++ l.0, tells_join a b c h.0 l.0 h.1 l.1, looked_in_vain name made h.0 l.0 h.2 l.2)
 
-pub over_device : (name : List ℕ) (made : Made) (text : Option (List ℕ)) (device known : Bool) (a b : Option (List DiskStep)) → known ≡ device → known ≡ true
-    → HasAsked a b (IsMadeReady name made device) → HasAsked a b (IsWrittenOver name made text device)
-over_device name made text device known a b same is =
-    subst (λ d. HasAsked a b (IsMadeReady name made d) → HasAsked a b (IsWrittenOver name made text d)) (sym is ∙ same) (λ h. (h.0, h.1, OverDevice h.0 h.2))
+pub over_device : (name : List ℕ) (made : Made) (text : Option (List ℕ)) (size : ℕ) (device known : Bool) (a b : Option (List DiskStep)) → known ≡ device → known ≡ true
+    → HasAsked a b (IsMadeReady name made device) → HasAsked a b (IsWrittenOver name made text size device)
+over_device name made text size device known a b same is =
+    subst (λ d. HasAsked a b (IsMadeReady name made d) → HasAsked a b (IsWrittenOver name made text size d)) (sym is ∙ same) (λ h. (h.0, h.1, OverDevice h.0 h.2))
 
-pub over_file : (name : List ℕ) (made : Made) (text cut : Option (List ℕ)) (device known : Bool) (a b c : Option (List DiskStep)) → known ≡ device → known ≡ false
-    → cut ≡ text → HasAsked a b (IsMadeReady name made device) → HasAsked b c (IsFileCut cut true) → HasAsked a c (IsWrittenOver name made text device)
-over_file name made text cut device known a b c same is t h q =
-    subst (λ d. HasAsked a b (IsMadeReady name made d) → HasAsked a c (IsWrittenOver name made text d)) (sym is ∙ same)
-    (λ r. (r.0 ++ q.0, tells_join a b c r.0 q.0 r.1 q.1, OverFile r.0 q.0 r.2 (subst (λ x. IsFileCut x true q.0) t q.2)))
+pub over_file : (name : List ℕ) (made : Made) (text cut : Option (List ℕ)) (size at : ℕ) (device known : Bool) (a b c : Option (List DiskStep)) → known ≡ device
+    → known ≡ false → cut ≡ text → (device ≡ false → at ≡ size) → HasAsked a b (IsMadeReady name made device) → HasAsked b c (IsFileCut cut at true)
+    → HasAsked a c (IsWrittenOver name made text size device)
+over_file name made text cut size at device known a b c same is t s h q =
+    subst (λ d. HasAsked a b (IsMadeReady name made d) → HasAsked a c (IsWrittenOver name made text size d)) (sym is ∙ same)
+    (λ r. (
+      r.0 ++ q.0,
+      tells_join a b c r.0 q.0 r.1 q.1,
+      OverFile r.0 q.0 r.2
+          (subst (λ n. IsFileCut text n true q.0) (s (sym same ∙ is)) (subst (λ x. IsFileCut x at true q.0) t q.2)),
+    ))
     h
 
 -- ---- tries

@@ -83,24 +83,23 @@ pub data IsBeside (name : List ℕ) (made : Made) : Course → Made → List Dis
 
 -- ---- the record written where it is
 
--- the folder of a name is opened and synced, or one of these fails
-pub data IsFolderSync (name : List ℕ) : Bool → List DiskStep → Type 0 where
-  FolderOpened : (folder : List ℕ) (synced : Bool) → IsFolderOf name folder
-      → IsFolderSync name synced (Did (Open ReadOnly folder) ∷ step_by (SyncFolder folder) synced ∷ [])
-  NotOpened : (folder : List ℕ) → IsFolderOf name folder → IsFolderSync name false (Failed (Open ReadOnly folder) ∷ [])
+-- a folder that can't be opened is passed over where the file was there before
+abbrev pub may_be_shut : Made → Bool
+may_be_shut Before = true
+may_be_shut other = false
 
--- where this load made the file, that is brought to the disk; behind a link it is the folder of the name to which that leads
-pub data IsMakingSynced (name : List ℕ) : Made → Bool → List DiskStep → Type 0 where
-  OldFile : IsMakingSynced name Before true []
-  NewFile : (synced : Bool) (steps : List DiskStep) → IsFolderSync name synced steps → IsMakingSynced name Here synced steps
-  NewBehindLink : (target : List ℕ) (synced : Bool) (steps : List DiskStep) → IsFolderSync target synced steps
-      → IsMakingSynced name BehindLink synced (LedTo name target ∷ steps)
-  Unresolved : IsMakingSynced name BehindLink false (Failed (Resolve name) ∷ [])
+-- that the file stands in its folder is brought to the disk, whoever made it: in that of the name to which its own leads
+pub data IsPlaceSynced (name : List ℕ) (made : Made) : Bool → List DiskStep → Type 0 where
+  FolderOpened : (target folder : List ℕ) (synced : Bool) → IsFolderOf target folder
+      → IsPlaceSynced name made synced (LedTo name target ∷ Did (Open ReadOnly folder) ∷ step_by (SyncFolder folder) synced ∷ [])
+  FolderShut : (target folder : List ℕ) → IsFolderOf target folder
+      → IsPlaceSynced name made (may_be_shut made) (LedTo name target ∷ Failed (Open ReadOnly folder) ∷ [])
+  Unresolved : IsPlaceSynced name made false (Failed (Resolve name) ∷ [])
 
--- a file of which this was written is cut, and synced
-pub data IsFileCut (text : Option (List ℕ)) : Bool → List DiskStep → Type 0 where
-  CutAndSynced : (length : ℕ) (synced : Bool) → IsFileCut text synced (Did (Cut text length) ∷ step_by (SyncFile text) synced ∷ [])
-  NotCut : (length : ℕ) → IsFileCut text false (Failed (Cut text length) ∷ [])
+-- a file of which this was written is cut at a size, and synced
+pub data IsFileCut (text : Option (List ℕ)) (size : ℕ) : Bool → List DiskStep → Type 0 where
+  CutAndSynced : (synced : Bool) → IsFileCut text size synced (Did (Cut text size) ∷ step_by (SyncFile text) synced ∷ [])
+  NotCut : IsFileCut text size false (Failed (Cut text size) ∷ [])
 
 -- a file that this load made under this very name goes with it, where the name still leads to it
 pub data IsLetGo (name : List ℕ) : Made → List DiskStep → Type 0 where
@@ -109,27 +108,28 @@ pub data IsLetGo (name : List ℕ) : Made → List DiskStep → Type 0 where
   LeadsElsewhere : (found : Bool) → IsLetGo name Here (step_by (Look name) found ∷ [])
   Goes : (removed : Bool) → IsLetGo name Here (Did (Look name) ∷ step_by (Remove name) removed ∷ [])
 
--- the file can be written where it is: that it was made is on the disk, and its name still leads to it, which of a device is not looked up
+-- the file can be written where it is: that it stands there is on the disk, and its name still leads to it. A device is written without more
 pub data IsMadeReady (name : List ℕ) (made : Made) : Bool → List DiskStep → Type 0 where
-  ReadyDevice : (steps : List DiskStep) → IsMakingSynced name made true steps → IsMadeReady name made true steps
-  ReadyFile : (steps : List DiskStep) → IsMakingSynced name made true steps → IsMadeReady name made false (steps ++ Did (Look name) ∷ [])
+  ReadyDevice : IsMadeReady name made true []
+  ReadyFile : (steps : List DiskStep) → IsPlaceSynced name made true steps → IsMadeReady name made false (steps ++ Did (Look name) ∷ [])
 
--- or it can't: that may not be on the disk, or the file is one that is not written over, or its name leads elsewhere by now
+-- or it can't: it is one that is not written over, or that it stands there can't be brought to the disk, or its name leads elsewhere by now
 pub data IsUnready (name : List ℕ) (made : Made) : List DiskStep → Type 0 where
-  NotWritable : (synced : Bool) (steps : List DiskStep) → IsMakingSynced name made synced steps → IsUnready name made steps
-  MovedAway : (found : Bool) (steps : List DiskStep) → IsMakingSynced name made true steps → IsUnready name made (steps ++ step_by (Look name) found ∷ [])
+  NotWritable : IsUnready name made []
+  NotSynced : (steps : List DiskStep) → IsPlaceSynced name made false steps → IsUnready name made steps
+  MovedAway : (found : Bool) (steps : List DiskStep) → IsPlaceSynced name made true steps → IsUnready name made (steps ++ step_by (Look name) found ∷ [])
 
--- the record was written where it is; a device is not cut
-pub data IsWrittenOver (name : List ℕ) (made : Made) (text : Option (List ℕ)) : Bool → List DiskStep → Type 0 where
-  Device : (steps : List DiskStep) → IsMadeReady name made true steps → IsWrittenOver name made text true steps
-  PlainFile : (steps cutting : List DiskStep) → IsMadeReady name made false steps → IsFileCut text true cutting
-      → IsWrittenOver name made text false (steps ++ cutting)
+-- the record was written where it is, and cut at its size; a device is not cut
+pub data IsWrittenOver (name : List ℕ) (made : Made) (text : Option (List ℕ)) (size : ℕ) : Bool → List DiskStep → Type 0 where
+  Device : (steps : List DiskStep) → IsMadeReady name made true steps → IsWrittenOver name made text size true steps
+  PlainFile : (steps cutting : List DiskStep) → IsMadeReady name made false steps → IsFileCut text size true cutting
+      → IsWrittenOver name made text size false (steps ++ cutting)
 
 -- it was not: the file is let go before anything is written to it, and stays behind that
 pub data IsNotWrittenOver (name : List ℕ) (made : Made) : List DiskStep → Type 0 where
   Unready : (steps going : List DiskStep) → IsUnready name made steps → IsLetGo name made going → IsNotWrittenOver name made (steps ++ going)
   Unwritten : (device : Bool) (steps : List DiskStep) → IsMadeReady name made device steps → IsNotWrittenOver name made steps
-  Uncut : (text : Option (List ℕ)) (steps cutting : List DiskStep) → IsMadeReady name made false steps → IsFileCut text false cutting
+  Uncut : (text : Option (List ℕ)) (size : ℕ) (steps cutting : List DiskStep) → IsMadeReady name made false steps → IsFileCut text size false cutting
       → IsNotWrittenOver name made (steps ++ cutting)
 
 -- ---- the whole
@@ -138,7 +138,8 @@ pub data IsNotWrittenOver (name : List ℕ) (made : Made) : List DiskStep → Ty
 -- has the old one's name; or that can't be, and it was written where it is
 pub data IsBegun (name : List ℕ) (made : Made) (device : Bool) (text : Option (List ℕ)) : List DiskStep → Type 0 where
   Beside : (after : Made) (steps : List DiskStep) → IsBeside name made Replaced after steps → IsBegun name made device text steps
-  InPlace : (after : Made) (before writing : List DiskStep) → IsBeside name made NotReplaced after before → IsWrittenOver name after text device writing
+  InPlace : (after : Made) (size : ℕ) (before writing : List DiskStep) → IsBeside name made NotReplaced after before
+      → IsWrittenOver name after text size device writing
       → IsBegun name made device text (before ++ writing)
 
 -- it is not begun

@@ -1,15 +1,15 @@
 //! A record that is begun anew: the old one is replaced whole, or written over where it is.
-ghost use Rattle.std.specs.Prelude.{◌≡◌, false, List, ℕ, IfOk, IfErr, IfSome, OnOk};
+ghost use Rattle.std.specs.Prelude.{◌≡◌, false, length, List, ℕ, IfOk, IfErr, IfSome, OnOk};
 ghost use Rattle.std.specs.Io.KnownBytes.{Appends};
 ghost use Rattle.host_devices.specs.declared.fault.KeepFault.TheVariants as keep;
 ghost use Rattle.load_record.specs.declared.version.Version.TheVariants.{Second};
 ghost use Rattle.load_record.specs.RecordText.{record_text};
-ghost use Rattle.record_file.specs.Beginning.{course, names, IsMakingHeld, IsRenaming, IsBeside, IsFolderSync, IsMakingSynced};
+ghost use Rattle.record_file.specs.Beginning.{course, names, IsMakingHeld, IsRenaming, IsBeside, IsPlaceSynced, may_be_shut};
 ghost use Rattle.record_file.specs.Beginning.{IsFileCut, IsMadeReady, IsUnready, IsWrittenOver, IsNotWrittenOver};
 ghost use Rattle.record_file.specs.Course.{is_done, was_made, renamed};
 ghost use Rattle.record_file.specs.DiskRecord.{HasBegun};
 ghost use Rattle.host_devices.specs.Told.{HasAsked};
-ghost use Rattle.record_file.specs.InPlace.{ChangesNoByte, HasRead, MayBeWrittenOver};
+ghost use Rattle.record_file.specs.InPlace.{ChangesNoByte, HasRead, IsGoneBack, MayBeWrittenOver};
 ghost use Rattle.record_file.specs.RecordFault.{IsUnbegun};
 ghost use Rattle.record_file.specs.Taking.{kind_of};
 
@@ -50,6 +50,7 @@ pub(crate) fn begin_beside<D: Disk>(
     ensures fault { IfErr result IsUnbegun }
     ensures device { held.new.device ≡ held.old.device }
     ensures standing { held.new.standing ≡ held.old.standing }
+    ensures old_record { held.new.file ≡ held.old.file }
     ensures asked { HasAsked (D.asked disk.old) (D.asked disk.new) (IsBeside name.now held.old.made (course result) held.new.made) }
 {
     // A rename does not reach what a link leads to, and leaves the old record under another name.
@@ -91,6 +92,7 @@ fn replace<D: Disk>(
     ensures fault { IfErr result IsUnbegun }
     ensures device { held.new.device ≡ held.old.device }
     ensures standing { held.new.standing ≡ held.old.standing }
+    ensures old_record { held.new.file ≡ held.old.file }
     ensures asked { (dir : List ℕ) → D.is_opened_as folder.now dir
         → HasAsked (D.asked disk.old) (D.asked disk.new) (IsRenaming (names name.now beside.now dir) held.old.made (renamed result) held.new.made) }
 {
@@ -126,25 +128,29 @@ pub(crate) fn begin_in_place<D: Disk>(
     ensures begun { IfOk result (HasBegun D.File.contents plan.now verified) }
     ensures over { OnOk result (MayBeWrittenOver (record_text Second plan.now verified false) held) }
     ensures fault { IfErr result IsUnbegun }
-    ensures asked { IfOk result (λ keeper. HasAsked (D.asked disk.old) (D.asked disk.new) (IsWrittenOver name.now held.made keeper.text held.device)) }
+    ensures asked { IfOk result (λ keeper. HasAsked (D.asked disk.old) (D.asked disk.new)
+        (IsWrittenOver name.now held.made keeper.text (length (record_text Second plan.now verified false)) held.device)) }
     ensures failed { IfErr result (λ _. HasAsked (D.asked disk.old) (D.asked disk.new) (IsNotWrittenOver name.now held.made)) }
 {
-    if let Err(fault) = make_ready(disk, name, alloc, plan, verified, &mut held) {
-        let_go(disk, name, held);
-        return Err(fault);
-    }
+    let size = match make_ready(disk, name, alloc, plan, verified, &mut held) {
+        Ok(size) => size,
+        Err(fault) => {
+            let_go(disk, name, held);
+            return Err(fault);
+        }
+    };
     let device = held.device;
     let keeper = begun(held.file, plan, verified)?;
     if device {
         return Ok(keeper);
     }
-    cut_behind(disk, keeper.writer())?;
+    cut_behind(disk, keeper.writer(), size)?;
     Ok(keeper)
 }
 
-// Brings to the disk that the file was made, where this load made it, goes back to its beginning, where the new
-// record may be written there, and finds that its name still leads to it: what is written to a file that somebody
-// has removed meanwhile is lost.
+// Goes back to its beginning, where the new record may be written there, brings to the disk that it stands in its folder,
+// and finds that its name still leads to it: what is written to a file that somebody has removed meanwhile is lost. Answers
+// how many bytes it will have, which of a device is no matter.
 fn make_ready<D: Disk>(
     disk: &mut D,
     name: &str,
@@ -152,7 +158,9 @@ fn make_ready<D: Disk>(
     plan: &Plan,
     verified: u32,
     held: &mut HeldFile<D::File>,
-) -> Result<(), RecordFault>
+) -> Result<u64, RecordFault>
+    ensures size { IfOk result (λ size. held.old.device ≡ false → size ≡ length (record_text Second plan.now verified false)) }
+    ensures front { OnOk result (held.old.device ≡ false → IsGoneBack (D.File.stream_position held.old.file) (D.File.stream_position held.new.file)) }
     ensures over { OnOk result (MayBeWrittenOver (record_text Second plan.now verified false) held.old) }
     ensures fault { IfErr result IsUnbegun }
     ensures made { held.new.made ≡ held.old.made }
@@ -160,54 +168,71 @@ fn make_ready<D: Disk>(
     ensures asked { IfOk result (λ _. HasAsked (D.asked disk.old) (D.asked disk.new) (IsMadeReady name.now held.old.made held.old.device)) }
     ensures failed { IfErr result (λ _. HasAsked (D.asked disk.old) (D.asked disk.new) (IsUnready name.now held.old.made)) }
 {
-    sync_making(disk, name, alloc, held.made)?;
     if held.device {
-        return Ok(());
+        return Ok(0);
     }
-    rewind(alloc, plan, verified, held)?;
+    let size = rewind(alloc, plan, verified, held)?;
+    sync_place(disk, name, alloc, held.made)?;
     if is_named(disk, name, held) {
-        Ok(())
+        Ok(size)
     } else {
         Err(RecordFault::Write)
     }
 }
 
-// Goes back to a file's beginning, where the record of a plan's first words may be written over what stands there.
+// Goes back to a file's beginning, where the record of a plan's first words may be written over what stands there, and
+// answers how many bytes that has.
 fn rewind<T: Read + Seek + OpenFile + Drop>(
     alloc: Global,
     plan: &Plan,
     verified: u32,
     held: &mut HeldFile<T>,
-) -> Result<(), RecordFault>
+) -> Result<u64, RecordFault>
+    ensures size { IfOk result (λ size. size ≡ length (record_text Second plan.now verified false)) }
+    ensures front { OnOk result (IsGoneBack (T.stream_position held.old.file) (T.stream_position held.new.file)) }
     ensures over { OnOk result (HasRead (ChangesNoByte (record_text Second plan.now verified false)) held.old) }
     ensures kind { kind_of held.new ≡ kind_of held.old }
     ensures fault { IfErr result IsUnbegun }
 {
     let keeper = begun_in_memory(alloc, plan, verified)?;
-    if held.rewind_for(keeper.writer()) {
-        Ok(())
+    let text = keeper.writer();
+    if held.rewind_for(text) {
+        Ok(text.len() as u64)
     } else {
         Err(RecordFault::Write)
     }
 }
 
-// Brings to the disk that the file was made, where this load made it.
-fn sync_making<D: Disk>(
+// Brings to the disk that a file stands in its folder: whoever made it may have died before that was.
+fn sync_place<D: Disk>(
     disk: &mut D,
     name: &str,
     alloc: Global,
     made: Made,
 ) -> Result<(), RecordFault>
     ensures fault { IfErr result IsUnbegun }
-    ensures asked { HasAsked (D.asked disk.old) (D.asked disk.new) (IsMakingSynced name.now made (is_done result)) }
+    ensures asked { HasAsked (D.asked disk.old) (D.asked disk.new) (IsPlaceSynced name.now made (is_done result)) }
+{
+    let Ok(target) = disk.resolve(alloc, name) else {
+        return Err(RecordFault::Write);
+    };
+    let Ok(folder) = disk.open(Access::ReadOnly, folder_of(target.as_str())) else {
+        return without_folder(made);
+    };
+    match disk.sync_folder(&folder) {
+        Ok(()) => Ok(()),
+        Err(_) => Err(RecordFault::Write),
+    }
+}
+
+// What comes of a file whose folder can't be opened: one that this load did not make is written all the same.
+fn without_folder(made: Made) -> Result<(), RecordFault>
+    ensures fault { IfErr result IsUnbegun }
+    ensures done { is_done result ≡ may_be_shut made }
 {
     match made {
         Made::Before => Ok(()),
-        Made::Here => sync_folder(disk, name),
-        Made::BehindLink => match disk.resolve(alloc, name) {
-            Ok(target) => sync_folder(disk, target.as_str()),
-            Err(_) => Err(RecordFault::Write),
-        },
+        Made::Here | Made::BehindLink => Err(RecordFault::Write),
     }
 }
 
@@ -244,29 +269,19 @@ fn begun<T: OpenFile + Write + Drop>(
     Ok(keeper)
 }
 
-// Cuts off what stands behind that which was written, and brings that to the disk.
-fn cut_behind<D: Disk>(disk: &mut D, writer: &DurableWriter<D::File>) -> Result<(), RecordFault>
+// Cuts off what stands behind the first bytes of what was written, so many, and brings that to the disk.
+fn cut_behind<D: Disk>(
+    disk: &mut D,
+    writer: &DurableWriter<D::File>,
+    size: u64,
+) -> Result<(), RecordFault>
     ensures fault { IfErr result IsUnbegun }
-    ensures asked { HasAsked (D.asked disk.old) (D.asked disk.new) (IsFileCut (D.File.contents writer.now.file) (is_done result)) }
+    ensures asked { HasAsked (D.asked disk.old) (D.asked disk.new) (IsFileCut (D.File.contents writer.now.file) size (is_done result)) }
 {
-    if disk.cut(&writer.file, writer.length).is_err() {
+    if disk.cut(&writer.file, size).is_err() {
         return Err(RecordFault::Write);
     }
     match disk.sync_file(&writer.file) {
-        Ok(()) => Ok(()),
-        Err(_) => Err(RecordFault::Write),
-    }
-}
-
-// Brings to the disk which files are in the folder of this name.
-fn sync_folder<D: Disk>(disk: &mut D, name: &str) -> Result<(), RecordFault>
-    ensures fault { IfErr result IsUnbegun }
-    ensures asked { HasAsked (D.asked disk.old) (D.asked disk.new) (IsFolderSync name.now (is_done result)) }
-{
-    let Ok(folder) = disk.open(Access::ReadOnly, folder_of(name)) else {
-        return Err(RecordFault::Write);
-    };
-    match disk.sync_folder(&folder) {
         Ok(()) => Ok(()),
         Err(_) => Err(RecordFault::Write),
     }

@@ -45,17 +45,14 @@ impl<F: Write + OpenFile> SyncWrite for F {
 pub struct DurableWriter<F: SyncWrite> {
     /// Where it writes.
     pub(crate) file: F,
-
-    /// How many bytes it has written.
-    pub(crate) length: u64,
 }
 
 impl<F: SyncWrite> DurableWriter<F> {
-    /// A writer to a file, which has written nothing yet.
+    /// A writer to a file.
     pub(crate) fn new(file: F) -> DurableWriter<F>
-        ensures { result ≡ record { file = file; length = 0 } }
+        ensures { result ≡ record { file = file } }
     {
-        DurableWriter { file, length: 0 }
+        DurableWriter { file }
     }
 }
 
@@ -63,9 +60,7 @@ impl<F: SyncWrite> Write for DurableWriter<F> {
     ghost contents = { λ writer. F.contents writer.file };
 
     fn write(&mut self, buf: &[u8]) -> io::Result<usize> {
-        let count = self.file.write(buf)?;
-        self.length = self.length.saturating_add(count as u64);
-        Ok(count)
+        self.file.write(buf)
     }
 
     fn flush(&mut self) -> io::Result<()> {

@@ -6,7 +6,8 @@ ghost use Rattle.host_devices.specs.Told.{HasAsked, Tells};
 ghost use Rattle.record_file.specs.DiskStep.{IsNameSeen, IsLookAtName, Failed, Open};
 ghost use Rattle.record_file.specs.Holding.{IsFound, IsMade, IsOpened, hold_steps, IsHeld, IsTry, IsHolding, IsNotHeld};
 ghost use Rattle.record_file.specs.Taking.{made_of, IsOpenedAs, kind_of, tried, device_of, IsMadeSo};
-ghost use Rattle.record_file.specs.InPlace.{ChangesNoByte, HasRead};
+ghost use Rattle.byte_io.specs.Input.{IsTaken};
+ghost use Rattle.record_file.specs.InPlace.{ChangesNoByte, HasRead, IsGoneBack};
 ghost use Rattle.record_file.specs.Reading.{IsWayFound, kind_after};
 ghost use Rattle.record_file.specs.RecordFault.{IsUnread};
 
@@ -20,7 +21,7 @@ use byte_io::read_up_to;
 use load_record::RECORD_LIMIT;
 use std::alloc::Global;
 use std::fs::{Metadata, OpenFile};
-use std::io::{ErrorKind, Read, Seek, SeekFrom};
+use std::io::{ErrorKind, Read, Seek};
 use std::os::unix::fs::FileTypeExt;
 
 // How often a file is opened again that somebody replaces between its opening and its lock.
@@ -77,7 +78,7 @@ pub(crate) enum Try<T: Drop> {
     Nothing,
 }
 
-impl<T: Read + Seek + OpenFile + Drop> HeldFile<T> {
+impl<T: Read + Seek + Drop> HeldFile<T> {
     /// All that it holds, or so much that it is too long for a record.
     ///
     /// `Read` comes where reading fails, `Memory` where a growth is refused.
@@ -86,6 +87,7 @@ impl<T: Read + Seek + OpenFile + Drop> HeldFile<T> {
         ensures kind { IfOk result (λ text. kind_of self.new ≡ kind_after text.items (kind_of self.old)) }
         ensures standing { IfOk result (λ text. HasRead (λ standing. standing ≡ text.items) self.new) }
         ensures same { OnErr result (kind_of self.new ≡ kind_of self.old) }
+        ensures text { IfOk result (λ text. IsTaken (T.remaining self.old.file) (T.remaining self.new.file) 1048577 text.items) }
     {
         let text = read_up_to(alloc, &mut self.file, RECORD_LIMIT + 1)?;
         let mut standing = Vec::new(alloc);
@@ -103,12 +105,19 @@ impl<T: Read + Seek + OpenFile + Drop> HeldFile<T> {
     pub(crate) fn rewind_for(&mut self, text: &[u8]) -> bool
         ensures kind { kind_of self.new ≡ kind_of self.old }
         ensures agrees { OnTrue result (HasRead (ChangesNoByte text.now) self.old) }
+        ensures front { OnTrue result (IsGoneBack (T.stream_position self.old.file) (T.stream_position self.new.file)) }
     {
         let agrees = match &self.standing {
             Some(standing) => changes_no_byte(text, standing),
             None => false,
         };
-        agrees && self.file.seek(SeekFrom::Start(0)).is_ok()
+        if !agrees {
+            return false;
+        }
+        match self.file.rewind() {
+            Ok(()) => true,
+            Err(_) => false,
+        }
     }
 }
 

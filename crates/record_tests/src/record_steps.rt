@@ -51,8 +51,11 @@ const REPLACED: [FileStep; 14] = [
 /// How many of these steps come before the record is read.
 pub(crate) const READ: usize = 4;
 
-/// The record itself is written over, while its name still leads to it, and what it has more is cut off last.
+/// The record itself is written over, once it is on the disk that it stands in its folder, and while its name still leads to it; what it
+/// has more is cut off last.
 pub(crate) const IN_PLACE: &[FileStep] = &[
+    FileStep::OpenFolder,
+    FileStep::SyncAll,
     FileStep::Look,
     FileStep::Write,
     FileStep::Write,
@@ -217,19 +220,21 @@ pub(crate) fn clear(rt: &HostRuntime) {
     remove(rt, BESIDE);
 }
 
-/// Whether a row is as it should be. What is made behind a link is made in the folder of its whole name.
+/// Whether a row is as it should be. What is written in place stands in the folder of its whole name.
 pub(crate) fn is_row_so(rt: &HostRuntime, task: Task, row: &Row) -> bool {
     let (before, failing, wanted, count, then, text) = *row;
     clear(rt);
     let Ok(here) = fs::canonicalize(rt, ".") else {
         return false;
     };
-    let folder = match before {
-        Before::Dangling => here.as_str(),
-        _ => ".",
-    };
     put(rt, before).is_ok()
-        && is_taken_so(rt, (RECORD, folder, task), failing, wanted, (count, then))
+        && is_taken_so(
+            rt,
+            (RECORD, here.as_str(), task),
+            failing,
+            wanted,
+            (count, then),
+        )
         && is_left_so(rt, before, text)
 }
 

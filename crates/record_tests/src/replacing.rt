@@ -18,18 +18,6 @@ const RENAME: usize = 13;
 // The new record goes, which could not be renamed, and the old one is written in its place.
 const NOT_RENAMED: &[FileStep] = &[
     FileStep::RemoveBeside,
-    FileStep::Look,
-    FileStep::Write,
-    FileStep::Write,
-    FileStep::Flush,
-    FileStep::SyncData,
-    FileStep::Cut,
-    FileStep::SyncAll,
-];
-
-// The same of a record that was made: that it was is on the disk first.
-const MADE_NOT_RENAMED: &[FileStep] = &[
-    FileStep::RemoveBeside,
     FileStep::OpenFolder,
     FileStep::SyncAll,
     FileStep::Look,
@@ -41,20 +29,7 @@ const MADE_NOT_RENAMED: &[FileStep] = &[
     FileStep::SyncAll,
 ];
 
-// A record that was made is written where it is, once it is on the disk that it was made.
-const MADE_IN_PLACE: &[FileStep] = &[
-    FileStep::OpenFolder,
-    FileStep::SyncAll,
-    FileStep::Look,
-    FileStep::Write,
-    FileStep::Write,
-    FileStep::Flush,
-    FileStep::SyncData,
-    FileStep::Cut,
-    FileStep::SyncAll,
-];
-
-// The same of one that was made behind a link, from the second opening on.
+// A record that was made behind a link, from the second opening on.
 const BEHIND_LINK: &[FileStep] = &[
     FileStep::Open,
     FileStep::Hold,
@@ -245,7 +220,13 @@ const REPLACING: [Row; 17] = [
         ],
         UNBEGUN,
         RENAME,
-        &[FileStep::RemoveBeside, FileStep::Look, FileStep::Write],
+        &[
+            FileStep::RemoveBeside,
+            FileStep::OpenFolder,
+            FileStep::SyncAll,
+            FileStep::Look,
+            FileStep::Write,
+        ],
         Some(CURRENT),
     ),
     (
@@ -258,6 +239,8 @@ const REPLACING: [Row; 17] = [
         RENAME,
         &[
             FileStep::RemoveBeside,
+            FileStep::OpenFolder,
+            FileStep::SyncAll,
             FileStep::Look,
             FileStep::Write,
             FileStep::Write,
@@ -287,6 +270,8 @@ const REPLACING: [Row; 17] = [
         UNBEGUN,
         READ,
         &[
+            FileStep::OpenFolder,
+            FileStep::SyncAll,
             FileStep::Look,
             FileStep::Write,
             FileStep::Write,
@@ -313,7 +298,7 @@ const MADE: [Row; 13] = [
         &[(FileStep::OpenFolder, 1, ErrorKind::Other)],
         Course::Begun,
         FOLDER,
-        MADE_IN_PLACE,
+        IN_PLACE,
         Some(BEGUN),
     ),
     (
@@ -435,7 +420,7 @@ const MADE: [Row; 13] = [
         &[(FileStep::Rename, 1, ErrorKind::Other)],
         Course::Begun,
         RENAME,
-        MADE_NOT_RENAMED,
+        NOT_RENAMED,
         Some(BEGUN),
     ),
     (
@@ -487,6 +472,8 @@ const LEFT_BEHIND: &[FileStep] = &[
 const HELD_BESIDE: &[FileStep] = &[
     FileStep::OpenBeside,
     FileStep::HoldBeside,
+    FileStep::OpenFolder,
+    FileStep::SyncAll,
     FileStep::Look,
     FileStep::Write,
     FileStep::Write,
@@ -498,9 +485,12 @@ const HELD_BESIDE: &[FileStep] = &[
 
 // Whether a record is begun so where a file stands beside it, which then holds this.
 fn is_begun_beside(rt: &HostRuntime, then: &[FileStep], left: Option<&str>) -> bool {
+    let Ok(here) = fs::canonicalize(rt, ".") else {
+        return false;
+    };
     let done = is_taken_so(
         rt,
-        (RECORD, ".", Task::Begin),
+        (RECORD, here.as_str(), Task::Begin),
         NO_FAULT,
         Course::Begun,
         (6, then),
@@ -548,7 +538,8 @@ fn a_new_record_that_somebody_holds_is_left_alone(rt: HostRuntime) -> Result<(),
     clear(&rt);
     fs::write(&rt, RECORD, CURRENT)?;
     let failing: Failing = &[(FileStep::HoldBeside, 1, ErrorKind::Other)];
-    let place = (RECORD, ".", Task::Begin);
+    let here = fs::canonicalize(&rt, ".")?;
+    let place = (RECORD, here.as_str(), Task::Begin);
     assert!(rt; is_taken_so(&rt, place, failing, Course::Begun, (7, IN_PLACE)));
     assert!(rt; holds(&rt, RECORD, Some(BEGUN)));
     clear(&rt);

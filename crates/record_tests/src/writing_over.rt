@@ -6,15 +6,43 @@ use crate::record_steps::{
 use simulated_system::FileStep;
 use std::io::ErrorKind;
 
+// The same in a folder that may not be opened.
+const SHUT_IN_PLACE: &[FileStep] = &[
+    FileStep::OpenFolder,
+    FileStep::Look,
+    FileStep::Write,
+    FileStep::Write,
+    FileStep::Flush,
+    FileStep::SyncData,
+    FileStep::Cut,
+    FileStep::SyncAll,
+];
+
 // A record that is written where it is, and each step fails in turn. It is never anything but what it was or what it
 // is to be: one of which a byte would become another one is not written over.
-const WRITTEN_OVER: [Row; 15] = [
+const WRITTEN_OVER: [Row; 17] = [
+    (
+        Before::Link(CURRENT),
+        &[(FileStep::SyncAll, 1, ErrorKind::Other)],
+        UNBEGUN,
+        READ,
+        &[FileStep::OpenFolder, FileStep::SyncAll],
+        Some(CURRENT),
+    ),
+    (
+        Before::Named(CURRENT),
+        &[(FileStep::OpenFolder, 1, ErrorKind::PermissionDenied)],
+        Course::Begun,
+        READ,
+        SHUT_IN_PLACE,
+        Some(BEGUN),
+    ),
     (
         Before::Link(CURRENT),
         &[(FileStep::Look, 3, ErrorKind::NotFound)],
         UNBEGUN,
         READ,
-        &[FileStep::Look],
+        &[FileStep::OpenFolder, FileStep::SyncAll, FileStep::Look],
         Some(CURRENT),
     ),
     (
@@ -22,7 +50,12 @@ const WRITTEN_OVER: [Row; 15] = [
         &[(FileStep::Write, 1, ErrorKind::Other)],
         UNBEGUN,
         READ,
-        &[FileStep::Look, FileStep::Write],
+        &[
+            FileStep::OpenFolder,
+            FileStep::SyncAll,
+            FileStep::Look,
+            FileStep::Write,
+        ],
         Some(CURRENT),
     ),
     (
@@ -30,7 +63,13 @@ const WRITTEN_OVER: [Row; 15] = [
         &[(FileStep::Write, 2, ErrorKind::Other)],
         UNBEGUN,
         READ,
-        &[FileStep::Look, FileStep::Write, FileStep::Write],
+        &[
+            FileStep::OpenFolder,
+            FileStep::SyncAll,
+            FileStep::Look,
+            FileStep::Write,
+            FileStep::Write,
+        ],
         Some(CURRENT),
     ),
     (
@@ -39,6 +78,8 @@ const WRITTEN_OVER: [Row; 15] = [
         UNBEGUN,
         READ,
         &[
+            FileStep::OpenFolder,
+            FileStep::SyncAll,
             FileStep::Look,
             FileStep::Write,
             FileStep::Write,
@@ -52,6 +93,8 @@ const WRITTEN_OVER: [Row; 15] = [
         UNBEGUN,
         READ,
         &[
+            FileStep::OpenFolder,
+            FileStep::SyncAll,
             FileStep::Look,
             FileStep::Write,
             FileStep::Write,
@@ -66,6 +109,8 @@ const WRITTEN_OVER: [Row; 15] = [
         UNBEGUN,
         READ,
         &[
+            FileStep::OpenFolder,
+            FileStep::SyncAll,
             FileStep::Look,
             FileStep::Write,
             FileStep::Write,
@@ -77,7 +122,7 @@ const WRITTEN_OVER: [Row; 15] = [
     ),
     (
         Before::Link(CURRENT),
-        &[(FileStep::SyncAll, 1, ErrorKind::Other)],
+        &[(FileStep::SyncAll, 2, ErrorKind::Other)],
         UNBEGUN,
         READ,
         IN_PLACE,
@@ -89,6 +134,8 @@ const WRITTEN_OVER: [Row; 15] = [
         UNBEGUN,
         READ,
         &[
+            FileStep::OpenFolder,
+            FileStep::SyncAll,
             FileStep::Look,
             FileStep::Write,
             FileStep::Write,
@@ -104,6 +151,8 @@ const WRITTEN_OVER: [Row; 15] = [
         UNBEGUN,
         READ,
         &[
+            FileStep::OpenFolder,
+            FileStep::SyncAll,
             FileStep::Look,
             FileStep::Write,
             FileStep::Write,
@@ -113,7 +162,7 @@ const WRITTEN_OVER: [Row; 15] = [
     ),
     (
         Before::Link(""),
-        &[(FileStep::SyncAll, 1, ErrorKind::Other)],
+        &[(FileStep::SyncAll, 2, ErrorKind::Other)],
         UNBEGUN,
         READ,
         IN_PLACE,
@@ -148,7 +197,12 @@ const WRITTEN_OVER: [Row; 15] = [
         &[(FileStep::Write, 1, ErrorKind::Other)],
         UNBEGUN,
         READ,
-        &[FileStep::Look, FileStep::Write],
+        &[
+            FileStep::OpenFolder,
+            FileStep::SyncAll,
+            FileStep::Look,
+            FileStep::Write,
+        ],
         Some(CURRENT),
     ),
     (

@@ -14,19 +14,19 @@ pub returns-in_err-keeper-clause-asked : goal.returns-in_err-keeper-clause-asked
 returns-in_err-keeper-clause-asked g c = not_ok _ c.from_residual.result c.from_residual.ensures.0
 
 pub returns-in_err-keeper-clause-failed : goal.returns-in_err-keeper-clause-failed
-returns-in_err-keeper-clause-failed g c = let k = c.in_default.ensures.asked in
+returns-in_err-keeper-clause-failed g c = let k = c.in-Ok.ensures.asked in
     on_err c.from_residual.result (k.0, k.1, Unwritten _ _ k.2)
 
 pub returns-in_err-cut_behind-clause-asked : goal.returns-in_err-cut_behind-clause-asked
 returns-in_err-cut_behind-clause-asked g c = not_ok _ c.from_residual-in_err-cut_behind.result c.from_residual-in_err-cut_behind.ensures.0
 
 pub returns-in_err-cut_behind-clause-failed : goal.returns-in_err-cut_behind-clause-failed
-returns-in_err-cut_behind-clause-failed g c = let k = c.in_default.ensures.asked in
+returns-in_err-cut_behind-clause-failed g c = let k = c.in-Ok.ensures.asked in
     let q = c.in_err-cut_behind.ensures.asked in
-    on_err c.from_residual-in_err-cut_behind.result (asked_one _ _ _ (tells_join _ _ _ _ _ k.1 q.1) (Uncut _ _ _ (subst (λ device. IsMadeReady c.args.name.now c.args.held.made device k.0) (sym c.in_default.ensures.device ∙ c.if-device.false) k.2) q.2))
+    on_err c.from_residual-in_err-cut_behind.result (asked_one _ _ _ (tells_join _ _ _ _ _ k.1 q.1) (Uncut _ _ _ _ (subst (λ device. IsMadeReady c.args.name.now c.args.held.made device k.0) (sym c.in-Ok.ensures.device ∙ c.if-device.false) k.2) q.2))
 
 pub returns-then-device-clause-asked : goal.returns-then-device-clause-asked
-returns-then-device-clause-asked g c = over_device _ _ _ _ _ _ _ c.in_default.ensures.device c.if-device.true c.in_default.ensures.asked
+returns-then-device-clause-asked g c = over_device _ _ _ _ _ _ _ _ c.in-Ok.ensures.device c.if-device.true c.in-Ok.ensures.asked
 
 pub returns-clause-asked : goal.returns-clause-asked
-returns-clause-asked g c = over_file _ _ _ _ _ _ _ _ _ c.in_default.ensures.device c.if-device.false c.writer.ensures.text c.in_default.ensures.asked c.in_ok-cut_behind.ensures.asked
+returns-clause-asked g c = over_file _ _ _ _ _ _ _ _ _ _ _ c.in-Ok.ensures.device c.if-device.false c.writer.ensures.text c.in-Ok.ensures.size c.in-Ok.ensures.asked c.in_ok-cut_behind.ensures.asked

@@ -12,7 +12,7 @@ pub returns-in-Ok-Some-clause-remains : goal.returns-in-Ok-Some-clause-remains
 returns-in-Ok-Some-clause-remains g c = replaced_remains _ _ _ _ _ _ _ c.in-Ok-Some.field-0-is c.in-Ok-Some.ensures.asked
 
 pub returns-in-Ok-None-clause-asked : goal.returns-in-Ok-None-clause-asked
-returns-in-Ok-None-clause-asked g c = each_ok _ _ c.begin_in_place.result (λ keeper w. known _ _ _ c.in-Some.held c.in-Some.ensures.value (begun_in_place _ _ _ _ _ _ _ _ _ _ c.in-Ok-None.field-0-is c.in-Ok-None.ensures.device c.in-Ok-None.ensures.asked w)) c.begin_in_place.ensures.asked
+returns-in-Ok-None-clause-asked g c = each_ok _ _ c.begin_in_place.result (λ keeper w. known _ _ _ c.in-Some.held c.in-Some.ensures.value (begun_in_place _ _ _ _ _ _ _ _ _ _ _ c.in-Ok-None.field-0-is c.in-Ok-None.ensures.device c.in-Ok-None.ensures.asked w)) c.begin_in_place.ensures.asked
 
 pub returns-in-Ok-None-clause-failed : goal.returns-in-Ok-None-clause-failed
 returns-in-Ok-None-clause-failed g c = each_err c.begin_in_place.result (λ w. known _ _ _ c.in-Some.held c.in-Some.ensures.value (not_begun_in_place _ _ _ _ _ _ _ c.in-Ok-None.field-0-is c.in-Ok-None.ensures.asked w)) c.begin_in_place.ensures.failed

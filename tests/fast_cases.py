@@ -3,7 +3,8 @@
 The model says each key that is typed over a line that loses nothing, and counts the characters that the console answers. It is
 written from docs/CONSOLE.md and from what a fast load does: it looks for the window, types the stub there and soundings before it,
 starts it, sends the bytes, and again where that broke off, until there are too few words or three stubs in a row verified nothing;
-the rest is an ordinary load. The stub's words are those of stub_listing.py."""
+behind one that verified nothing it sends a byte at a time. The rest is an ordinary load. The stub's words are those of
+stub_listing.py."""
 import io
 from collections import namedtuple
 
@@ -11,8 +12,9 @@ from cases import Case, Keeping
 from lsi11 import RunningMachine
 from odt_peer import Peer
 from outside import bytes_of, kept_in, tape_of
+from paced_line import PacedMachine
 from programs import WAITING
-from stub_listing import CODE, chunks, stub_words, typed
+from stub_listing import AHEAD, CODE, chunks, stub_words, typed
 
 # What a word of memory holds before, and so each byte of it.
 BACKGROUND, BACKGROUND_BYTE = 0o125252, 0o252
@@ -128,6 +130,16 @@ def planned(words, verified):
     return None
 
 
+def ahead(heard):
+    """How many characters of a chunk the host sends by the time that it has heard so many: both ways at once."""
+    return heard + AHEAD
+
+
+def bytewise(heard):
+    """The same one way at a time: a byte's two once those of the last are answered."""
+    return heard - heard % 2 + 2
+
+
 class Model:
     """A load over a line that loses nothing: its keys, how many characters are answered, and how it ends.
 
@@ -183,7 +195,7 @@ class Model:
         in_vain = 0
         while in_vain < MOST_IN_VAIN:
             before = self.verified
-            self.why = self.bring_in()
+            self.why = self.bring_in(bytewise if in_vain else ahead)
             if self.why:
                 break
             in_vain = in_vain + 1 if self.verified == before else 0
@@ -217,8 +229,8 @@ class Model:
     def look(self, address):
         self.says(f"{address:06o}/", 14 + self.space)
 
-    def bring_in(self):
-        """Brings in a stub and exchanges with it; returns why not, or none."""
+    def bring_in(self, sent_at):
+        """Brings in a stub and exchanges with it, some characters ahead; returns why not, or none."""
         if len(self.words) - self.verified < LEAST_GAIN:
             return "too few words"
         plan = planned(self.words, self.verified)
@@ -236,28 +248,41 @@ class Model:
         self.says(f"{place:06o}G", 7)
         self.stubs.append(place)
         self.ends_part()
-        self.exchange(stretches)
+        self.exchange(stretches, sent_at)
         self.ends_part()
         return None
 
-    def exchange(self, stretches):
-        """Sends chunk after chunk, until one is answered otherwise; the words of the others are verified."""
+    def exchange(self, stretches, sent_at):
+        """Sends chunk after chunk, until one is answered otherwise; the words of those before are verified."""
         if self.has_halt_switch_on:
             # The halt is heard, and the Z that follows is ODT's.
             self.says("Z", self.halt() + 1 + self.prompt() + self.echo)
             return
         data = {at: byte for word in self.words for at, byte in self.told(word)}
         for first, end in chunks(stretches):
-            self.says(typed(bytes(data[at] for at in range(first, end))), 2 * (end - first))
-            for at in range(first, end):
-                self.put(at, data[at])
-            if any(self.byte(at) != data[at] for at in range(first, end)):
-                self.says("Z", self.halt())
+            sent, is_right = self.fill(first, end, data, sent_at)
+            self.says(typed(bytes(data[at] for at in range(first, end)))[:sent], sent - sent % 2)
+            if not is_right:
+                self.breaks_off(end == stretches[-1][1] and sent == 2 * (end - first))
                 return
             while self.words[self.verified].address + (self.words[self.verified].mask >= 0o400) < end:
                 self.verified += 1
         self.ends_part()
         self.says("", self.halt())
+
+    def fill(self, first, end, data, sent_at):
+        """Fills a chunk as far as it is sent where an answer is wrong. Returns how many characters that is, and whether none was."""
+        sent, is_right = 2 * (end - first), True
+        for number, at in enumerate(range(first, end)):
+            if number < sent // 2:
+                self.put(at, data[at])
+                if wrong := self.byte(at) ^ data[at]:
+                    sent, is_right = min(sent, sent_at(2 * number + (wrong < 0o20))), False
+        return sent, is_right
+
+    def breaks_off(self, has_halted):
+        """Hears until silence, and types a Z: it halts the stub, or, where that has halted behind its last byte, is ODT's."""
+        self.says("Z", self.halt() + (1 + self.prompt() + self.echo) * has_halted)
 
     def halt(self):
         """How long the text of a halt is: a new line, the address, and the prompt."""
@@ -344,6 +369,10 @@ class FastConsole(Keeping, RunningMachine):
         while self.is_busy:
             self.go_on()
         return self.shown
+
+
+class PacedConsole(PacedMachine, FastConsole):
+    """Such a machine for a line in simulated time."""
 
 
 class WatchedPeer(Peer):

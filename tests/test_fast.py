@@ -4,6 +4,7 @@ import os
 import unittest
 from concurrent.futures import ThreadPoolExecutor
 
+from cases import RunningConsole
 from fast_cases import (BACKGROUND, GREETING, GREETING_TEXT, LEAST_GAIN, LEAST_STUB, ONE_STRETCH, START, FastCase, FastConsole, Model, bytes_at,
                         image_of, memory_with, record_of, words_of)
 from programs import WAITING, placed
@@ -13,6 +14,13 @@ THOUSAND = image_of(1000)
 
 # What is shown behind a program that halts at 001024.
 HALTED_TEXT = "\r\n001026\r\n@"
+
+
+class TalkativeConsole(RunningConsole):
+    """At a HALT it prints more than an address, and eight digits of that."""
+
+    def halted(self):
+        return "\r\nHALT 00" + super().halted().removeprefix("\r\n")
 
 
 class Served(FastCase):
@@ -34,6 +42,13 @@ class Served(FastCase):
             self.is_so(line.machine.run_on(), "G" + GREETING_TEXT + HALTED_TEXT)
             self.is_so((model.stubs, model.end), ([START + 2 * (1000 - ONE_STRETCH)], "Started"))
         self.is_so(os.listdir(self.room), ["a.lda"])
+
+    def test_a_longer_text_at_a_halt(self):
+        """It does no harm where the stub halts: the same is typed as at any other console."""
+        peers = [self.console_at(it) for it in (RunningConsole(), TalkativeConsole())]
+        plain, given = (self.load(it) for it in peers)
+        self.is_so((given, peers[1].machine.typed, len(peers[1].machine.starts)), (plain, peers[0].machine.typed, 2))
+        self.is_so(given.out.split(" ", 4)[4], "verified 1000 of 1000\nend Started\n")
 
     def test_a_record(self):
         """It has every word, and the mark; another load types nothing."""

@@ -10,11 +10,15 @@ from concurrent.futures import ThreadPoolExecutor
 
 from cases import DeafConsole
 from fast_cases import (ALL, BACKGROUND, EXCHANGED, GAIN, HALTED, IMAGE, ONE_STRETCH, PLACE, START, STARTED, WHOLE, WORDS, FastCase,
-                        FastConsole, Model, StuckWords, WatchedPeer, memory_with)
+                        FastConsole, Model, StuckWords, WatchedPeer, ahead, memory_with)
 from outside import PROGRAM, Answer, fault, kept_in, line_failed, text_of
+from stub_listing import AHEAD, CHUNK
 
 # Loads at a time, in each of the tests that do many.
 AT_ONCE = 4
+
+# How many characters a chunk has, both ways together, and how many words.
+PASSED, FILLED = 4 * CHUNK, CHUNK // 2
 
 
 def spread(first, end, count):
@@ -113,9 +117,11 @@ class BadMemory(SmallLoads):
         return {address: (bit, ~word & bit)}
 
     def test_in_a_chunk(self):
-        """The words of the chunks before it are verified by the first stub, and nothing by three more; ODT finds it out."""
-        for address in (START + 0o106, START + 0o110, START + 0o116):
-            self.is_loaded(self.wrong_bit(address), f"WontHold {address:06o}", 4, None)
+        """The words of the chunks before it are verified by the first stub, and nothing by three more; ODT finds it out. In the last
+        chunk of all the stub has halted by then, since its last byte was sent."""
+        for address, bit in ((START + 0o106, 0o10), (START + 0o110, 0o200), (START + 0o176, 0o100000)):
+            self.is_loaded(self.wrong_bit(address, bit), f"WontHold {address:06o}", 4, None)
+        self.is_loaded(self.wrong_bit(PLACE - 4), f"WontHold {PLACE - 4:06o}", 1)
 
     def test_in_the_first_chunk(self):
         self.is_loaded(self.wrong_bit(START), f"WontHold {START:06o}", 3, None)
@@ -123,7 +129,7 @@ class BadMemory(SmallLoads):
     def test_in_the_stubs_place(self):
         """No stub is started. The load ends as one without the option: well, where the image's own word holds."""
         stub, image = Model(WORDS, [BACKGROUND] * 4096), memory_with(IMAGE, 4096)
-        stub.bring_in()
+        stub.bring_in(ahead)
         for address in (PLACE, PLACE + 0o10, PLACE + 2 * ONE_STRETCH - 2):
             bit = next(1 << number for number in range(16) if (stub.memory[address // 2] ^ image[address // 2]) >> number & 1)
             stuck = {address: (bit, image[address // 2] & bit)}
@@ -177,9 +183,12 @@ class Losses(SmallLoads):
         self.loses(spread(STARTED, EXCHANGED, 14))
 
     def test_at_the_borders_of_chunks(self):
-        """The last of its keys, the first and the last of its answers, and the first key of the next; and as many of the last chunk."""
-        first = STARTED + 4 * 16 * 5
-        self.loses([first + 31, first + 32, first + 63, first + 64, EXCHANGED - 17, EXCHANGED - 16])
+        """The first two keys of one, which nothing is answered before, and the first answer; its last key, the last two answers, and the
+        first key of the next; and of the last chunk the first key, the last one and the last answer."""
+        first = STARTED + PASSED * 5
+        behind = first + PASSED
+        rest = 4 * (2 * GAIN % CHUNK)
+        self.loses([first, first + 1, first + 2, behind - 3, behind - 2, behind - 1, behind, EXCHANGED - rest, EXCHANGED - 3, EXCHANGED - 1])
 
     def test_in_the_text_of_the_halt(self):
         self.loses(spread(EXCHANGED, HALTED, 5))
@@ -220,7 +229,7 @@ class Kills(SmallLoads):
         self.is_survived(spread(0, STARTED, 8))
 
     def test_in_the_exchange(self):
-        self.is_survived([*spread(STARTED, EXCHANGED, 7), STARTED + 31, STARTED + 32, STARTED + 63, STARTED + 64])
+        self.is_survived([*spread(STARTED, EXCHANGED, 7), STARTED + 2, STARTED + PASSED - 3, STARTED + PASSED - 1, STARTED + PASSED])
 
     def test_in_the_last_part(self):
         self.is_survived([*spread(EXCHANGED, HALTED, 4), *spread(HALTED, ALL - 2, 6)])
@@ -257,7 +266,7 @@ class Kills(SmallLoads):
     def test_a_look_at_a_machine_on_which_a_stub_waits(self):
         """It halts the stub and changes nothing; the load then goes on."""
         it = Load(self, "a")
-        it.lives(killed_at=STARTED + 64 * 3 + 5)
+        it.lives(killed_at=STARTED + PASSED * 3 + 5)
         words = list(it.machine.words)
         given = self.ldaodt(["verify", "a.lda", it.peer.name, "--quiet", str(self.quiet)])
         it.peer.settle()
@@ -296,11 +305,11 @@ class Power(SmallLoads):
         peer = WatchedPeer(FastConsole(IMAGE))
         self.addCleanup(peer.close)
         peer.address = peer.name
-        peer.machine.at = {STARTED + 4 * 16 * 3: peer.machine.lose_power}
+        peer.machine.at = {STARTED + PASSED * 3: peer.machine.lose_power}
         given = self.load(peer)
         self.is_so((given.status, given.out[-33:]), (0, f" verified {len(WORDS)} of {len(WORDS)}\nend Started\n"))
         wanted = memory_with(IMAGE, 4096)
-        wanted[START // 2:START // 2 + 24] = [BACKGROUND] * 24
+        wanted[START // 2:START // 2 + FILLED * 3] = [BACKGROUND] * FILLED * 3
         self.is_so(list(peer.machine.words), wanted)
 
 
@@ -308,7 +317,7 @@ class Lines(SmallLoads):
     """A line that breaks, and the load that comes after it."""
 
     def test_a_line_that_breaks(self):
-        for close_after, verified in ((100, 0), (STARTED + 64 * 3, 24), (STARTED + 64 * 3 + 40, 24), (HALTED + 200, None)):
+        for close_after, verified in ((100, 0), (STARTED + PASSED * 3, FILLED * 3), (STARTED + PASSED * 3 + 40, FILLED * 3), (HALTED + 200, None)):
             peer = self.console_at(FastConsole(IMAGE), close_after=close_after)
             given = self.load(peer, "a.lda --fast --record a.record")
             self.is_so((given.status, given.out.split("\n")[1:], given.err), (4, ["end LineFailed", ""], line_failed("closed")))
@@ -334,8 +343,8 @@ class Records(SmallLoads):
                 self.is_so((peer.machine.starts, len(self.recorded())), ([PLACE], size))
                 sent, verified = int(given.out.split()[1]), int(given.out.split()[5])
                 kept, _ = kept_in(self.path("a.record"))
-                self.assertTrue(len(kept) < verified <= len(kept) + 8, (given.out, len(kept)))
-                self.assertTrue(len(peer.machine.typed) < sent <= len(peer.machine.typed) + 32, given.out)
+                self.assertTrue(len(kept) < verified <= len(kept) + FILLED, (given.out, len(kept)))
+                self.assertTrue(len(peer.machine.typed) < sent <= len(peer.machine.typed) + AHEAD, given.out)
                 self.is_right(peer.machine)
                 self.goes_on(peer)
             self.put("a.record", b"")

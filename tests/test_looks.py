@@ -141,7 +141,7 @@ class Verify(Looks):
         """Behind the first line that can't be written no word is read."""
         line = self.console_at(Console())
         self.ends(self.look(line, "verify two-words.lda LINE", before="> /dev/full"), 4, "", NO_OUTPUT)
-        self.was_typed(line, "Z001000/\r")
+        self.was_typed(line, "Z001000/")
         line = self.console_at(Console(memory={0o1000: 0o031421, 0o1002: 0o104}))
         self.ends(self.look(line, "verify two-words.lda LINE", before="> /dev/full"), 4, "", NO_OUTPUT)
         self.was_typed(line, "Z001000/\r001002/\r")

@@ -13,6 +13,9 @@ from outside import TOP, bytes_of
 from programs import COMPUTING, ECHO, ENDLESS, HELLO_TEXT, WAITING, placed, words_of_hello
 from stub_listing import CHUNK, HALTED, answered, stub_words, typed
 
+# Some bytes of a chunk.
+PART = 16
+
 SECONDS = 20
 
 def is_there(end, seconds):
@@ -180,6 +183,49 @@ class Machine(Case):
         # Of 20 times 21 keys and characters 7 of 10 pass, the keys' own echoes among them twice.
         self.assertTrue(100 < len(shown[0]) < 400, len(shown[0]))
 
+    def test_a_line_of_a_speed(self):
+        """At 300 baud a character takes a thirtieth of a second, what ODT answers and what a program prints. Both ways go on at once: of so
+        many digits each is answered while the next is typed."""
+        it = self.switched_on("--speed 300")
+        began = time.monotonic()
+        it.types("1000/")
+        self.is_so(it.hears(" "), "1000/000000 ")
+        # Five keys, and behind the last one its echo and seven characters.
+        self.assertGreaterEqual(time.monotonic() - began, 12.5 / 30)
+        it.types("\r")
+        it.hears("@")
+        began = time.monotonic()
+        it.types("1234567" * 6)
+        it.hears("1234567" * 6)
+        took = time.monotonic() - began
+        self.assertTrue(42 / 30 <= took < 2 * 42 / 30, took)
+        it.types("Z")
+        it.hears("@")
+
+    def test_a_program_at_a_line_of_a_speed(self):
+        it = self.switched_on("--speed 1200")
+        it.puts(placed(ENDLESS))
+        it.starts()
+        it.hears("A")
+        began = time.monotonic()
+        it.hears("A" * 120)
+        self.assertGreaterEqual(time.monotonic() - began, 0.95)
+
+    def test_a_fast_load_is_faster(self):
+        """At a line of a speed, as at a machine; a load that takes no time of a line is slower so."""
+        self.put("a.lda", bytes_of_tape(0o1000, bytes(it * 7 % 256 for it in range(1200))))
+        took = {}
+        for option in ("--fast", ""):
+            self.switched_on("--speed 38400")
+            began = time.monotonic()
+            given = self.ldaodt(f"load a.lda {self.path('lsi11')} --no-start --quiet {max(300, self.quiet)} {option}")
+            took[option] = time.monotonic() - began
+            self.is_so((given.status, given.out.split(" ", 4)[4]), (0, "verified 600 of 600\nend Loaded\n"))
+            self.switch_off()
+        # So many characters are typed and answered at least where each word is deposited.
+        self.assertGreaterEqual(took[""], 600 * 62 * 10 / 38400)
+        self.assertLess(took["--fast"], took[""])
+
     def test_a_cable_that_is_pulled(self):
         """Behind ten keys and characters, while the program prints."""
         it = self.switched_on("--break-after 1020")
@@ -189,6 +235,12 @@ class Machine(Case):
         count = 1020 - passed - 7
         self.is_so(it.hears("A" * (count - 7)), "001000G" + "A" * (count - 7))
         self.assertTrue(self.waits(lambda: not os.path.lexists(self.path("lsi11"))))
+
+
+def bytes_of_tape(address, data):
+    """A tape of these bytes, which starts nothing."""
+    blocks = (b"\1\0" + (6 + len(it)).to_bytes(2, "little") + at.to_bytes(2, "little") + it for at, it in ((address, data), (1, b"")))
+    return b"".join(it + bytes([-sum(it) % 256]) for it in blocks)
 
 
 def bytes_of_process(path):
@@ -228,32 +280,36 @@ class Lines(Case):
         for line in self.lines(lambda: self.with_stub(RunningConsole())):
             it = self.at(line)
             it.starts(0o4000)
-            it.types(typed(data[:CHUNK]))
-            self.is_so(it.hears(answered(data[:CHUNK])), answered(data[:CHUNK]))
-            it.types(typed(data[CHUNK:]))
-            self.is_so(it.hears("@"), answered(data[CHUNK:]) + f"\r\n{0o4000 + HALTED:06o}\r\n@")
+            it.types(typed(data[:PART]))
+            self.is_so(it.hears(answered(data[:PART])), answered(data[:PART]))
+            it.types(typed(data[PART:]))
+            self.is_so(it.hears("@"), answered(data[PART:]) + f"\r\n{0o4000 + HALTED:06o}\r\n@")
             self.is_so(line.machine.words[0o400:0o420], [0o040500 + 0o001002 * number for number in range(16)])
-            self.is_so(line.machine.answered, 7 + 4 * CHUNK + 11)
+            self.is_so(line.machine.answered, 7 + 2 * len(data) + 11)
 
     def test_a_host_that_comes_back(self):
-        """What a stub has not answered yet when the connection ends is what the next host hears first; its Z then halts the stub."""
+        """A nibble that came before the connection ended is the high one of the next host's; its Z then halts the stub."""
         peer = self.console_at(self.with_stub(RunningConsole()))
         it = self.at(peer)
         it.starts(0o4000)
-        it.types(typed(bytes(CHUNK))[:-1])
+        it.types(typed(bytes(PART))[:-1])
+        it.hears(answered(bytes(PART - 1)))
         it.end.close()
         peer.settle()
         it = self.at(peer)
-        it.types("`Z")
-        self.is_so(it.hears("@"), answered(bytes(CHUNK)) + f"\r\n{0o4000 + HALTED:06o}\r\n@")
+        it.types("aZ")
+        self.is_so(it.hears("@"), answered(b"\x01") + f"\r\n{0o4000 + HALTED:06o}\r\n@")
 
     def test_lost_characters(self):
-        """A nibble that is lost leaves the stub waiting; of an answer that is lost the stub knows nothing."""
-        data = bytes(range(CHUNK))
+        """Behind a nibble that is lost the stub takes each for the one before; of an answer that is lost it knows nothing."""
+        data = bytes(range(PART))
         peer = self.console_at(self.with_stub(LossyRunningConsole(lost_key=10)))
         it = self.at(peer)
         it.starts(0o4000)
         it.types(typed(data))
+        # Of 00 01 02 .. without the fourth nibble: 00 00 20 30 ..
+        wanted = answered(bytes([0, 0, *range(0x20, 0x100, 0x10)])[:PART - 1])
+        self.is_so(it.hears(wanted), wanted)
         self.assertTrue(it.hears_nothing())
         it.types("Z")
         self.is_so(it.hears("@"), f"\r\n{0o4000 + HALTED:06o}\r\n@")
@@ -265,11 +321,12 @@ class Lines(Case):
         self.is_so(it.hears(wanted), wanted)
 
     def test_a_line_that_breaks_while_a_program_prints(self):
-        peer = self.console_at(self.with_stub(RunningConsole()), close_after=14 + 32 + 10)
+        """Behind the last of these keys, and before the last answer."""
+        peer = self.console_at(self.with_stub(RunningConsole()), close_after=14 + 4 * PART - 1)
         it = self.at(peer)
         it.starts(0o4000)
-        it.types(typed(bytes(CHUNK)))
-        self.is_so(it.hears("o" * 10), "o" * 10)
+        it.types(typed(bytes(PART)))
+        self.is_so(it.hears("o" * (2 * PART - 1)), "o" * (2 * PART - 1))
         self.is_so(it.end.recv(64), b"")
 
 

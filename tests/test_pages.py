@@ -9,7 +9,7 @@ import subprocess
 import unittest
 from concurrent.futures import ThreadPoolExecutor
 
-from cases import Case, Console, StoringConsole
+from cases import Case, Console, DeafConsole, StoringConsole
 from commands import AT_A_MACHINE
 from outside import FIRST, HELLO, PROGRAM, TOP, run
 
@@ -35,7 +35,7 @@ def section(text, heading):
 def ends_of_the_crates():
     """How something ends, as the crates have it: the cases of the loader's ends and of each command's. Those that say that an engine
     ended somehow are none of their own."""
-    cases = cases_of("crates/host_core/src/phase.rt", "End") | cases_of("crates/load_engine/src/stop.rt", "Stop")
+    cases = cases_of("crates/host_core/src/phase.rt", "End") | cases_of("crates/engine/src/stop.rt", "Stop<E>")
     for file in glob.glob("crates/*/src/*_end.rt", root_dir=TOP):
         for name in re.findall(r"^pub enum (\w+End) ", text_at(file), re.MULTILINE):
             cases |= cases_of(file, name)
@@ -340,11 +340,21 @@ class FadingConsole(Console):
         return super().take(key)
 
 
+class ForgetfulConsole(Console):
+    """It loses four keys of the load of `hello.lda`: as many as two loads with a patience of 1 give up at."""
+
+    def take(self, key):
+        if len(self.typed) not in (100, 200, 300, 400):
+            return super().take(key)
+        self.typed += key
+        return ""
+
+
 class Pasting(Case):
     """Blocks that are shown to be pasted into a shell, as they stand, with a simulated machine for the device. They are
     pasted side by side, each in a folder of its own."""
 
-    def folder(self, number, device=None):
+    def folder(self, number, device=None, options=""):
         """A folder that has what a block names: the program, by its name alone too, the tapes, and a machine's console."""
         room = self.path(str(number))
         os.makedirs(f"{room}/bin")
@@ -356,7 +366,7 @@ class Pasting(Case):
         if device:
             os.symlink(device, f"{room}/ttyUSB0")
         else:
-            subprocess.run(["tools/machine", "./ttyUSB0"], cwd=room, check=True, stdout=subprocess.DEVNULL)
+            subprocess.run(["tools/machine", *options.split(), "./ttyUSB0"], cwd=room, check=True, stdout=subprocess.DEVNULL)
             self.addCleanup(self.switch_off, room)
         return room
 
@@ -420,6 +430,19 @@ class Pasting(Case):
     def test_the_examples_of_the_manual_page(self):
         self.assertGreaterEqual(len(self.of_the_manual_page()), 4)
         self.paste_all(self.of_the_manual_page())
+
+    def test_the_block_that_goes_on_by_itself(self):
+        """Where each of its loads gains words it goes on up to the start; where nothing answers there is no second load."""
+        block, = (it for it in self.of_the_pages() if "until " in it)
+        block = block.replace("--patience 1000", f"--patience 1 --quiet {self.quiet}")
+        for machine, wanted in ((ForgetfulConsole(), ["GaveUp", "GaveUp", "Started"]), (DeafConsole(), ["GaveUp"])):
+            with self.subTest(wanted=wanted):
+                device = self.device_at(machine)
+                ran = self.shell(["bash"], block, self.folder(len(wanted), device.name))
+                device.settle()
+                self.is_so((re.findall("^end (.*)$", ran.stdout, re.MULTILINE), ran.stderr), (wanted, ""))
+                counts = [int(it) for it in re.findall(r" verified (\d+) of 28$", ran.stdout, re.MULTILINE)]
+                self.is_so(counts, sorted(set(counts)))
 
     def typed_by(self, block, console, number):
         """What is typed at such a console where a block is typed into a shell. Nothing is started there."""

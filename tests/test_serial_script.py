@@ -1,6 +1,7 @@
 """`tools/serial`: by which words it sets a device, with which words it runs the program, what it says where a device can't be used,
 what a scan finds, and what is heard between a load and a terminal. Beside a `stty`, a program and terminals that note how they were
 called; then with the real `stty` and the real program; and where it is installed."""
+import contextlib
 import fcntl
 import os
 import pty
@@ -32,7 +33,7 @@ exit "${!ended-0}"
 HELPING = '[ "${2-}" != --help ] || exec cat "$HELPS/$1"\n'
 
 # What the script calls and a test has no stand-in for.
-CALLED = "bash dirname readlink flock stat cat timeout sleep mktemp grep sed tee rm".split()
+CALLED = "bash dirname readlink flock stat cat timeout sleep mktemp grep sed tee rm ls".split()
 
 TERMINALS = ("picocom", "tio", "minicom")
 
@@ -40,10 +41,14 @@ TERMINALS = ("picocom", "tio", "minicom")
 SETTINGS = {
     "9600": "9600 raw -echo cs8 -parenb -cstopb -crtscts clocal -hupcl",
     "300/8n1": "300 raw -echo cs8 -parenb -cstopb -crtscts clocal -hupcl",
-    "9600/7e1": "9600 raw -echo cs7 parenb -parodd -cstopb -crtscts clocal -hupcl",
-    "1200/7O1": "1200 raw -echo cs7 parenb parodd -cstopb -crtscts clocal -hupcl",
+    "9600/7e1": "9600 raw -echo cs7 parenb -parodd inpck ignpar -cstopb -crtscts clocal -hupcl",
+    "1200/7O1": "1200 raw -echo cs7 parenb parodd inpck ignpar -cstopb -crtscts clocal -hupcl",
     "110/8n2": "110 raw -echo cs8 -parenb cstopb -crtscts clocal -hupcl",
 }
+
+# Baud, and the milliseconds of silence that the script asks for there; none where those of ldaodt itself will do. The first two as
+# docs/LINE.md has them.
+SLOW_LINES = {110: 4100, 150: 3193, 200: 2570, 300: None, 9600: None}
 
 # What the program says where it is asked for help, as the page of transcripts has it.
 HELPS = dict(re.findall(r"^\$ ./ldaodt (\w+) --help\n(.*?)^```$", bytes_of(f"{TOP}/tests/help.md").decode(), re.MULTILINE | re.DOTALL))
@@ -84,6 +89,7 @@ PLACES = (
 # Command lines that are refused, and what their fault names.
 REFUSED = (
     ("9601x DEVICE probe", "9601x"),
+    ("0 DEVICE probe", "no speed is 0"),
     ("9600/9n1 DEVICE probe", "9600/9n1"),
     ("9600/7e DEVICE probe", "9600/7e"),
     ("-9600 DEVICE probe", "-9600"),
@@ -217,8 +223,22 @@ class Words(Script):
         """The device may be opened only once it waits for no carrier; and it is set while it is open."""
         for speed, words in SETTINGS.items():
             with self.subTest(speed):
-                self.ends(self.serial(f"{speed} DEVICE verify a.lda"), 0)
-                self.is_so(self.notes(), ["stty -F DEVICE clocal -hupcl", f"stty {words}", "DEVICE", "ldaodt verify a.lda DEVICE"])
+                self.ends(self.serial(f"{speed} DEVICE verify a.lda --quiet 2000"), 0)
+                self.is_so(self.notes(), ["stty -F DEVICE clocal -hupcl", f"stty {words}", "DEVICE", "ldaodt verify a.lda DEVICE --quiet 2000"])
+
+    def test_the_quiet_time_of_a_slow_line(self):
+        """Where none is given it has the time of 34 characters of 11 bits and 0.7 seconds, if that is above the 2 that ldaodt takes itself;
+        and the script says so."""
+        for speed, milliseconds in SLOW_LINES.items():
+            for words, called in (("load a.lda", "load%s a.lda DEVICE"), ("verify a.lda b.lda", "verify%s a.lda DEVICE b.lda"), ("probe", "probe%s DEVICE"),
+                                  ("load -- a.lda", "load%s -- a.lda DEVICE")):
+                with self.subTest(speed, words=words):
+                    said = milliseconds and f"ldaodt-serial: --quiet {milliseconds}: at {speed} baud 34 characters take {milliseconds - 700} ms\n"
+                    self.ends(self.serial(f"{speed} DEVICE {words}"), 0, "", said or "")
+                    self.is_so(self.notes()[-1], "ldaodt " + called % (f" --quiet {milliseconds}" if milliseconds else ""))
+        for words in ("load a.lda DEVICE --quiet 300", "load a.lda DEVICE --quiet=300"):
+            self.ends(self.serial(f"110 DEVICE {words.replace(' DEVICE', '')}"), 0)
+            self.is_so(self.notes()[-1], f"ldaodt {words}")
 
     def test_the_page_has_the_same_words(self):
         with open(f"{TOP}/docs/REAL-MACHINE.md", encoding="utf-8") as file:
@@ -419,6 +439,26 @@ class Scans(Script):
                 self.is_so((given.status, given.out), (ended, wanted))
                 self.is_so(given.err.split("\n")[0], f"ldaodt-serial: no ODT answers at {self.device}" if ended == 5 else "")
 
+    def test_what_is_to_be_written_can_be_written(self):
+        """Names with a space, of the script and of its device: the line is one for a shell."""
+        self.stand_in("ldaodt", text=PROBING)
+        os.makedirs(self.path("my tools"))
+        shutil.copy(self.path("tools/serial"), self.path("my tools/serial"))
+        os.symlink(self.device, self.path("my line"))
+        given = self.serial(["scan", "./my line"], script=self.path("my tools/serial"), env={"report_9600": PROBED, "status_9600": "0"})
+        written = given.out.split("now write: ")[1].replace("load TAPE", "probe")
+        self.notes()
+        env = {**os.environ, "PATH": self.path("bin"), "NOTES": self.path("notes"), "HELPS": self.path("helps")}
+        ran = subprocess.run(["bash", "-c", written], cwd=self.room, env=env, capture_output=True, timeout=60)
+        self.is_so((ran.returncode, self.notes()), (5, ["9600: ldaodt probe ./my line"]))
+
+    def test_an_interrupt(self):
+        """Ctrl-C ends the scan, and no other speed is tried."""
+        self.stand_in("ldaodt", text="#!/bin/bash\necho probes >> \"$NOTES\"\nkill -INT 0\nsleep 20\n")
+        heed = lambda: signal.signal(signal.SIGINT, signal.SIG_DFL)
+        given = self.serial("scan DEVICE", start_new_session=True, preexec_fn=heed)
+        self.is_so((given.status in (130, -signal.SIGINT), given.out, self.notes()), (True, "", ["probes"]))
+
     def test_a_device_that_goes_between_two_speeds(self):
         self.stand_in("ldaodt", text="#!/bin/bash\nrm ./line\necho 'heard nothing'\nexit 5\n")
         os.symlink(self.device, self.path("line"))
@@ -455,6 +495,42 @@ class Terminals(Script):
         self.stand_in("bin/minicom", text='#!/bin/bash\nwhile IFS= read -r line; do echo "$line"; done < "$HOME/.minirc.dfl"\n')
         self.is_so(self.serial("9600/7o2 DEVICE talk").out, "pu rtscts No\npu bits 7\npu parity O\npu stopbits 2\n")
         self.is_so([it for it in os.listdir(self.room) if it.startswith("tmp.")], [])
+
+    def test_the_keyboard_behind_a_load_of_standard_input(self):
+        """The terminal has it, where the tape came from a file."""
+        self.stand_in("bin/minicom", text='#!/bin/bash\nread -r line\necho "typed: $line" >> "$NOTES"\n')
+        self.stand_in("ldaodt", text='#!/bin/bash\nread -r line\necho "tape: $line" >> "$NOTES"\n')
+        self.put("tape", b"a tape\nand more\n")
+        env = {**os.environ, "PATH": self.path("bin"), "NOTES": self.path("notes"), "HELPS": self.path("helps"), "TMPDIR": self.room}
+        person, status = pty.fork()
+        if not person:
+            os.chdir(self.room)
+            os.execve("/bin/bash", ["bash", "-c", f"tools/serial 9600 {self.device} load - --talk < tape"], env)
+        os.write(status, b"by hand\n")
+        with contextlib.suppress(OSError):
+            while os.read(status, 4096):
+                pass
+        os.close(status)
+        os.waitpid(person, 0)
+        self.is_so(self.notes()[-2:], ["tape: a tape", "typed: by hand"])
+
+    def test_nothing_is_left_behind(self):
+        """Of the report no file stays, however a load ends, while it goes on, too."""
+        self.stand_in("bin/minicom")
+        self.stand_in("ldaodt", text='#!/bin/bash\nls "$TMPDIR" >> "$NOTES"\necho first\necho "end Started"\nkill "-${killed-CONT}" "$PPID"\nexit "${ended-0}"\n')
+        for more, status in (({}, 0), ({"ended": "5"}, 5), ({"killed": "KILL"}, -signal.SIGKILL)):
+            with self.subTest(more=more):
+                self.is_so(self.serial("9600 DEVICE load a.lda --talk", env=more).status, status)
+                self.is_so([it for it in [*self.notes(), *os.listdir(self.room)] if it.startswith("tmp.")], [])
+
+    def test_behind_an_interrupt(self):
+        """Ctrl-C ends the program's listening alone; what it says then is heard, and the terminal begins."""
+        self.stand_in("bin/minicom")
+        self.stand_in("ldaodt", text='#!/bin/bash\ntrap "echo heard; trap - INT; kill -INT \$\$" INT\necho first\necho "end Started"\nsleep 0.5\nkill -INT 0\nsleep 1\n')
+        heed = lambda: signal.signal(signal.SIGINT, signal.SIG_DFL)
+        given = self.serial("9600 DEVICE load a.lda --talk", start_new_session=True, preexec_fn=heed)
+        self.is_so((given.status, given.out), (0, "first\nend Started\nheard\n"))
+        self.is_so(self.notes()[-1], "minicom -o -D DEVICE -b 9600")
 
     def test_behind_a_load(self):
         """One that ended well, and has listened for a second or as long as it was told to; no option of that is the program's."""
@@ -530,12 +606,14 @@ class Machines(Script):
         self.is_so((given.status, given.out, given.err.split("\n")[0]), (2, "", "error: unrecognized subcommand 'frobnicate'"))
 
     def test_what_a_pseudo_terminal_can_not_be_set_to(self):
-        """As an adapter that knows no 7 bits: nothing is typed."""
+        """As an adapter that knows no 7 bits: nothing is typed. What it can be set to it is: behind `raw`, which would take it back, stands
+        what drops a character of the wrong parity."""
         line = self.machine(Console())
         given = self.serial("9600/7e1 DEVICE probe")
         self.is_so((given.status, given.out, "to 9600/7e1: " in given.err, "does not know this speed, or these bits" in given.err), (4, "", True, True))
         line.settle()
         self.is_so(line.machine.typed, "")
+        self.is_so(termios.tcgetattr(line.theirs)[0] & (termios.INPCK | termios.IGNPAR | termios.PARMRK | termios.ISTRIP), termios.INPCK | termios.IGNPAR)
 
     def test_beside_a_load(self):
         """The load goes on at its speed."""
@@ -607,12 +685,12 @@ class Installed(Script):
         for folder in ("docs", "examples", "tools"):
             shutil.copytree(f"{TOP}/{folder}", f"{self.top}/{folder}")
         os.mkdir(f"{self.top}/tests")
-        for name in ("README.md", "CHANGELOG.md", "CONTRIBUTING.md", "tests/README.md"):
+        for name in ("README.md", "CHANGELOG.md", "CONTRIBUTING.md", "Makefile", "tests/README.md"):
             shutil.copy(f"{TOP}/{name}", f"{self.top}/{name}")
         self.stand_in("bin/stty", "repository/ldaodt")
 
     def lay_out(self, *words):
-        env = {**os.environ, "NOTES": self.path("notes")}
+        env = {**os.environ, "NOTES": self.path("notes"), "PATH": f"{self.path('bin')}:{os.environ['PATH']}"}
         return subprocess.run([f"{self.top}/tools/lay-out", *words], env=env, capture_output=True, text=True, check=True).stdout
 
     def test_below_a_folder_and_gone_again(self):
@@ -626,6 +704,8 @@ class Installed(Script):
     def test_in_the_archive(self):
         """Beside the program, and where the documents have it."""
         self.stand_in("repository/ldaodt", text='#!/bin/bash\n[ "$1" != --version ] || echo "ldaodt 0.0.0"\necho "$*" >> "$NOTES"\n')
+        # A script has no processor in its head.
+        self.stand_in("bin/od", text="#!/bin/bash\necho 62\n")
         archive = self.lay_out("dist").strip()
         subprocess.run(["tar", "-C", self.room, "-xf", f"{self.top}/{archive}"], check=True)
         for name in ("ldaodt-serial", "tools/serial"):

@@ -357,6 +357,47 @@ class Orders(Calls):
             self.ends(self.load(line, before, f"--record {record}"), 0, STARTED)
             self.is_so((early, unsynced), ([], set()))
 
+    def ways_in_place(self):
+        """A record that is written where it is: the name that a load has it by, that of its file, and that of the folder which this is in."""
+        here = os.path.basename(self.room)
+        os.mkdir(self.path("elsewhere"))
+        os.symlink("elsewhere/b.record", self.path("a.link"))
+        self.put("c.record", b"")
+        os.link(self.path("c.record"), self.path("c.other"))
+        os.mkdir(self.path("d.record.ldaodt-new"))
+        return ("a.link", "elsewhere/b.record", "elsewhere"), ("c.record", "c.record", here), ("d.record", "d.record", here)
+
+    def test_that_a_record_stands_in_its_folder_is_on_the_disk(self):
+        """Before anything is written to it, also where it was there before: whoever made it, or renamed it there, may have died before
+        that was, and a power cut would take it away, mark and all."""
+        for record, file, folder in self.ways_in_place():
+            for text, ended in (("", STARTED.replace("30", "16")), (VERIFIED, STOOD)):
+                told = []
+
+                def before(call):
+                    if call.name in SYNCS and call.file() == folder:
+                        told.append("folder")
+                    elif call.name in WRITES and call.file() == os.path.basename(file):
+                        told.append("written")
+
+                self.put(file, text.encode())
+                with self.subTest(record, text=text):
+                    self.ends(self.load(self.console_at(Console(memory=HELD)), before, f"--record {record}"), 0, ended)
+                    self.is_so((told[:2], bytes_of(self.path(file)).decode()), (["folder", "written"], MARKED))
+
+    def test_a_folder_that_can_not_be_brought_to_the_disk(self):
+        """Where that is tried and fails, nothing is written; a folder that may not be opened is passed over."""
+        for record, file, folder in self.ways_in_place():
+            place = os.path.realpath(os.path.dirname(self.path(file)))
+            refused = Answer(4, "", fault(f"cannot write {record}", errno.EACCES))
+            for fails, wanted, left in ((lambda call: call.name in SYNCS and call.file() == folder, refused, (VERIFIED, LOOKED)),
+                                        (lambda call: call.opened() == place, Answer(0, STOOD, ""), (MARKED, LOOKED + "Z001000G"))):
+                line = self.console_at(Console(memory=HELD))
+                self.put(file, VERIFIED.encode())
+                with self.subTest(record, left=left):
+                    given = self.load(line, lambda call: call.fails(errno.EACCES) if fails(call) else None, f"--record {record}")
+                    self.is_so((given, bytes_of(self.path(file)).decode(), line.machine.typed), (wanted, *left))
+
     def is_synced(self, names):
         """What to do before each call to find what is not yet on the disk, of files of these names, where a key goes out, and at
         the end."""

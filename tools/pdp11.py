@@ -614,17 +614,21 @@ class LoopWatch:
 class Computer:
     """A processor with its memory and the serial line of its console. Its time is counted in instructions.
 
-    A character takes so many of them on the line: the transmitter's leaves once the line is free, and one that comes is given to
-    `arrive` when it has come. At 9600 baud a character takes 1,042 microseconds, in which an LSI-11 executes more than a hundred
-    instructions. While a program only waits for the console, nothing is executed: time passes without it."""
+    A character takes so many of them on the line, and one that comes is given to `arrive` when it has come. At 9600 baud a character
+    takes 1,042 microseconds, in which an LSI-11 executes more than a hundred instructions. The transmitter has two buffers, as a
+    DLV11 has: the second is on the line while the program fills the first. With one, as a DL11 has, the next character can't be
+    given before the last has gone over the line. While a program only waits for the console, nothing is executed: time passes
+    without it."""
 
     CHARACTER_TIME = 100
 
-    def __init__(self, words, character_time=CHARACTER_TIME, odd_addresses_trap=False):
+    def __init__(self, words, character_time=CHARACTER_TIME, odd_addresses_trap=False, buffers=2):
         self.line = SerialLine()
         self.bus = Bus(words, self.line, odd_addresses_trap)
         self.processor, self.watch = Processor(self.bus), LoopWatch()
-        self.character_time, self.time, self.free_at = character_time, 0, 0
+        self.character_time, self.buffers, self.time = character_time, buffers, 0
+        # When all that has left has gone over the line, and when the character leaves that was given, if one was.
+        self.free_at, self.leaves_at = 0, None
         # Whether it has not halted, and whether the program only waits for the console.
         self.is_running = self.is_waiting = False
 
@@ -649,14 +653,22 @@ class Computer:
         character. Behind a halt what the transmitter still held has left, too."""
         end = self.time + (time or self.character_time)
         left = bytearray()
+        while (character := self.run_to(end)) is not None:
+            left.append(character)
+        return bytes(left)
+
+    def run_to(self, end):
+        """Goes on up to a time, until it halts, or until a character leaves, which it returns. That has gone over the line when this
+        is free."""
         while self.is_running and self.time < end:
             if self.is_waiting:
-                self.time = end if self.line.leaving is None else min(end, self.free_at)
+                self.time = end if self.leaves_at is None else min(end, self.leaves_at)
             else:
                 self.execute()
-            if self.line.leaving is not None:
-                left += self.leave()
-        return bytes(left)
+            if self.line.leaving is not None and self.has_left():
+                self.leaves_at, self.is_waiting = None, False
+                return self.line.leave()
+        return None
 
     def execute(self):
         """Executes one instruction."""
@@ -671,9 +683,10 @@ class Computer:
             changes = self.bus.changes + self.line.changes
             self.is_waiting = self.watch.has_seen(changes, (*registers, processor.status, processor.is_waiting))
 
-    def leave(self):
-        """The transmitter's character, if the line is free for it by now."""
-        if self.time < self.free_at and self.is_running:
-            return b""
-        self.free_at, self.is_waiting = self.time + self.character_time, False
-        return bytes([self.line.leave()])
+    def has_left(self):
+        """Whether the transmitter's character has left by now: for the line, or, of one buffer, over it."""
+        if self.leaves_at is None:
+            begins = max(self.time, self.free_at)
+            self.free_at = begins + self.character_time
+            self.leaves_at = begins if self.buffers == 2 else self.free_at
+        return self.time >= self.leaves_at or not self.is_running

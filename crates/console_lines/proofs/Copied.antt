@@ -7,6 +7,7 @@ use Rattle.byte_io.specs.Output.{WritesPrefix}
 use Rattle.host_core.specs.declared.heard.Heard.{Heard}
 use Rattle.host_core.specs.declared.heard.Heard.TheVariants.{Got, Quiet}
 use Rattle.host_devices.specs.Dialogue.{characters_of}
+use Rattle.host_devices.proofs.Told.{gains_join}
 use Rattle.host_devices.specs.Told.{Gains}
 use Rattle.host_devices.specs.declared.item.Item.{Item}
 use Rattle.host_devices.specs.declared.item.Item.TheVariants.{Heard as Came}
@@ -22,16 +23,9 @@ silences_behind-append before [] ys = refl
 silences_behind-append before (Got c ∷ xs) ys = silences_behind-append 0 xs ys
 silences_behind-append before (Quiet ∷ xs) ys = silences_behind-append (before + 1) xs ys
 
--- what was told before, and then more
-gains_more : (a b d : Option (List Item)) (xs ys : List Item) → Gains a b xs → Gains b d ys → Gains a d (xs ++ ys)
-gains_more None b d xs ys first then_ = tt
-gains_more (Some items) None d xs ys first then_ = absurd first
-gains_more (Some items) (Some more) None xs ys first then_ = absurd then_
-gains_more (Some items) (Some more) (Some most) xs ys first then_ = then_ ∙ ap (λ l. l ++ ys) first ∙ append_assoc items xs ys
-
 copied_more : (xs ys : List Heard) (before between after : Copying) → IsCopied xs before between → IsCopied ys between after → IsCopied (xs ++ ys) before after
 copied_more xs ys before between after first more = record {
-  on_line = subst (Gains before.said after.said) (sym (map-append Came xs ys)) (gains_more before.said between.said after.said _ _ first.on_line more.on_line);
+  on_line = subst (Gains before.said after.said) (sym (map-append Came xs ys)) (gains_join before.said between.said after.said _ _ first.on_line more.on_line);
   written = subst (Appends before.out after.out) (sym (characters_of-append xs ys)) (Appends-trans before.out between.out after.out _ _ first.written more.written);
 }
 
@@ -65,7 +59,7 @@ cut_behind silent count before between after so_far cut = record {
   character = cut.character;
   on_line = subst (λ l. Gains before.said after.said (map Came l)) (sym (append_assoc so_far.heard cut.heard (Got cut.character ∷ [])))
       (subst (Gains before.said after.said) (sym (map-append Came so_far.heard (cut.heard ++ Got cut.character ∷ [])))
-      (gains_more before.said between.said after.said _ _ so_far.copied.on_line cut.on_line));
+      (gains_join before.said between.said after.said _ _ so_far.copied.on_line cut.on_line));
   written = written_behind (characters_of so_far.heard) (characters_of cut.heard) (characters_of (so_far.heard ++ cut.heard)) cut.character before.out between.out after.out
       (characters_of-append so_far.heard cut.heard) so_far.copied.written cut.written;
 }

@@ -72,7 +72,7 @@ front_whole plan from to chunks some all front = record {
     by zero none here = absurd (let begin : words_behind from chunks (length chunks) ≡ from = ap (words_behind from chunks) none in omega (arith, begin, here, some))
     by (suc n) some here = omega (arith, some)
 
-    seam : (k : ℕ) → k + 1 < length chunks → (chunk_nr chunks (k + 1)).address ≡ end_of (chunk_nr chunks k) → end_of (chunk_nr chunks k) % 16 ≡ 0
+    seam : (k : ℕ) → k + 1 < length chunks → (chunk_nr chunks (k + 1)).address ≡ end_of (chunk_nr chunks k) → end_of (chunk_nr chunks k) % 64 ≡ 0
     seam k below follows =
         let one : k + 1 ≡ suc k = omega arith in
         let this = front.each k (omega (arith, below)) in

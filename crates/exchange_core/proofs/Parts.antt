@@ -65,8 +65,8 @@ one_part plan a chunk is below address size until =
         let f = at.from in let t = at.to in
         record { from = omega (arith, f, address); to = omega (arith, t, address, size) }
 
--- a word more, which follows and begins at no multiple of 16
-pub part_grows : (plan : PlanValue) (a n : ℕ) (chunk grown : Chunk) → IsPlan plan → n < length plan.words → IsPart plan a n chunk → (bytes_of (word_nr plan.words n)).from ≡ end_of chunk → (end_of chunk % 16 ≡ 0 → ⊥) →
+-- a word more, which follows and begins at no multiple of 64
+pub part_grows : (plan : PlanValue) (a n : ℕ) (chunk grown : Chunk) → IsPlan plan → n < length plan.words → IsPart plan a n chunk → (bytes_of (word_nr plan.words n)).from ≡ end_of chunk → (end_of chunk % 64 ≡ 0 → ⊥) →
     grown.address ≡ chunk.address → grown.size ≡ chunk.size + ((bytes_of (word_nr plan.words n)).to - (bytes_of (word_nr plan.words n)).from) → grown.until ≡ n + 1 → IsPart plan a (n + 1) grown
 part_grows plan a n chunk grown is below part follows inside address size until =
     let w = word_nr plan.words n in
@@ -88,9 +88,9 @@ part_grows plan a n chunk grown is below part follows inside address size until 
       block = in_block grown.address (end_of chunk) (end_of grown) w.address (omega (arith, address, block)) (omega (arith, has)) inside (omega (arith, follows, low)) (omega (arith, size, address, follows, some, high)) (omega (arith, size, address, has, follows, some)) even;
     }
   where
-    -- the new end lies before the same multiple of 16
-    in_block : (a e f w : ℕ) → a / 16 ≡ (e - 1) / 16 → 0 < e → (e % 16 ≡ 0 → ⊥) → w ≤ e → f ≤ w + 2 → e < f → w % 2 ≡ 0 → a / 16 ≡ (f - 1) / 16
-    in_block a e f w same some not_there low high more even = elim (cases_eq (e % 16) 0) [ inl there ↦ absurd (not_there there) | inr apart ↦ omega (arith, same, some, apart, low, high, more, even) ]
+    -- the new end lies before the same multiple of 64
+    in_block : (a e f w : ℕ) → a / 64 ≡ (e - 1) / 64 → 0 < e → (e % 64 ≡ 0 → ⊥) → w ≤ e → f ≤ w + 2 → e < f → w % 2 ≡ 0 → a / 64 ≡ (f - 1) / 64
+    in_block a e f w same some not_there low high more even = elim (cases_eq (e % 64) 0) [ inl there ↦ absurd (not_there there) | inr apart ↦ omega (arith, same, some, apart, low, high, more, even) ]
 
     out : (b : ℕ) → IsIn grown b → IsGiven plan.words a (n + 1) b
     out b in_grown = elim (cases_lt b (end_of chunk)) [
@@ -116,7 +116,7 @@ part_grows plan a n chunk grown is below part follows inside address size until 
 
 -- and so a chunk it is
 pub part_chunk : (plan : PlanValue) (a n to : ℕ) (chunk : Chunk) → IsPlan plan → n ≤ to → to ≤ length plan.words → IsPart plan a n chunk →
-    (n < to → (bytes_of (word_nr plan.words n)).from ≡ end_of chunk → end_of chunk % 16 ≡ 0) → IsNextChunk plan a to chunk
+    (n < to → (bytes_of (word_nr plan.words n)).from ≡ end_of chunk → end_of chunk % 64 ≡ 0) → IsNextChunk plan a to chunk
 part_chunk plan a n to chunk is le within part ends = record {
   sound = is;
   is = record {
@@ -130,10 +130,10 @@ part_chunk plan a n to chunk is le within part ends = record {
   first = part.first;
   bytes = subst (λ m. (b : ℕ) → IsIn chunk b ↔ IsGiven plan.words a m b) (sym part.until) part.bytes;
   block = part.block;
-  whole = subst (λ m. m < to → (bytes_of (word_nr plan.words m)).from ≡ end_of chunk → end_of chunk % 16 ≡ 0) (sym part.until) ends;
+  whole = subst (λ m. m < to → (bytes_of (word_nr plan.words m)).from ≡ end_of chunk → end_of chunk % 64 ≡ 0) (sym part.until) ends;
 }
   where
-    few : (a size : ℕ) → 0 < size → a / 16 ≡ (a + size - 1) / 16 → size ≤ 16
+    few : (a size : ℕ) → 0 < size → a / 64 ≡ (a + size - 1) / 64 → size ≤ 64
     few a size some same = omega (arith, some, same)
 
     -- its last byte is one of the image's

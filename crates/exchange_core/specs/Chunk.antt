@@ -1,6 +1,6 @@
--- The chunks in which a stub takes an image, and the characters in which they are told (this project's choice).
-use Rattle.std.specs.Prelude.{◌≡◌, ◌↔◌, ℕ, zero, suc, ◌+◌, ◌-◌, ◌/◌, ◌%◌, ◌<◌, ◌≤◌, ◌==◌, Bool, ◌&&◌, nat_le, true, if◌then◌else◌}
-use Rattle.std.specs.Prelude.{IsSome, List, [], ◌∷◌, ◌++◌, length, get_or, unwrap_or}
+-- The chunks in which a host sends an image to a stub, and the characters in which they are told (this project's choice).
+use Rattle.std.specs.Prelude.{◌≡◌, ◌↔◌, ℕ, zero, suc, ◌+◌, ◌-◌, ◌*◌, ◌/◌, ◌%◌, ◌<◌, ◌≤◌, ◌==◌, Bool, ◌&&◌, nat_le, min, true, if◌then◌else◌}
+use Rattle.std.specs.Prelude.{IsSome, List, [], ◌∷◌, length, get_or, unwrap_or}
 use Rattle.std.specs.FinMap.{get}
 use Rattle.tape_values.specs.Block.{top}
 use Rattle.tape_image.specs.Image.{Image}
@@ -8,10 +8,12 @@ use Rattle.tape_image.specs.Plan.{PlanValue, IsPlan}
 use Rattle.tape_image.specs.Word.{WordValue, gives}
 use Rattle.host_core.specs.Core.{word_nr}
 use Rattle.exchange_core.specs.declared.chunk.Chunk.{Chunk}
+use Rattle.exchange_core.specs.declared.duplex.Duplex.{Duplex}
+use Rattle.exchange_core.specs.declared.duplex.Duplex.TheVariants.{Full, Half}
 
--- the most bytes of a chunk: 32 characters are a second at 300 baud, which is less than a silence
+-- the most bytes of a chunk
 abbrev pub largest_chunk : ℕ
-largest_chunk = 16
+largest_chunk = 64
 
 -- the chunk past the end of every list
 abbrev pub no_chunk : Chunk
@@ -54,17 +56,31 @@ key_at image chunk place = key_for (told image (chunk.address + place / 2)) plac
 abbrev pub answer_at : Image → Chunk → ℕ → ℕ
 answer_at image chunk place = answer_for (told image (chunk.address + place / 2)) place
 
--- the first characters of a chunk
-unfoldable pub chunk_keys : Image → Chunk → ℕ → List ℕ
-chunk_keys image chunk zero = []
-chunk_keys image chunk (suc place) = chunk_keys image chunk place ++ key_at image chunk place ∷ []
+-- so many characters of a chunk, from a place on
+abbrev pub keys_from : Image → Chunk → (place count : ℕ) → List ℕ
+keys_from image chunk place zero = []
+keys_from image chunk place (suc count) = key_at image chunk place ∷ keys_from image chunk (place + 1) count
 
--- a chunk is some bytes of the image, one to sixteen
+-- the first ones
+abbrev pub chunk_keys : Image → Chunk → ℕ → List ℕ
+chunk_keys image chunk count = keys_from image chunk 0 count
+
+-- a chunk is some bytes of the image, one to 64
 pub record IsChunk (image : Image) (chunk : Chunk) : Type 0 where
   pub some : 1 ≤ chunk.size
   pub few : chunk.size ≤ largest_chunk
   pub below : chunk.address + chunk.size ≤ top
   pub bytes : (b : ℕ) → IsIn chunk b → IsSome (get image b)
+
+-- how many characters the host may have sent of a chunk's once it has heard so many of the answer: 32 more, which are a second at 300 baud and so less
+-- than a silence; or up to the end of the byte that is answered
+abbrev pub may_send : Duplex → ℕ → ℕ
+may_send Full place = place + 32
+may_send Half place = 2 * (place / 2) + 2
+
+-- how many it has sent: as many as it may, or all
+abbrev pub sent_at : Duplex → Chunk → ℕ → ℕ
+sent_at duplex chunk place = min (may_send duplex place) (2 * chunk.size)
 
 -- how many words are verified behind so many chunks, of which the first begins behind `from` words
 abbrev pub words_behind : ℕ → List Chunk → ℕ → ℕ

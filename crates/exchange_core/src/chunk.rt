@@ -1,16 +1,17 @@
-ghost use Rattle.std.specs.Prelude.{◌≡◌, ◌+◌, ◌<◌, ◌≤◌, ◌*◌, ◌/◌, length};
-ghost use Rattle.exchange_core.specs.Chunk.{IsChunk, told, answer_at, chunk_keys, key_at, nibble_of};
+ghost use Rattle.std.specs.Prelude.{◌≡◌, ◌+◌, ◌-◌, ◌<◌, ◌≤◌, ◌*◌, ◌/◌, length};
+ghost use Rattle.exchange_core.specs.Chunk.{IsChunk, told, answer_at, key_at, keys_from, nibble_of, sent_at};
 
+use crate::duplex::Duplex;
 use arrayvec::ArrayVec;
 use tape_image::Plan;
 
-/// Consecutive bytes of an image, which a stub takes and answers as one.
+/// Consecutive bytes of an image, which are verified together.
 #[derive(Clone, Copy, Debug, PartialEq, Eq)]
 pub struct Chunk {
     /// The address of the first.
     pub address: u16,
 
-    /// How many they are, 1 to 16.
+    /// How many they are, 1 to 64.
     pub size: u8,
 
     /// How many of the plan's words are verified once they are.
@@ -26,14 +27,34 @@ const FIRST_NIBBLE: u8 = 0o140;
 // The character of the complement of nibble 0.
 const LAST_NIBBLE: u8 = 0o157;
 
-/// All the characters of a chunk.
-#[tactic(auto, using(crate::proofs::Keys::keys_more, crate::proofs::Keys::keys_none))]
-pub(crate) fn keys_of(plan: &Plan, chunk: Chunk) -> Keys
-    requires { IsChunk plan.now.image chunk }
-    ensures { result.items ≡ chunk_keys plan.now.image chunk (2 * chunk.size) }
+// How many characters the host sends at most beyond the answers that it heard.
+const MOST_AHEAD: u8 = 32;
+
+/// How many characters of a chunk the host has sent once it has heard so many of the answer.
+pub(crate) fn sent_at(duplex: Duplex, chunk: Chunk, place: u8) -> u8
+    requires few { chunk.size ≤ 64 }
+    requires within { place < 2 * chunk.size }
+    ensures { result ≡ sent_at duplex chunk place }
+{
+    let all = 2 * chunk.size;
+    let most = match duplex {
+        Duplex::Full => place + MOST_AHEAD,
+        Duplex::Half => 2 * (place / 2) + 2,
+    };
+    if most < all { most } else { all }
+}
+
+/// A chunk's characters from one place up to another, which is excluded.
+#[tactic(auto, using(crate::proofs::Keys::keys_last, crate::proofs::Keys::keys_none))]
+pub(crate) fn keys_of(plan: &Plan, chunk: Chunk, from: u8, to: u8) -> Keys
+    requires is_chunk { IsChunk plan.now.image chunk }
+    requires order { from ≤ to }
+    requires few { to ≤ from + 32 }
+    requires within { to ≤ 2 * chunk.size }
+    ensures { result.items ≡ keys_from plan.now.image chunk from (to - from) }
 {
     let mut keys = Keys::new();
-    for place in 0..2 * chunk.size {
+    for place in from..to {
         keys.push(key(plan, chunk, place));
     }
     keys

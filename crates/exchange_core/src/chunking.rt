@@ -9,10 +9,10 @@ use std::alloc::{AllocError, Global};
 use tape_image::Plan;
 
 // A chunk ends at each multiple of this.
-const LARGEST_CHUNK: u16 = 16;
+const LARGEST_CHUNK: u16 = 64;
 
 /// The chunks of the plan's words from one number up to another, which is excluded: their bytes in their
-/// order, cut where one doesn't follow the other and at each multiple of 16. The one error is want of
+/// order, cut where one doesn't follow the other and at each multiple of 64. The one error is want of
 /// memory.
 pub fn chunks_of(alloc: Global, plan: &Plan, from: u32, to: u32) -> Result<Vec<Chunk>, AllocError>
     requires some { from < to }
@@ -64,10 +64,10 @@ fn chunk_of(bytes: Stretch, until: u32) -> Chunk
     }
 }
 
-// Whether a chunk goes on with these bytes: they follow it, and no multiple of 16 lies between.
+// Whether a chunk goes on with these bytes: they follow it, and no multiple of 64 lies between.
 fn goes_on(chunk: Chunk, bytes: Stretch) -> bool
     requires { chunk.address + chunk.size < 65536 }
-    ensures { IsTrue result ↔ ((bytes.from ≡ chunk.address + chunk.size) × ((chunk.address + chunk.size) % 16 ≢ 0)) }
+    ensures { IsTrue result ↔ ((bytes.from ≡ chunk.address + chunk.size) × ((chunk.address + chunk.size) % 64 ≢ 0)) }
 {
     let end = chunk.address + u16::from(chunk.size);
     bytes.from == end && end % LARGEST_CHUNK != 0

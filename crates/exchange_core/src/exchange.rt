@@ -1,11 +1,12 @@
-ghost use Rattle.std.specs.Prelude.{◌≡◌, ◌<◌, ◌≤◌, ◌*◌, ◌^◌, length, []};
+ghost use Rattle.std.specs.Prelude.{◌≡◌, ℕ, ◌+◌, ◌<◌, ◌≤◌, ◌*◌, ◌^◌, length, []};
 ghost use Rattle.host_core.specs.declared.heard.Heard.TheVariants.{Got};
 ghost use Rattle.exchange_core.specs.Chunk.{AreChunks, IsChunk, chunk_nr};
-ghost use Rattle.exchange_core.specs.declared.turn.Turn.TheVariants.{Verified};
+ghost use Rattle.exchange_core.specs.declared.turn.Turn.TheVariants.{More, Verified};
 ghost use Rattle.exchange_core.specs.Exchange.{EndsAnswer, IsExchange, exchange_bound};
-ghost use Rattle.exchange_core.specs.Exchange.{advance, answer_hears, begun, ended, listens, next_chunk, taken, turn_of, waits};
+ghost use Rattle.exchange_core.specs.Exchange.{advance, answer_hears, begun, ended, listens, next_chunk, sends_on, taken, turn_of, waits};
 
-use crate::chunk::{Chunk, Keys, awaited, keys_of};
+use crate::chunk::{Chunk, Keys, awaited, keys_of, sent_at};
+use crate::duplex::Duplex;
 use crate::phase::{End, Phase};
 use crate::turn::Turn;
 use host_core::Heard;
@@ -18,13 +19,16 @@ pub struct Exchange {
     /// How many of the plan's words were verified when it began.
     pub from: u32,
 
+    /// Whether it sends while answers come.
+    pub duplex: Duplex,
+
     /// How many of the chunks are verified.
     pub done: u32,
 
     /// How many of the plan's words are.
     pub verified: u32,
 
-    /// The characters sent so far: never more than the exchange bound, 32 for each chunk and 1.
+    /// The characters sent so far: never more than the exchange bound, 128 for each chunk and 1.
     pub sent: u32,
 
     /// What the host waits for.
@@ -43,11 +47,12 @@ pub struct ExchangeStep {
 
 impl Exchange {
     /// An exchange at its beginning, where so many of the plan's words are verified already.
-    pub fn new(verified: u32) -> Exchange
-        ensures { result ≡ begun verified }
+    pub fn new(verified: u32, duplex: Duplex) -> Exchange
+        ensures { result ≡ begun verified duplex }
     {
         Exchange {
             from: verified,
+            duplex,
             done: 0,
             verified,
             sent: 0,
@@ -112,11 +117,13 @@ impl Exchange {
         requires chunks { AreChunks plan.now self.from chunks.now }
         requires kept { IsExchange chunks.now self }
         requires verified { turn ≡ Verified → self.done < length chunks.now }
+        requires more { (place : ℕ) → turn ≡ More place → (self.done < length chunks.now) × (place + 1 < 2 * (chunk_nr chunks.now self.done).size) }
         ensures next { result.next ≡ (taken plan.now.image chunks.now self turn).next }
         ensures keys { result.keys.items ≡ (taken plan.now.image chunks.now self turn).keys }
     {
         match turn {
             Turn::Listen(phase) => self.listens(phase),
+            Turn::More(place) => self.sends_on(plan, chunks[self.done as usize], place),
             Turn::Next => self.next_chunk(plan, chunks),
             Turn::Verified => {
                 let until = chunks[self.done as usize].until;
@@ -142,7 +149,30 @@ impl Exchange {
         }
     }
 
-    // Sends the next chunk, or ends where there is none.
+    // Sends more of the chunk's characters, where there are any, once the character at a place of the
+    // answer came.
+    #[tactic(auto, using(crate::proofs::Keys::sent_rises, crate::proofs::Keys::sent_next, crate::proofs::Keys::sent_within))]
+    fn sends_on(self, plan: &Plan, chunk: Chunk, place: u8) -> ExchangeStep
+        requires is_chunk { IsChunk plan.now.image chunk }
+        requires within { place + 1 < 2 * chunk.size }
+        requires few { self.sent < 2 ^ 31 }
+        ensures next { result.next ≡ (sends_on plan.now.image chunk self place).next }
+        ensures keys { result.keys.items ≡ (sends_on plan.now.image chunk self place).keys }
+    {
+        let from = sent_at(self.duplex, chunk, place);
+        let to = sent_at(self.duplex, chunk, place + 1);
+        ExchangeStep {
+            next: Exchange {
+                sent: self.sent + u32::from(to - from),
+                phase: Phase::Answer(place + 1),
+                ..self
+            },
+            keys: keys_of(plan, chunk, from, to),
+        }
+    }
+
+    // Sends the first characters of the next chunk, or ends where there is none.
+    #[tactic(auto, using(crate::proofs::Keys::sent_first, crate::proofs::Keys::sent_within))]
     fn next_chunk(self, plan: &Plan, chunks: &[Chunk]) -> ExchangeStep
         requires chunks { AreChunks plan.now self.from chunks.now }
         requires few { self.sent < 2 ^ 31 }
@@ -153,13 +183,14 @@ impl Exchange {
             return self.listens(Phase::Ended(End::Complete));
         }
         let chunk = chunks[self.done as usize];
+        let to = sent_at(self.duplex, chunk, 0);
         ExchangeStep {
             next: Exchange {
-                sent: self.sent + 2 * u32::from(chunk.size),
+                sent: self.sent + u32::from(to),
                 phase: Phase::Answer(0),
                 ..self
             },
-            keys: keys_of(plan, chunk),
+            keys: keys_of(plan, chunk, 0, to),
         }
     }
 
@@ -184,7 +215,7 @@ fn answer(plan: &Plan, chunk: Chunk, place: u8, c: u8) -> Turn
     if c != awaited(plan, chunk, place) {
         Turn::Listen(Phase::Leave)
     } else if place + 1 < 2 * chunk.size {
-        Turn::Listen(Phase::Answer(place + 1))
+        Turn::More(place)
     } else {
         Turn::Verified
     }

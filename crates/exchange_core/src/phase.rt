@@ -14,7 +14,7 @@ pub enum Phase {
     /// The line stays quiet: nothing was sent yet.
     Settle,
 
-    /// The answer for the chunk under way: how many of its characters came, 0 to 31.
+    /// The answer for the chunk under way: how many of its characters came, 0 to 127.
     Answer(u8),
 
     /// The line becomes quiet, behind a character that was not the one.

@@ -8,7 +8,7 @@ use crate::chunk::Chunk;
 use crate::stretch::Stretch;
 use std::alloc::{AllocError, Global};
 
-/// The stretches from which a stub makes these chunks: chunks that follow one another directly are one.
+/// The stretches that have the bytes of these chunks: chunks that follow one another directly are one.
 /// The one error is want of memory.
 pub fn stretches_of(alloc: Global, chunks: &[Chunk]) -> Result<Vec<Stretch>, AllocError>
     requires cut { AreCut chunks.now }

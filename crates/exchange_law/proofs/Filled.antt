@@ -8,11 +8,11 @@ use Rattle.tape_image.specs.Memory.{byte_of, half, top_of}
 use Rattle.odt_machine.specs.Machine.{IsWide, word_at}
 use Rattle.processor.specs.Access.{with_byte, with_half}
 use Rattle.exchange_core.specs.declared.chunk.Chunk.{Chunk}
-use Rattle.exchange_core.specs.declared.stretch.Stretch.{Stretch}
 use Rattle.exchange_core.specs.Chunk.{IsIn, chunk_keys, chunk_nr, is_nibble, key_at, key_for, told}
-use Rattle.exchange_core.specs.Stretch.{stretch_of}
-use Rattle.exchange_law.specs.Law.{pieces_of}
-use Rattle.stub.specs.Filling.{Filling, after, answered, chunk_text, first_byte, spelled, stored_next, taken, takes, with_nibble}
+use Rattle.exchange_core.specs.Stretch.{places_from}
+use Rattle.exchange_core.proofs.Keys.{keys_more, keys_split}
+use Rattle.exchange_law.specs.Law.{bytes_of}
+use Rattle.stub.specs.Filling.{Filling, after, answered, spelled, taken, takes, with_nibble}
 use Rattle.stub.proofs.Memory.{byte_other, length_with, wide_with}
 use Rattle.exchange_law.specs.Clean.{all_keys}
 
@@ -85,23 +85,34 @@ written_in image c memory (suc j) i small wide less room = elim (below_or i j le
 
 -- ---- one chunk
 
--- the stub in the middle of a chunk, behind so many of its bytes
-abbrev pub midway : Image → Chunk → List Stretch → List ℕ → List ℕ → ℕ → Filling
-midway image c rest memory answers j = record { memory = written image c memory j; left = stretch_of c ∷ rest; next = c.address + j; high = None; answers = answers }
+-- so many bytes of the image from an address on, as a stub answers them
+abbrev pub told_text : Image → ℕ → ℕ → List ℕ
+told_text image a zero = []
+told_text image a (suc n) = answered (told image a / 16) ∷ answered (told image a % 16) ∷ told_text image (a + 1) n
 
--- behind all of them
-abbrev pub behind : Image → Chunk → List Stretch → List ℕ → List ℕ → Filling
-behind image c rest memory answers =
-    record { memory = written image c memory c.size; left = rest; next = first_byte rest; high = None; answers = answers ++ chunk_text (written image c memory c.size) (stretch_of c) }
+told_more : (image : Image) (n a b : ℕ) → a + n ≡ b → told_text image a (suc n) ≡ told_text image a n ++ answered (told image b / 16) ∷ answered (told image b % 16) ∷ []
+told_more image zero a b is = ap (λ x. answered (told image x / 16) ∷ answered (told image x % 16) ∷ []) (same a b is)
+  where
+    same : (a b : ℕ) → a + 0 ≡ b → a ≡ b
+    same a b is = omega (arith, is)
+told_more image (suc n) a b is = ap (λ list. answered (told image a / 16) ∷ answered (told image a % 16) ∷ list) (told_more image n (a + 1) b (next a n b is))
+  where
+    next : (a n b : ℕ) → a + suc n ≡ b → a + 1 + n ≡ b
+    next a n b is = omega (arith, is)
+
+-- the stub in the middle of a chunk, behind so many of its bytes
+abbrev pub midway : Image → Chunk → List ℕ → List ℕ → List ℕ → ℕ → Filling
+midway image c rest memory answers j =
+    record { memory = written image c memory j; left = places_from (c.size - j) (c.address + j) ++ rest; high = None; answers = answers ++ told_text image c.address j }
 
 pub after_then : (f : Filling) (xs ys : List ℕ) → after f (xs ++ ys) ≡ after (after f xs) ys
 after_then f [] ys = refl
 after_then f (x ∷ xs) ys = after_then (taken f x) xs ys
 
 -- a nibble's character is taken
-pub one_taken : (f : Filling) (s : Stretch) (rest : List Stretch) (n : ℕ) → n < 16 → takes f (s ∷ rest) (96 + n) ≡ with_nibble f f.high n s rest
-one_taken f s rest n small =
-    ap (λ (t : Bool). if t then with_nibble f f.high (96 + n - 96) s rest else record f { left = [] }) (is_one n small) ∙ ap (λ k. with_nibble f f.high k s rest) (the_nibble n)
+one_taken : (f : Filling) (a : ℕ) (rest : List ℕ) (n : ℕ) → n < 16 → takes f (a ∷ rest) (96 + n) ≡ with_nibble f f.high n a rest
+one_taken f a rest n small =
+    ap (λ (t : Bool). if t then with_nibble f f.high (96 + n - 96) a rest else record f { left = [] }) (is_one n small) ∙ ap (λ k. with_nibble f f.high k a rest) (the_nibble n)
   where
     is_one : (n : ℕ) → n < 16 → is_nibble (96 + n) ≡ true
     is_one n small = grind (arith, nat_tests)
@@ -128,83 +139,138 @@ odd_key image c j = ap (λ i. key_for (told image (c.address + i)) (2 * j + 1)) 
     test : (j : ℕ) → ((2 * j + 1) % 2 == 0) ≡ false
     test j = grind (arith, nat_tests)
 
+-- the bytes that are left behind so many, with one more
+next_left : (c : Chunk) (rest : List ℕ) (j : ℕ) → j < c.size → places_from (c.size - j) (c.address + j) ++ rest ≡ (c.address + j) ∷ (places_from (c.size - suc j) (c.address + suc j) ++ rest)
+next_left c rest j less =
+    ap (λ n. places_from n (c.address + j) ++ rest) (one_less c.size j less) ∙ ap (λ a. (c.address + j) ∷ (places_from (c.size - suc j) a ++ rest)) (again c.address j)
+  where
+    one_less : (n j : ℕ) → j < n → n - j ≡ suc (n - suc j)
+    one_less n j less = omega (arith, less)
+
+    again : (a j : ℕ) → a + j + 1 ≡ a + suc j
+    again a j = omega arith
+
+-- the first character of a byte
+high_taken : (image : Image) (c : Chunk) (rest : List ℕ) (memory answers : List ℕ) (j : ℕ) → AreBytes image → j < c.size →
+    taken (midway image c rest memory answers j) (key_at image c (2 * j)) ≡
+    record { memory = written image c memory j; left = (c.address + j) ∷ (places_from (c.size - suc j) (c.address + suc j) ++ rest); high = Some (told image (c.address + j) / 16); answers = answers ++ told_text image c.address j }
+high_taken image c rest memory answers j small less =
+    let more : List ℕ = places_from (c.size - suc j) (c.address + suc j) ++ rest in
+    let v : ℕ = told image (c.address + j) in
+    ap (λ left. taken (record { memory = written image c memory j; left = left; high = None; answers = answers ++ told_text image c.address j }) (key_at image c (2 * j))) (next_left c rest j less)
+    ∙ (ap (λ k. taken (record { memory = written image c memory j; left = (c.address + j) ∷ more; high = None; answers = answers ++ told_text image c.address j }) k) (even_key image c j)
+    ∙ one_taken (record { memory = written image c memory j; left = (c.address + j) ∷ more; high = None; answers = answers ++ told_text image c.address j }) (c.address + j) more (v / 16) (high_small v (small (c.address + j))))
+  where
+    high_small : (v : ℕ) → v < 256 → v / 16 < 16
+    high_small v small = omega (arith, small)
+
 -- a byte's two characters
-two_taken : (image : Image) (c : Chunk) (rest : List Stretch) (memory answers : List ℕ) (j : ℕ) → AreBytes image →
-    after (midway image c rest memory answers j) (key_at image c (2 * j) ∷ key_at image c (2 * j + 1) ∷ []) ≡ stored_next (midway image c rest memory answers j) (written image c memory (suc j)) (stretch_of c) rest
-two_taken image c rest memory answers j small =
-    let f : Filling = midway image c rest memory answers j in
+two_taken : (image : Image) (c : Chunk) (rest : List ℕ) (memory answers : List ℕ) (j : ℕ) → AreBytes image → IsWide memory → c.address + c.size ≤ top_of memory → j < c.size →
+    after (midway image c rest memory answers j) (key_at image c (2 * j) ∷ key_at image c (2 * j + 1) ∷ []) ≡ midway image c rest memory answers (suc j)
+two_taken image c rest memory answers j small wide room less =
+    let a : ℕ = c.address + j in
+    let more : List ℕ = places_from (c.size - suc j) (c.address + suc j) ++ rest in
     let v : ℕ = told image (c.address + j) in
     let n = nibbles v (small (c.address + j)) in
-    ap (λ k. taken (taken f k) (key_at image c (2 * j + 1))) (even_key image c j)
-    ∙ (ap (λ g. taken g (key_at image c (2 * j + 1))) (one_taken f (stretch_of c) rest (v / 16) n.0)
-    ∙ (ap (λ k. taken (record f { high = Some (v / 16) }) k) (odd_key image c j)
-    ∙ (one_taken (record f { high = Some (v / 16) }) (stretch_of c) rest (v % 16) n.1
-    ∙ ap (λ w. stored_next (record f { high = Some (v / 16) }) (with_byte (written image c memory j) (c.address + j) w) (stretch_of c) rest) n.2)))
+    let f : Filling = record { memory = written image c memory j; left = (c.address + j) ∷ more; high = Some (told image (c.address + j) / 16); answers = answers ++ told_text image c.address j } in
+    ap (λ g. taken g (key_at image c (2 * j + 1))) (high_taken image c rest memory answers j small less)
+    ∙ (ap (λ k. taken f k) (odd_key image c j)
+    ∙ (one_taken f (c.address + j) more (v % 16) n.0
+    ∙ (ap (λ w. record { memory = with_byte (written image c memory j) (c.address + j) w; left = more; high = None; answers = (answers ++ told_text image c.address j) ++ spelled (with_byte (written image c memory j) (c.address + j) w) (c.address + j) }) n.1
+    ∙ (ap (λ b. record { memory = written image c memory (suc j); left = more; high = None; answers = (answers ++ told_text image c.address j) ++ (answered (b / 16) ∷ answered (b % 16) ∷ []) }) (written_in image c memory (suc j) j small wide (one j) (fits c.address j c.size (top_of memory) less room))
+    ∙ ap (λ text. record { memory = written image c memory (suc j); left = more; high = None; answers = text })
+    (append_assoc answers (told_text image c.address j) (answered (v / 16) ∷ answered (v % 16) ∷ []) ∙ ap (λ list. answers ++ list) (sym (told_more image j c.address (c.address + j) refl)))))))
   where
-    nibbles : (v : ℕ) → v < 256 → (v / 16 < 16) × (v % 16 < 16) × (16 * (v / 16) + v % 16 ≡ v)
-    nibbles v small = (omega arith, omega arith, omega arith)
+    nibbles : (v : ℕ) → v < 256 → (v % 16 < 16) × (16 * (v / 16) + v % 16 ≡ v)
+    nibbles v small = (omega arith, omega arith)
+
+    one : (j : ℕ) → j < suc j
+    one j = omega arith
+
+    fits : (a j n top : ℕ) → j < n → a + n ≤ top → a + suc j ≤ top
+    fits a j n top less room = omega (arith, less, room)
 
 keys_twice : (image : Image) (c : Chunk) (j : ℕ) → chunk_keys image c (2 * suc j) ≡ chunk_keys image c (2 * j) ++ (key_at image c (2 * j) ∷ key_at image c (2 * j + 1) ∷ [])
-unfolding chunk_keys
-keys_twice image c j =
-    ap (chunk_keys image c) (twice j)
-    ∙ (append_assoc (chunk_keys image c (2 * j)) (key_at image c (2 * j) ∷ []) (key_at image c (suc (2 * j)) ∷ [])
-    ∙ ap (λ p. chunk_keys image c (2 * j) ++ (key_at image c (2 * j) ∷ key_at image c p ∷ [])) (one (2 * j)))
+keys_twice image c j = ap (chunk_keys image c) (twice j) ∙ sym (keys_split image c 2 (2 * j))
   where
-    twice : (j : ℕ) → 2 * suc j ≡ suc (suc (2 * j))
+    twice : (j : ℕ) → 2 * suc j ≡ 2 * j + 2
     twice j = omega arith
 
-    one : (n : ℕ) → suc n ≡ n + 1
-    one n = omega arith
+-- nothing was taken yet
+pub midway_none : (image : Image) (c : Chunk) (rest : List ℕ) (memory answers : List ℕ) → record { memory = memory; left = places_from c.size c.address ++ rest; high = None; answers = answers } ≡ midway image c rest memory answers 0
+midway_none image c rest memory answers =
+    ap (λ n. record { memory = memory; left = places_from n c.address ++ rest; high = None; answers = answers }) (off c.size)
+    ∙ (ap (λ a. record { memory = memory; left = places_from (c.size - 0) a ++ rest; high = None; answers = answers }) (none c.address)
+    ∙ ap (λ text. record { memory = memory; left = places_from (c.size - 0) (c.address + 0) ++ rest; high = None; answers = text }) (sym (append-nil answers)))
+  where
+    off : (n : ℕ) → n ≡ n - 0
+    off n = omega arith
 
-keys_none : (image : Image) (c : Chunk) → chunk_keys image c (2 * 0) ≡ []
-unfolding chunk_keys
-keys_none image c = refl
+    none : (a : ℕ) → a ≡ a + 0
+    none a = omega arith
 
 -- the first bytes of a chunk
-pub some_taken : (image : Image) (c : Chunk) (rest : List Stretch) (memory answers : List ℕ) (j : ℕ) → AreBytes image → j < c.size → after (midway image c rest memory answers 0) (chunk_keys image c (2 * j)) ≡ midway image c rest memory answers j
-some_taken image c rest memory answers zero small less = ap (after (midway image c rest memory answers 0)) (keys_none image c)
-some_taken image c rest memory answers (suc j) small less =
+pub some_taken : (image : Image) (c : Chunk) (rest : List ℕ) (memory answers : List ℕ) (j : ℕ) → AreBytes image → IsWide memory → c.address + c.size ≤ top_of memory → j ≤ c.size →
+    after (midway image c rest memory answers 0) (chunk_keys image c (2 * j)) ≡ midway image c rest memory answers j
+some_taken image c rest memory answers zero small wide room le = refl
+some_taken image c rest memory answers (suc j) small wide room le =
     ap (after (midway image c rest memory answers 0)) (keys_twice image c j)
     ∙ (after_then (midway image c rest memory answers 0) (chunk_keys image c (2 * j)) _
-    ∙ (ap (λ f. after f (key_at image c (2 * j) ∷ key_at image c (2 * j + 1) ∷ [])) (some_taken image c rest memory answers j small (fewer j c.size less))
-    ∙ (two_taken image c rest memory answers j small
-    ∙ (ap (λ (t : Bool). if t then record { memory = written image c memory (suc j); left = rest; next = first_byte rest; high = None; answers = answers ++ chunk_text (written image c memory (suc j)) (stretch_of c) }
-    else record { memory = written image c memory (suc j); left = stretch_of c ∷ rest; next = c.address + j + 1; high = None; answers = answers }) (not_last c.address j c.size less)
-    ∙ ap (λ n. record { memory = written image c memory (suc j); left = stretch_of c ∷ rest; next = n; high = None; answers = answers }) (next c.address j)))))
+    ∙ (ap (λ f. after f (key_at image c (2 * j) ∷ key_at image c (2 * j + 1) ∷ [])) (some_taken image c rest memory answers j small wide room (fewer j c.size le))
+    ∙ two_taken image c rest memory answers j small wide room le))
   where
-    fewer : (j n : ℕ) → suc j < n → j < n
-    fewer j n less = omega arith
-
-    not_last : (a j n : ℕ) → suc j < n → (a + j + 1 == a + n) ≡ false
-    not_last a j n less = grind (arith, nat_tests)
-
-    next : (a j : ℕ) → a + j + 1 ≡ a + suc j
-    next a j = omega arith
+    fewer : (j n : ℕ) → suc j ≤ n → j ≤ n
+    fewer j n le = omega (arith, le)
 
 -- all of them
-chunk_by : (image : Image) (c : Chunk) (rest : List Stretch) (memory answers : List ℕ) (size j : ℕ) → AreBytes image → c.size ≡ size → size ≡ suc j → after (midway image c rest memory answers 0) (chunk_keys image c (2 * suc j)) ≡
-    record { memory = written image c memory (suc j); left = rest; next = first_byte rest; high = None; answers = answers ++ chunk_text (written image c memory (suc j)) (stretch_of c) }
-chunk_by image c rest memory answers size j small is one =
-    ap (after (midway image c rest memory answers 0)) (keys_twice image c j)
-    ∙ (after_then (midway image c rest memory answers 0) (chunk_keys image c (2 * j)) _
-    ∙ (ap (λ f. after f (key_at image c (2 * j) ∷ key_at image c (2 * j + 1) ∷ [])) (some_taken image c rest memory answers j small (fewer j c.size size is one))
-    ∙ (two_taken image c rest memory answers j small
-    ∙ ap (λ (t : Bool). if t then record { memory = written image c memory (suc j); left = rest; next = first_byte rest; high = None; answers = answers ++ chunk_text (written image c memory (suc j)) (stretch_of c) }
-    else record { memory = written image c memory (suc j); left = stretch_of c ∷ rest; next = c.address + j + 1; high = None; answers = answers }) (last c.address j c.size size is one))))
+pub chunk_taken : (image : Image) (c : Chunk) (rest : List ℕ) (memory answers : List ℕ) → AreBytes image → IsWide memory → c.address + c.size ≤ top_of memory →
+    after (midway image c rest memory answers 0) (chunk_keys image c (2 * c.size)) ≡ record { memory = written image c memory c.size; left = rest; high = None; answers = answers ++ told_text image c.address c.size }
+chunk_taken image c rest memory answers small wide room =
+    some_taken image c rest memory answers c.size small wide room (all c.size)
+    ∙ ap (λ n. record { memory = written image c memory c.size; left = places_from n (c.address + c.size) ++ rest; high = None; answers = answers ++ told_text image c.address c.size }) (none c.size)
   where
-    fewer : (j s size : ℕ) → s ≡ size → size ≡ suc j → j < s
-    fewer j s size is one = omega arith
+    all : (n : ℕ) → n ≤ n
+    all n = omega arith
 
-    last : (a j s size : ℕ) → s ≡ size → size ≡ suc j → (a + j + 1 == a + s) ≡ true
-    last a j s size is one = grind (arith, nat_tests)
+    none : (n : ℕ) → n - n ≡ 0
+    none n = omega arith
 
-pub chunk_taken : (image : Image) (c : Chunk) (rest : List Stretch) (memory answers : List ℕ) → AreBytes image → 1 ≤ c.size → after (midway image c rest memory answers 0) (chunk_keys image c (2 * c.size)) ≡ behind image c rest memory answers
-chunk_taken image c rest memory answers small some =
-    let one : c.size ≡ suc (c.size - 1) = omega (arith, some) in
-    subst (λ n. after (midway image c rest memory answers 0) (chunk_keys image c (2 * n)) ≡
-    record { memory = written image c memory n; left = rest; next = first_byte rest; high = None; answers = answers ++ chunk_text (written image c memory n) (stretch_of c) }) (sym one)
-    (chunk_by image c rest memory answers c.size (c.size - 1) small refl one)
+-- ---- what was answered behind so many characters
+
+two_or : (n : ℕ) → ((j : ℕ) × (n ≡ 2 * j)) ⊎ ((j : ℕ) × (n ≡ 2 * j + 1))
+two_or zero = inl (0, refl)
+two_or (suc n) = elim (two_or n) [ inl e ↦ inr (e.0, let is = e.1 in omega (arith, is)) | inr o ↦ inl (o.0 + 1, let is = o.1 in omega (arith, is)) ]
+
+pub answered_by : (image : Image) (c : Chunk) (rest : List ℕ) (memory answers : List ℕ) (n : ℕ) → AreBytes image → IsWide memory → c.address + c.size ≤ top_of memory → n ≤ 2 * c.size →
+    (after (midway image c rest memory answers 0) (chunk_keys image c n)).answers ≡ answers ++ told_text image c.address (n / 2)
+answered_by image c rest memory answers n small wide room le = elim (two_or n) [
+  | inl (j, is) ↦ subst (λ m. (after (midway image c rest memory answers 0) (chunk_keys image c m)).answers ≡ answers ++ told_text image c.address (m / 2)) (sym is)
+      (ap (λ (f : Filling). f.answers) (some_taken image c rest memory answers j small wide room (half n j c.size is le)) ∙ ap (λ k. answers ++ told_text image c.address k) (sym (half_even j)))
+  | inr (j, is) ↦ subst (λ m. (after (midway image c rest memory answers 0) (chunk_keys image c m)).answers ≡ answers ++ told_text image c.address (m / 2)) (sym is)
+      (odd j (half_less n j c.size is le) ∙ ap (λ k. answers ++ told_text image c.address k) (sym (half_odd j)))
+]
+  where
+    half : (n j s : ℕ) → n ≡ 2 * j → n ≤ 2 * s → j ≤ s
+    half n j s is le = omega (arith, is, le)
+
+    half_less : (n j s : ℕ) → n ≡ 2 * j + 1 → n ≤ 2 * s → j < s
+    half_less n j s is le = omega (arith, is, le)
+
+    half_even : (j : ℕ) → 2 * j / 2 ≡ j
+    half_even j = omega arith
+
+    half_odd : (j : ℕ) → (2 * j + 1) / 2 ≡ j
+    half_odd j = omega arith
+
+    odd : (j : ℕ) → j < c.size → (after (midway image c rest memory answers 0) (chunk_keys image c (2 * j + 1))).answers ≡ answers ++ told_text image c.address j
+    odd j below =
+        ap (λ (keys : List ℕ). (after (midway image c rest memory answers 0) keys).answers) (keys_more image c (2 * j))
+        ∙ (ap (λ (f : Filling). f.answers) (after_then (midway image c rest memory answers 0) (chunk_keys image c (2 * j)) (key_at image c (2 * j) ∷ []))
+        ∙ (ap (λ (f : Filling). (taken f (key_at image c (2 * j))).answers) (some_taken image c rest memory answers j small wide room (weaker j c.size below))
+        ∙ ap (λ (f : Filling). f.answers) (high_taken image c rest memory answers j small below)))
+      where
+        weaker : (j n : ℕ) → j < n → j ≤ n
+        weaker j n less = omega (arith, less)
 
 -- ---- all chunks
 
@@ -213,57 +279,32 @@ abbrev pub all_written : Image → List Chunk → List ℕ → List ℕ
 all_written image [] memory = memory
 all_written image (c ∷ chunks) memory = all_written image chunks (written image c memory c.size)
 
--- so many bytes of the image from an address on, as a stub answers them
-abbrev pub told_text : Image → ℕ → ℕ → List ℕ
-told_text image a zero = []
-told_text image a (suc n) = answered (told image a / 16) ∷ answered (told image a % 16) ∷ told_text image (a + 1) n
-
 abbrev pub told_texts : Image → List Chunk → List ℕ
 told_texts image [] = []
 told_texts image (c ∷ chunks) = told_text image c.address c.size ++ told_texts image chunks
-
-spelled_told : (image : Image) (memory : List ℕ) (a n : ℕ) → ((i : ℕ) → i < n → byte_of memory (a + i) ≡ told image (a + i)) → spelled memory a n ≡ told_text image a n
-spelled_told image memory a zero same = refl
-spelled_told image memory a (suc n) same =
-    let first : byte_of memory a ≡ told image a = subst (λ b. byte_of memory b ≡ told image b) (none a) (same 0 (omega arith)) in
-    ap (λ b. answered (b / 16) ∷ answered (b % 16) ∷ spelled memory (a + 1) n) first
-    ∙ ap (λ text. answered (told image a / 16) ∷ answered (told image a % 16) ∷ text) (spelled_told image memory (a + 1) n (λ i less. subst (λ b. byte_of memory b ≡ told image b) (next a i) (same (suc i) (omega (arith, less)))))
-  where
-    none : (a : ℕ) → a + 0 ≡ a
-    none a = omega arith
-
-    next : (a i : ℕ) → a + suc i ≡ a + 1 + i
-    next a i = omega arith
-
-pub chunk_told : (image : Image) (c : Chunk) (memory : List ℕ) → AreBytes image → IsWide memory → c.address + c.size ≤ top_of memory → chunk_text (written image c memory c.size) (stretch_of c) ≡ told_text image c.address c.size
-chunk_told image c memory small wide room =
-    ap (spelled (written image c memory c.size) c.address) (size c.address c.size) ∙ spelled_told image (written image c memory c.size) c.address c.size (λ i less. written_in image c memory c.size i small wide less room)
-  where
-    size : (a n : ℕ) → a + n - a ≡ n
-    size a n = omega arith
 
 -- chunks that have bytes, all of which lie in memory
 abbrev pub AreInside : List Chunk → ℕ → Type 0
 AreInside chunks top = (k : ℕ) → k < length chunks → (1 ≤ (chunk_nr chunks k).size) × ((chunk_nr chunks k).address + (chunk_nr chunks k).size ≤ top)
 
 pub all_taken : (image : Image) (chunks : List Chunk) (memory answers : List ℕ) → AreBytes image → IsWide memory → AreInside chunks (top_of memory) →
-    after (record { memory = memory; left = pieces_of chunks; next = first_byte (pieces_of chunks); high = None; answers = answers }) (all_keys image chunks) ≡
-    record { memory = all_written image chunks memory; left = []; next = 0; high = None; answers = answers ++ told_texts image chunks }
-all_taken image [] memory answers small wide inside = ap (λ list. record { memory = memory; left = []; next = 0; high = None; answers = list }) (sym (append-nil answers))
+    after (record { memory = memory; left = bytes_of chunks; high = None; answers = answers }) (all_keys image chunks) ≡
+    record { memory = all_written image chunks memory; left = []; high = None; answers = answers ++ told_texts image chunks }
+all_taken image [] memory answers small wide inside = ap (λ list. record { memory = memory; left = []; high = None; answers = list }) (sym (append-nil answers))
 all_taken image (c ∷ chunks) memory answers small wide inside =
     let here = inside 0 (omega arith) in
-    let rest : List Stretch = pieces_of chunks in
+    let rest : List ℕ = bytes_of chunks in
     let now : List ℕ = written image c memory c.size in
-    after_then (record { memory = memory; left = stretch_of c ∷ rest; next = c.address; high = None; answers = answers }) (chunk_keys image c (2 * c.size)) (all_keys image chunks)
-    ∙ (ap (λ n. after (after (record { memory = memory; left = stretch_of c ∷ rest; next = n; high = None; answers = answers }) (chunk_keys image c (2 * c.size))) (all_keys image chunks)) (none c.address)
-    ∙ (ap (λ f. after f (all_keys image chunks)) (chunk_taken image c rest memory answers small here.0)
-    ∙ (ap (λ text. after (record { memory = written image c memory c.size; left = rest; next = first_byte rest; high = None; answers = answers ++ text }) (all_keys image chunks)) (chunk_told image c memory small wide here.1)
+    after_then (record { memory = memory; left = bytes_of (c ∷ chunks); high = None; answers = answers }) (chunk_keys image c (2 * c.size)) (all_keys image chunks)
+    ∙ (ap (λ n. after (after (record { memory = memory; left = places_from n c.address ++ bytes_of chunks; high = None; answers = answers }) (chunk_keys image c (2 * c.size))) (all_keys image chunks)) (size c.address c.size)
+    ∙ (ap (λ f. after (after f (chunk_keys image c (2 * c.size))) (all_keys image chunks)) (midway_none image c rest memory answers)
+    ∙ (ap (λ f. after f (all_keys image chunks)) (chunk_taken image c rest memory answers small wide here.1)
     ∙ (all_taken image chunks (written image c memory c.size) (answers ++ told_text image c.address c.size) small (written_wide image c memory c.size small wide)
     (λ k less. let at = inside (suc k) (omega (arith, less)) in (at.0, subst (λ n. (chunk_nr chunks k).address + (chunk_nr chunks k).size ≤ 2 * n) (sym (written_length image c memory c.size)) at.1))
-    ∙ ap (λ list. record { memory = all_written image chunks (written image c memory c.size); left = []; next = 0; high = None; answers = list }) (append_assoc answers (told_text image c.address c.size) (told_texts image chunks))))))
+    ∙ ap (λ list. record { memory = all_written image chunks (written image c memory c.size); left = []; high = None; answers = list }) (append_assoc answers (told_text image c.address c.size) (told_texts image chunks))))))
   where
-    none : (a : ℕ) → a ≡ a + 0
-    none a = omega arith
+    size : (a n : ℕ) → a + n - a ≡ n
+    size a n = omega arith
 
 -- ---- memory behind all of them
 

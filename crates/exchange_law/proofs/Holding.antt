@@ -7,7 +7,8 @@ use Rattle.odt_machine.specs.Machine.{IsWide}
 use Rattle.exchange_core.specs.declared.chunk.Chunk.{Chunk}
 use Rattle.exchange_core.specs.Chunk.{IsChunk, IsIn, answer_at, answer_for, chunk_nr, told}
 use Rattle.exchange_core.specs.Stretch.{stretch_of}
-use Rattle.exchange_law.specs.Station.{ChangesWithin, IsInStretch}
+use Rattle.exchange_law.specs.Station.{ChangesAt}
+use Rattle.exchange_law.specs.Unsettled.{IsInStretch}
 use Rattle.exchange_law.specs.Law.{Holds}
 use Rattle.exchange_law.proofs.Texts.{byte_small, half_of_even, half_of_odd, same_bytes, some_is}
 
@@ -18,13 +19,13 @@ AreApart chunks = (j k : ℕ) → j < k → k < length chunks → (b : ℕ) → 
 pub in_of : (chunk : Chunk) (b : ℕ) → IsInStretch (stretch_of chunk) b → IsIn chunk b
 in_of chunk b of = record { from = of.from; to = of.to }
 
--- whatever is done within the chunk under way
-pub within_holds : (image : Image) (chunks : List Chunk) (before : List ℕ) (done : ℕ) (memory now : List ℕ) → AreApart chunks → done < length chunks → Holds image chunks before done memory →
-    ChangesWithin (stretch_of (chunk_nr chunks done)) memory now → Holds image chunks before done now
-within_holds image chunks before done memory now apart below h changes = record {
+-- whatever is done to a byte of the chunk under way
+pub within_holds : (image : Image) (chunks : List Chunk) (before : List ℕ) (done a : ℕ) (memory now : List ℕ) → AreApart chunks → done < length chunks → IsIn (chunk_nr chunks done) a → Holds image chunks before done memory →
+    ChangesAt a memory now → Holds image chunks before done now
+within_holds image chunks before done a memory now apart below inside h changes = record {
   size = changes.size ∙ h.size;
-  stand = λ k less b is. h.stand k less b is ∙ ap (λ v. Some v) (sym (changes.bytes b (λ of. apart k done less below b is (in_of (chunk_nr chunks done) b of))));
-  others = λ b none. changes.bytes b (λ of. none done below (in_of (chunk_nr chunks done) b of)) ∙ h.others b none;
+  stand = λ k less b is. h.stand k less b is ∙ ap (λ v. Some v) (sym (changes.bytes b (λ same. apart k done less below b is (subst (IsIn (chunk_nr chunks done)) (sym same) inside))));
+  others = λ b none. changes.bytes b (λ same. none done below (subst (IsIn (chunk_nr chunks done)) (sym same) inside)) ∙ h.others b none;
 }
 
 -- ---- a whole answer

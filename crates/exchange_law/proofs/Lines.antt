@@ -1,21 +1,15 @@
 -- What passes.
-use Rattle.std.proofs.Common.{◌≡◌, ℕ, zero, suc, ◌+◌, ◌-◌, ◌*◌, ◌<◌, List, [], ◌∷◌, ◌++◌, length, inl, inr, refl, arith, ap, sym, subst, ◌∙◌, append_assoc, append-nil, length-append}
+use Rattle.std.proofs.Common.{◌≡◌, ℕ, zero, suc, ◌+◌, ◌<◌, false, List, [], ◌∷◌, ◌++◌, length, inl, inr, refl, arith, ap, sym, subst, ◌∙◌, append_assoc, append-nil, length-append}
 use Rattle.std.specs.List.{remove}
 use Rattle.std.proofs.lemmas.List.Edits.{remove-append_left}
-use Rattle.tape_image.specs.Memory.{top_of}
 use Rattle.odt_machine.specs.Machine.{Machine}
 use Rattle.host_devices.specs.declared.item.Item.{Item}
 use Rattle.host_devices.specs.declared.item.Item.TheVariants.{Sent, Heard as Came}
 use Rattle.exchange_law.specs.Station.{Program, Meets, IsHaltText, Each, running}
 use Rattle.exchange_law.specs.Line.{Link as Line, Takes as StationTakes, Moves as LineMoves, MovesTimes, MovesOn, sent, Passes}
-use Rattle.exchange_core.specs.declared.stretch.Stretch.{Stretch}
-use Rattle.exchange_core.specs.Stretch.{pieces}
-use Rattle.stub.specs.Filling.{Filling, taken}
-use Rattle.stub.specs.Place.{stub_end}
+use Rattle.stub.specs.Filling.{Filling, begun, taken}
 use Rattle.stub.specs.Law.{seven}
 use Rattle.stub.specs.Seen.{Happening, Instructs, Arrives, Goes, LosesDown, LosesUp, Sends, Hears, Silent, MovesTimes as LinkMovesTimes, Link, Moves, Follows, opened}
-use Rattle.stub.proofs.Cuts.{chunks_fit}
-use Rattle.stub.proofs.Outside.{rises, first_under}
 use Rattle.stub.proofs.Seen.{are_seen_so}
 use Rattle.exchange_law.specs.StubStation.{station_by, station, goodbye, as_line, items_of, IsSeven, SendsSeven, StubsAreStations, StubsBeginFresh}
 use Rattle.exchange_law.proofs.Steps.{Fine, fine_taken, may_do}
@@ -75,17 +69,17 @@ module _ (program : Program) (m : Machine) (farewell : List ℕ) (good : IsHaltT
     pub moves : MovesOn program (as_line m farewell x) (as_line m farewell y)
     pub sound : Sound y
 
-  takes_on : (x : Link) (f : Filling) (c : ℕ) (rest text : List ℕ) (chunk : Stretch) (later : List Stretch) → f ≡ taken x.stub c → x.stub.left ≡ chunk ∷ later → x.down ≡ c ∷ rest → f.answers ≡ x.stub.answers ++ text → Fine x.stub →
+  takes_on : (x : Link) (f : Filling) (c : ℕ) (rest text : List ℕ) (a : ℕ) (later : List ℕ) → f ≡ taken x.stub c → x.stub.left ≡ a ∷ later → x.down ≡ c ∷ rest → f.answers ≡ x.stub.answers ++ text → Fine x.stub →
       StationTakes program (as_line m farewell x) (as_line m farewell (record { stub = f; down = rest; up = x.up ++ text; lost = x.lost }))
-  takes_on x f c rest text chunk later is under first answers fine = record {
+  takes_on x f c rest text a later is under first answers fine = record {
     c = c;
     rest = rest;
     first = first;
     station' = station m f;
     answer = text ++ goodbye f.left farewell;
     meets = subst (λ l. Meets program (station_by m x.stub l).stub (station_by m x.stub l).machine c (station m f) (text ++ goodbye f.left farewell)) (sym under)
-        (subst (λ (g : Filling). Meets program (station_by m x.stub (chunk ∷ later)).stub (station_by m x.stub (chunk ∷ later)).machine c (station m g) (text ++ goodbye g.left farewell)) (sym is)
-        (may_do m farewell good x.stub chunk later c text under fine (ap (λ (g : Filling). g.answers) (sym is) ∙ answers)));
+        (subst (λ (g : Filling). Meets program (station_by m x.stub (a ∷ later)).stub (station_by m x.stub (a ∷ later)).machine c (station m g) (text ++ goodbye g.left farewell)) (sym is)
+        (may_do m farewell good x.stub a later c text under fine (ap (λ (g : Filling). g.answers) (sym is) ∙ answers)));
     now = ap (λ up. record { station = station m f; down = rest; up = up; lost = x.lost }) (joined x.up text (goodbye f.left farewell) (goodbye x.stub.left farewell) (ap (λ l. goodbye l farewell) under));
   }
     where
@@ -97,10 +91,10 @@ module _ (program : Program) (m : Machine) (farewell : List ℕ) (good : IsHaltT
   carried x y sound (inr (inl t)) =
       let low : Each IsSeven (t.character ∷ t.rest) = subst (Each IsSeven) t.first sound.seven in
       let plain : seven t.character ≡ t.character = low_is t.character low.0 in
-      let takes = takes_on x (taken x.stub (seven t.character)) t.character t.rest t.text t.chunk t.later (ap (taken x.stub) plain) t.under t.first t.answers sound.fine in
+      let takes = takes_on x (taken x.stub (seven t.character)) t.character t.rest t.text t.address t.later (ap (taken x.stub) plain) t.under t.first t.answers sound.fine in
       record {
         moves = (1, (as_line m farewell (record { stub = taken x.stub (seven t.character); down = t.rest; up = x.up ++ t.text; lost = x.lost }), inl takes, ap (as_line m farewell) t.now));
-        sound = subst Sound (sym t.now) record { fine = fine_taken x.stub (seven t.character) t.chunk t.later t.under sound.fine; seven = low.1 };
+        sound = subst Sound (sym t.now) record { fine = fine_taken x.stub (seven t.character) t.address t.later t.under sound.fine; seven = low.1 };
       }
     where
       low_is : (c : ℕ) → c < 128 → seven c ≡ c
@@ -156,25 +150,21 @@ module _ (program : Program) (m : Machine) (farewell : List ℕ) (good : IsHaltT
       )
   passes x y (Silent ∷ what) sound sends (z, settles, more) =
       let all = carried_all settles.times x z sound settles.moves in
-      (as_line m farewell z, as_line m farewell z, all.moves, (settles.down, empty z.up z.stub.left settles.chunk settles.later settles.up settles.under, refl), passes z y what all.sound sends more)
+      (as_line m farewell z, as_line m farewell z, all.moves, (settles.down, empty z.up z.stub.left settles.address settles.later settles.up settles.under, refl), passes z y what all.sound sends more)
     where
-      empty : (up : List ℕ) (left : List Stretch) (chunk : Stretch) (later : List Stretch) → up ≡ [] → left ≡ chunk ∷ later → up ++ goodbye left farewell ≡ []
-      empty up left chunk later none under = ap (λ l. l ++ goodbye left farewell) none ∙ ap (λ l. goodbye l farewell) under
+      empty : (up : List ℕ) (left : List ℕ) (a : ℕ) (later : List ℕ) → up ≡ [] → left ≡ a ∷ later → up ++ goodbye left farewell ≡ []
+      empty up left a later none under = ap (λ l. l ++ goodbye left farewell) none ∙ ap (λ l. goodbye l farewell) under
 
 pub are_stations : StubsAreStations
 are_stations program place stretches m run is may =
     let x = run.before in
     let seen = are_seen_so place stretches x run.behind run.what is may.ran in
-    let rising = rises place (stub_end place stretches) (top_of x.machine.memory) (pieces stretches) (chunks_fit place (stub_end place stretches) (top_of x.machine.memory) stretches is.stands.fit) in
     record {
       link = seen.0;
       passes = passes program m run.farewell may.farewell (opened stretches x) seen.0 run.what
-          (record { fine = record { wide = is.wide; rising = rising; under = first_under (pieces stretches) rising; high = tt }; seven = may.under_way }) may.sends seen.1;
+          (record { fine = record { wide = is.wide; high = tt }; seven = may.under_way }) may.sends seen.1;
       shows = seen.2;
     }
 
 pub begin_fresh : StubsBeginFresh
-begin_fresh m memory chunk stretches = ap (running m memory ((chunk ∷ stretches))) (none chunk.from)
-  where
-    none : (lo : ℕ) → 2 * (lo - lo) + 0 ≡ 0
-    none lo = omega arith
+begin_fresh m memory stretches a left is = ap (station_by m (begun memory stretches)) is ∙ ap (λ those. running m memory those false) (sym is)

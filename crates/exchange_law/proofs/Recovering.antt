@@ -124,8 +124,8 @@ waits_takes program mishaps x y t (inl s) = elim s.down [
       let both : 90 ∷ [] ≡ t.c ∷ t.rest = sym z.0 ∙ t.first in
       let key : 90 ≡ t.c = cc both in
       let rest : t.rest ≡ [] = none_behind t.c t.rest both in
-      let met : StubMeets false x.station.machine s.stub.stretches s.stub.count t.station' t.answer =
-      subst (λ c. StubMeets (is_nibble c) x.station.machine s.stub.stretches s.stub.count t.station' t.answer) (sym key)
+      let met : StubMeets false x.station.machine s.stub.left s.stub.half t.station' t.answer =
+      subst (λ c. StubMeets (is_nibble c) x.station.machine s.stub.left s.stub.half t.station' t.answer) (sym key)
       (subst (λ stub. Meets program stub x.station.machine t.c t.station' t.answer) s.runs t.meets) in
       let after : Link = record { station = halted x.station.machine x.station.machine.memory; down = []; up = t.answer; lost = x.lost } in
       let now : y ≡ after = t.now ∙ (ap (λ (st : Station). record { station = st; down = t.rest; up = x.up ++ t.answer; lost = x.lost }) met.0

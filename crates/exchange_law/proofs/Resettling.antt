@@ -1,5 +1,5 @@
 -- A host that waits for silence or for the answer to `Z` while a stub is at work.
-use Rattle.std.proofs.Common.{◌≡◌, ℕ, zero, suc, ◌+◌, ◌*◌, ◌<◌, ◌≤◌, Bool, true, false, ltb, List, [], ◌∷◌, length, Option, Some, None, inl, inr, refl, arith, ap, sym, subst, ◌∙◌}
+use Rattle.std.proofs.Common.{◌≡◌, ℕ, zero, suc, ◌<◌, ◌≤◌, Bool, true, false, List, [], ◌∷◌, length, Option, Some, None, inl, inr, refl, arith, ap, sym, subst, ◌∙◌}
 use Rattle.std.proofs.lemmas.Bool.Decides.{nat_tests}
 use Rattle.std.specs.Prelude.{◌==◌, if◌then◌else◌}
 use Rattle.std.specs.List.{remove}
@@ -13,11 +13,10 @@ use Rattle.odt_machine.specs.Key.{key_of}
 use Rattle.odt_machine.specs.KeyTable.{Taken, row, take_of, after_key}
 use Rattle.odt_machine.specs.Laws.{is_running}
 use Rattle.odt_machine.specs.Machine.{Machine, IsMachine, IsWide, ModeFits}
-use Rattle.exchange_core.specs.declared.stretch.Stretch.{Stretch}
 use Rattle.exchange_core.specs.Chunk.{is_nibble}
-use Rattle.exchange_law.specs.Station.{Program, Station, Stub, ChangesWithin, Each, Answers, Fills, IsInStretch, Meets, StubMeets, after_odt, begins, halted, running, size_of}
+use Rattle.exchange_law.specs.Station.{Program, Station, Stub, ChangesAt, Each, Answers, Fills, answer_text, Meets, StubMeets, after_odt, begins, halted, running}
 use Rattle.exchange_law.specs.Line.{Link, Moves, Takes}
-use Rattle.exchange_law.specs.Unsettled.{AreWithin, IsForStub, IsLastKey, IsUnsettled, MayFill, Untouched}
+use Rattle.exchange_law.specs.Unsettled.{IsForStub, IsLastKey, IsUnsettled, MayFill, Untouched}
 use Rattle.exchange_law.proofs.Texts.{each_removed}
 
 pub untouched_same : (R : ℕ → Type 0) (memory : List ℕ) → Untouched R memory memory
@@ -92,13 +91,13 @@ runs_fit memory (Opened a) e = absurd (cc)
 runs_fit memory (Typing a v n) e = absurd (cc)
 runs_fit memory (Running p) e = tt
 
-changed : (R : ℕ → Type 0) (m : Machine) (memory : List ℕ) (stretch : Stretch) → ((b : ℕ) → IsInStretch stretch b → R b) → ChangesWithin stretch m.memory memory → Untouched R m.memory memory
-changed R m memory stretch inside changes = record { size = changes.size; bytes = λ b none. changes.bytes b (λ of. none (inside b of)) }
+changed : (R : ℕ → Type 0) (m : Machine) (memory : List ℕ) (a : ℕ) → R a → ChangesAt a m.memory memory → Untouched R m.memory memory
+changed R m memory a inside changes = record { size = changes.size; bytes = λ b none. changes.bytes b (λ same. none (subst R (sym same) inside)) }
 
-filled : (R : ℕ → Type 0) (m : Machine) (memory : List ℕ) (stretch : Stretch) (stretches : List Stretch) (count : ℕ) → ((b : ℕ) → IsInStretch stretch b → R b) → ChangesWithin stretch m.memory memory → is_running m.mode ≡ true → AreWithin R stretches → IsMachine m →
-    Stays R m.memory (running m memory stretches count)
-filled R m memory stretch stretches count inside changes runs within is = record {
-  untouched = changed R m memory stretch inside changes;
+filled : (R : ℕ → Type 0) (m : Machine) (memory : List ℕ) (a : ℕ) (left : List ℕ) (half : Bool) → R a → ChangesAt a m.memory memory → is_running m.mode ≡ true → Each R left → IsMachine m →
+    Stays R m.memory (running m memory left half)
+filled R m memory a left half inside changes runs within is = record {
+  untouched = changed R m memory a inside changes;
   console = record {
     size = subst (λ n. n ≤ 28672) (sym changes.size) is.size;
     wide = changes.wide is.wide;
@@ -107,27 +106,27 @@ filled R m memory stretch stretches count inside changes runs within is = record
   stub = (runs, within);
 }
 
-filled_last : (R : ℕ → Type 0) (m : Machine) (memory : List ℕ) (stretch : Stretch) → ((b : ℕ) → IsInStretch stretch b → R b) → ChangesWithin stretch m.memory memory → IsMachine m → Stays R m.memory (halted m memory)
-filled_last R m memory stretch inside changes is = record {
-  untouched = changed R m memory stretch inside changes;
+filled_last : (R : ℕ → Type 0) (m : Machine) (memory : List ℕ) (a : ℕ) → R a → ChangesAt a m.memory memory → IsMachine m → Stays R m.memory (halted m memory)
+filled_last R m memory a inside changes is = record {
+  untouched = changed R m memory a inside changes;
   console = record { size = subst (λ n. n ≤ 28672) (sym changes.size) is.size; wide = changes.wide is.wide; mode = tt };
   stub = refl;
 }
 
-answers_stay : (R : ℕ → Type 0) (m : Machine) (memory text : List ℕ) (stretch : Stretch) (stretches : List Stretch) (s' : Station) (answer : List ℕ) → ((b : ℕ) → IsInStretch stretch b → R b) → ChangesWithin stretch m.memory memory → is_running m.mode ≡ true → AreWithin R stretches → IsMachine m →
-    Answers m memory text stretches s' answer → Stays R m.memory s'
-answers_stay R m memory text stretch [] s' answer inside changes runs within is a = subst (Stays R m.memory) (sym a.0) (filled_last R m memory stretch inside changes is)
-answers_stay R m memory text stretch (next ∷ stretches) s' answer inside changes runs within is a = subst (Stays R m.memory) (sym a.0) (filled R m memory stretch (next ∷ stretches) 0 inside changes runs within is)
+answers_stay : (R : ℕ → Type 0) (m : Machine) (memory text : List ℕ) (a : ℕ) (left : List ℕ) (s' : Station) (answer : List ℕ) → R a → ChangesAt a m.memory memory → is_running m.mode ≡ true → Each R left → IsMachine m →
+    Answers m memory text left s' answer → Stays R m.memory s'
+answers_stay R m memory text a [] s' answer inside changes runs within is said = subst (Stays R m.memory) (sym said.0) (filled_last R m memory a inside changes is)
+answers_stay R m memory text a (next ∷ left) s' answer inside changes runs within is said = subst (Stays R m.memory) (sym said.0) (filled R m memory a (next ∷ left) false inside changes runs within is)
 
-fills_stay : (R : ℕ → Type 0) (test : Bool) (m : Machine) (memory : List ℕ) (stretch : Stretch) (stretches : List Stretch) (count : ℕ) (s' : Station) (answer : List ℕ) → ChangesWithin stretch m.memory memory → is_running m.mode ≡ true → AreWithin R (stretch ∷ stretches) → IsMachine m →
-    Fills test m memory stretch stretches count s' answer → Stays R m.memory s'
-fills_stay R true m memory stretch stretches count s' answer changes runs within is f = subst (Stays R m.memory) (sym f.0) (filled R m memory stretch (stretch ∷ stretches) (count + 1) within.0 changes runs within is)
-fills_stay R false m memory stretch stretches count s' answer changes runs within is f = answers_stay R m memory _ stretch stretches s' answer within.0 changes runs within.1 is f
+fills_stay : (R : ℕ → Type 0) (half : Bool) (m : Machine) (a : ℕ) (left : List ℕ) (s' : Station) (answer : List ℕ) → is_running m.mode ≡ true → Each R (a ∷ left) → IsMachine m →
+    Fills half m a left s' answer → Stays R m.memory s'
+fills_stay R false m a left s' answer runs within is f = subst (Stays R m.memory) (sym f.0) (filled R m m.memory a (a ∷ left) true within.0 (record { size = refl; wide = λ w. w; bytes = λ b apart. refl }) runs within is)
+fills_stay R true m a left s' answer runs within is (memory, changes, said) = answers_stay R m memory (answer_text memory a) a left s' answer within.0 changes runs within.1 is said
 
-stub_stays : (R : ℕ → Type 0) (nibble : Bool) (m : Machine) (stretches : List Stretch) (count : ℕ) (s' : Station) (answer : List ℕ) → is_running m.mode ≡ true → AreWithin R stretches → IsMachine m → StubMeets nibble m stretches count s' answer → Stays R m.memory s'
-stub_stays R false m stretches count s' answer runs within is met = subst (Stays R m.memory) (sym met.0) (at_prompt R m (halted m m.memory) refl refl refl is)
-stub_stays R true m [] count s' answer runs within is met = subst (Stays R m.memory) (sym met.0) (at_prompt R m (halted m m.memory) refl refl refl is)
-stub_stays R true m (stretch ∷ stretches) count s' answer runs within is (memory, changes, f) = fills_stay R (ltb (count + 1) (2 * size_of stretch)) m memory stretch stretches count s' answer changes runs within is f
+stub_stays : (R : ℕ → Type 0) (nibble : Bool) (m : Machine) (left : List ℕ) (half : Bool) (s' : Station) (answer : List ℕ) → is_running m.mode ≡ true → Each R left → IsMachine m → StubMeets nibble m left half s' answer → Stays R m.memory s'
+stub_stays R false m left half s' answer runs within is met = subst (Stays R m.memory) (sym met.0) (at_prompt R m (halted m m.memory) refl refl refl is)
+stub_stays R true m [] half s' answer runs within is met = subst (Stays R m.memory) (sym met.0) (at_prompt R m (halted m m.memory) refl refl refl is)
+stub_stays R true m (a ∷ left) half s' answer runs within is met = fills_stay R half m a left s' answer runs within is met
 
 none_begins : (program : Program) (test : Bool) (memory : List ℕ) (mode : Mode) → mode ≡ Prompt → begins program test memory mode ≡ None
 none_begins program true memory mode is = refl
@@ -167,7 +166,7 @@ lost_grows program x y (inr (inr (k, below, now))) = subst (λ n. x.lost ≤ n) 
 
 pub meets_stays : (program : Program) (R : ℕ → Type 0) (stub : Option Stub) (m : Machine) (c : ℕ) (s' : Station) (answer : List ℕ) → IsForStub c → MayFill R m.mode stub → IsMachine m → Meets program stub m c s' answer → Stays R m.memory s'
 meets_stays program R None m c s' answer for may is met = subst (Stays R m.memory) (sym met.0) (odt_stays program R m c for may is)
-meets_stays program R (Some stub) m c s' answer for may is met = stub_stays R (is_nibble c) m stub.stretches stub.count s' answer may.0 may.1 is met
+meets_stays program R (Some stub) m c s' answer for may is met = stub_stays R (is_nibble c) m stub.left stub.half s' answer may.0 may.1 is met
 
 -- ---- what a line does by itself
 

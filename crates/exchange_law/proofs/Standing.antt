@@ -1,6 +1,5 @@
 -- Where a station and its line stand in each phase of an exchange.
-use Rattle.std.proofs.Common.{◌≡◌, ℕ, ◌+◌, ◌-◌, ◌*◌, ◌<◌, ◌≤◌, ◌⊎◌, Bool, true, false, ltb, List, [], ◌∷◌, ◌++◌, length, drop, Some, None, inl, inr, refl, arith, ap, sym, subst, ◌∙◌, append-nil}
-use Rattle.std.proofs.lemmas.Bool.Decides.{nat_tests}
+use Rattle.std.proofs.Common.{◌≡◌, ℕ, zero, suc, ◌+◌, ◌-◌, ◌*◌, ◌<◌, ◌≤◌, ◌⊎◌, Bool, true, false, List, [], ◌∷◌, ◌++◌, length, drop, Some, None, inl, inr, refl, arith, ap, sym, subst, ◌∙◌, append-nil}
 use Rattle.std.proofs.lemmas.List.{drop_more}
 use Rattle.tape_image.specs.Image.{Image}
 use Rattle.odt_machine.specs.declared.mode.Mode.{Mode}
@@ -10,75 +9,79 @@ use Rattle.odt_machine.specs.Laws.{is_running}
 use Rattle.odt_machine.specs.Machine.{Machine, IsWide}
 use Rattle.odt_machine.specs.KeyTable.{row, after_key}
 use Rattle.exchange_core.specs.declared.chunk.Chunk.{Chunk}
+use Rattle.exchange_core.specs.declared.duplex.Duplex.{Duplex}
 use Rattle.exchange_core.specs.declared.phase.Phase.{Phase}
 use Rattle.exchange_core.specs.declared.phase.Phase.TheVariants.{Settle, Answer, Leave, Ended}
 use Rattle.exchange_core.specs.declared.phase.End.TheVariants.{Complete, Broken}
-use Rattle.exchange_core.specs.Chunk.{chunk_nr, no_chunk}
+use Rattle.exchange_core.specs.Chunk.{chunk_nr, is_nibble, no_chunk, sent_at}
 use Rattle.exchange_core.specs.declared.stretch.Stretch.{Stretch}
-use Rattle.exchange_core.specs.Stretch.{stretch_of}
-use Rattle.exchange_law.specs.Station.{Program, Station, Each, ChangesWithin, Answers, Fills, StubMeets, Meets, answer_from, answer_text, begins, size_of}
+use Rattle.exchange_core.specs.Stretch.{places, places_from, stretch_of}
+use Rattle.exchange_law.specs.Station.{Program, Station, Each, ChangesAt, Answers, Fills, StubMeets, Meets, answer_from, answer_text, begins}
 use Rattle.exchange_law.specs.Line.{Link}
-use Rattle.exchange_law.specs.Law.{Holds, pieces_of}
-use Rattle.exchange_law.proofs.Holding.{AreApart, IsAnswered, within_holds}
-use Rattle.exchange_law.proofs.Texts.{IsNibble, TextFits, nibbles}
+use Rattle.exchange_law.specs.Law.{Holds, bytes_of, pieces_of}
+use Rattle.exchange_law.specs.Unsettled.{IsAmong}
+use Rattle.exchange_law.proofs.Holding.{IsAnswered}
+use Rattle.exchange_law.proofs.Texts.{IsNibble, TextFits, each_append, nibbles, one_if}
 
--- a stub runs with the stretches of the chunks from number n on, and has taken so many characters of the first
-pub record StubAt (chunks : List Chunk) (n count : ℕ) (s : Station) : Type 0 where
+-- a stub runs that has these bytes left
+pub record StubAt (left : List ℕ) (half : Bool) (s : Station) : Type 0 where
   pub runs : is_running s.machine.mode ≡ true
-  pub is : s.stub ≡ Some (record { stretches = pieces_of (drop n chunks); count = count })
+  pub is : s.stub ≡ Some (record { left = left; half = half })
 
 -- no stub runs, and ODT is at its prompt
 pub record AtPrompt (s : Station) : Type 0 where
   pub none : s.stub ≡ None
   pub prompt : s.machine.mode ≡ Prompt
 
--- the stub is between two stretches, or has halted behind the last
-abbrev pub Gone : List Stretch → Station → Type 0
-Gone [] s = AtPrompt s
-Gone (stretch ∷ stretches) s = (is_running s.machine.mode ≡ true) × (s.stub ≡ Some (record { stretches = stretch ∷ stretches; count = 0 }))
+-- the stub has these bytes left, or has halted behind the last
+abbrev pub Stood : List ℕ → Bool → Station → Type 0
+Stood [] half s = AtPrompt s
+Stood (a ∷ left) half s = StubAt (a ∷ left) half s
 
--- the chunk under way was sent, and the stub has not taken all of it
-pub record Asking (chunks : List Chunk) (done place : ℕ) (x : Link) : Type 0 where
-  pub none_heard : place ≡ 0
-  pub silent : x.up ≡ []
-  pub count : ℕ
-  pub at : StubAt chunks done count x.station
-  pub nibbles : Each IsNibble x.down
-  pub few : count + length x.down ≤ 2 * (chunk_nr chunks done).size
-  pub more : count < 2 * (chunk_nr chunks done).size
+-- the addresses behind so many bytes of a chunk
+abbrev pub left_at : List Chunk → ℕ → ℕ → List ℕ
+left_at chunks done bytes = places_from ((chunk_nr chunks done).size - bytes) ((chunk_nr chunks done).address + bytes) ++ bytes_of (drop (done + 1) chunks)
 
--- the rest of the answer is under way, all of it, and what was heard of it is what memory gives
-pub record Intact (image : Image) (chunks : List Chunk) (done place : ℕ) (memory up : List ℕ) : Type 0 where
+-- so many bytes of the chunk under way were taken, and perhaps the first character of the next; and no more of its characters are under way than the
+-- most that were sent
+pub record Amid (chunks : List Chunk) (done most : ℕ) (x : Link) : Type 0 where
+  pub bytes : ℕ
+  pub half : Bool
+  pub at : Stood (left_at chunks done bytes) half x.station
+  pub keys : Each IsNibble x.down
+  pub few : 2 * bytes + one_if half + length x.down ≤ most
+
+-- what was answered and not heard is under way, all of it, and what was heard of it is what memory gives
+pub record Intact (image : Image) (chunks : List Chunk) (done place bytes : ℕ) (memory up : List ℕ) : Type 0 where
   pub text : List ℕ
-  pub fits : TextFits (pieces_of (drop (done + 1) chunks)) text
-  pub rest : up ≡ answer_from memory (chunk_nr chunks done).address place (2 * (chunk_nr chunks done).size - place) ++ text
+  pub fits : TextFits (left_at chunks done bytes) text
+  pub order : place ≤ 2 * bytes
+  pub rest : up ≡ answer_from memory (chunk_nr chunks done).address place (2 * bytes - place) ++ text
   pub heard : IsAnswered image (chunk_nr chunks done) memory place
-
--- the chunk under way was taken and answered; of the answer all is under way, or too little
-pub record Answered (image : Image) (chunks : List Chunk) (done place : ℕ) (x : Link) : Type 0 where
-  pub none_down : x.down ≡ []
-  pub gone : Gone (pieces_of (drop (done + 1) chunks)) x.station
-  pub answer : Intact image chunks done place x.station.machine.memory x.up ⊎ (nibbles x.up < 2 * (chunk_nr chunks done).size - place)
 
 -- behind the exchange the stub stands anywhere from the chunk under way on, or has halted
 abbrev pub IsParted : List Chunk → ℕ → Station → Type 0
-IsParted chunks done s = AtPrompt s ⊎ ((n : ℕ) × (count : ℕ) × (done ≤ n) × StubAt chunks n count s)
+IsParted chunks done s = AtPrompt s ⊎ ((left : List ℕ) × (half : Bool) × Each (IsAmong (pieces_of (drop done chunks))) left × StubAt left half s)
 
 abbrev pub IsZ : ℕ → Type 0
 IsZ c = c ≡ 90
 
-abbrev pub Stands : Image → List Chunk → ℕ → Phase → Link → Type 0
-Stands image chunks done Settle x = (x.down ≡ []) × (x.up ≡ []) × Gone (pieces_of (drop done chunks)) x.station
-Stands image chunks done (Answer place) x = Asking chunks done place x ⊎ Answered image chunks done place x
-Stands image chunks done Leave x = (x.down ≡ []) × IsParted chunks done x.station
-Stands image chunks done (Ended Complete) x = (x.down ≡ []) × AtPrompt x.station
-Stands image chunks done (Ended Broken) x = Each IsZ x.down × IsParted chunks done x.station
+-- all that was answered is under way or was heard, or less than that
+abbrev pub Answers_are : Image → List Chunk → (done place bytes : ℕ) → List ℕ → List ℕ → Type 0
+Answers_are image chunks done place bytes memory up = Intact image chunks done place bytes memory up ⊎ (place + nibbles up < 2 * bytes)
+
+abbrev pub Stands : Duplex → Image → List Chunk → ℕ → Phase → Link → Type 0
+Stands duplex image chunks done Settle x = (x.down ≡ []) × (x.up ≡ []) × Stood (bytes_of (drop done chunks)) false x.station
+Stands duplex image chunks done (Answer place) x = (a : Amid chunks done (sent_at duplex (chunk_nr chunks done) place) x) × Answers_are image chunks done place a.bytes x.station.machine.memory x.up
+Stands duplex image chunks done Leave x = Amid chunks done (2 * (chunk_nr chunks done).size) x
+Stands duplex image chunks done (Ended Complete) x = (x.down ≡ []) × AtPrompt x.station
+Stands duplex image chunks done (Ended Broken) x = Each IsZ x.down × IsParted chunks done x.station
 
 -- what holds of an exchange and its line, with so many chunks done, in a phase
-pub record Kept (image : Image) (chunks : List Chunk) (before : List ℕ) (done : ℕ) (phase : Phase) (x : Link) : Type 0 where
+pub record Kept (duplex : Duplex) (image : Image) (chunks : List Chunk) (before : List ℕ) (done : ℕ) (phase : Phase) (x : Link) : Type 0 where
   pub holds : Holds image chunks before done x.station.machine.memory
   pub wide : IsWide x.station.machine.memory
-  pub stands : Stands image chunks done phase x
+  pub stands : Stands duplex image chunks done phase x
 
 -- ---- lists
 
@@ -88,41 +91,109 @@ no_first xs rest c none first = clash (sym none ∙ first)
     clash : [] ≡ c ∷ rest → ⊥
     clash e = absurd (cc e)
 
-pub none_left : (xs : List ℕ) → length xs ≤ 0 → xs ≡ []
-none_left [] h = refl
-none_left (c ∷ xs) h = absurd (omega (arith, h))
-
 pub none_removed : (xs : List ℕ) (k : ℕ) → xs ≡ [] → k < length xs → ⊥
 none_removed xs k none below = absurd (omega (arith, below, ap length none))
 
 pub pieces_more : (chunks : List Chunk) (done : ℕ) → done < length chunks → pieces_of (drop done chunks) ≡ stretch_of (chunk_nr chunks done) ∷ pieces_of (drop (done + 1) chunks)
 pieces_more chunks done below = ap pieces_of (drop_more chunks done no_chunk below)
 
-pub gone_some : (stretches : List Stretch) (stretch : Stretch) (more : List Stretch) (s : Station) → stretches ≡ stretch ∷ more → Gone stretches s → (is_running s.machine.mode ≡ true) × (s.stub ≡ Some (record { stretches = stretches; count = 0 }))
-gone_some [] stretch more s is gone = absurd (cc)
-gone_some (one ∷ stretches) stretch more s is gone = gone
+-- ---- the addresses that are left
 
--- ---- a stub takes a character of its stretch
+pub left_first : (chunks : List Chunk) (done : ℕ) → done < length chunks → bytes_of (drop done chunks) ≡ left_at chunks done 0
+left_first chunks done below =
+    ap places (pieces_more chunks done below)
+    ∙ (ap (λ n. places_from n (chunk_nr chunks done).address ++ bytes_of (drop (done + 1) chunks)) (count (chunk_nr chunks done).address (chunk_nr chunks done).size)
+    ∙ ap (λ a. places_from ((chunk_nr chunks done).size - 0) a ++ bytes_of (drop (done + 1) chunks)) (none (chunk_nr chunks done).address))
+  where
+    count : (a n : ℕ) → a + n - a ≡ n - 0
+    count a n = omega arith
 
--- what is left of an answered stretch
-record Left (memory text : List ℕ) (more : List Stretch) (s' : Station) (answer : List ℕ) : Type 0 where
+    none : (a : ℕ) → a ≡ a + 0
+    none a = omega arith
+
+pub left_next : (chunks : List Chunk) (done bytes : ℕ) → bytes < (chunk_nr chunks done).size → left_at chunks done bytes ≡ ((chunk_nr chunks done).address + bytes) ∷ left_at chunks done (bytes + 1)
+left_next chunks done bytes less =
+    ap (λ n. places_from n ((chunk_nr chunks done).address + bytes) ++ bytes_of (drop (done + 1) chunks)) (one_less (chunk_nr chunks done).size bytes less)
+    ∙ ap (λ a. ((chunk_nr chunks done).address + bytes) ∷ (places_from ((chunk_nr chunks done).size - (bytes + 1)) a ++ bytes_of (drop (done + 1) chunks))) (again (chunk_nr chunks done).address bytes)
+  where
+    one_less : (n b : ℕ) → b < n → n - b ≡ suc (n - (b + 1))
+    one_less n b less = omega (arith, less)
+
+    again : (a b : ℕ) → a + b + 1 ≡ a + (b + 1)
+    again a b = omega arith
+
+pub left_last : (chunks : List Chunk) (done bytes : ℕ) → (chunk_nr chunks done).size ≤ bytes → left_at chunks done bytes ≡ bytes_of (drop (done + 1) chunks)
+left_last chunks done bytes le = ap (λ n. places_from n ((chunk_nr chunks done).address + bytes) ++ bytes_of (drop (done + 1) chunks)) (none (chunk_nr chunks done).size bytes le)
+  where
+    none : (n b : ℕ) → n ≤ b → n - b ≡ 0
+    none n b le = omega (arith, le)
+
+-- all of them are among the stretches
+each_more : (P Q : ℕ → Type 0) (xs : List ℕ) → ((b : ℕ) → P b → Q b) → Each P xs → Each Q xs
+each_more P Q [] h k = tt
+each_more P Q (x ∷ xs) h k = (h x k.0, each_more P Q xs h k.1)
+
+each_place : (stretch : Stretch) (more : List Stretch) (n a : ℕ) → stretch.from ≤ a → a + n ≤ stretch.to → Each (IsAmong (stretch ∷ more)) (places_from n a)
+each_place stretch more zero a from to = tt
+each_place stretch more (suc n) a from to = (inl (record { from = from; to = omega (arith, to) }), each_place stretch more n (a + 1) (omega (arith, from)) (omega (arith, to)))
+
+-- the bytes of chunks
+bytes_among : (chunks : List Chunk) → Each (IsAmong (pieces_of chunks)) (bytes_of chunks)
+bytes_among [] = tt
+bytes_among (chunk ∷ chunks) =
+    each_append (IsAmong (pieces_of (chunk ∷ chunks))) (places_from (chunk.address + chunk.size - chunk.address) chunk.address) (bytes_of chunks)
+    (each_place (stretch_of chunk) (pieces_of chunks) (chunk.address + chunk.size - chunk.address) chunk.address (omega arith) (whole chunk.address chunk.size))
+    (each_more (IsAmong (pieces_of chunks)) (IsAmong (pieces_of (chunk ∷ chunks))) (bytes_of chunks) (λ b is. inr is) (bytes_among chunks))
+  where
+    whole : (a n : ℕ) → a + (a + n - a) ≤ a + n
+    whole a n = omega arith
+
+pub left_among : (chunks : List Chunk) (done bytes : ℕ) → done < length chunks → bytes ≤ (chunk_nr chunks done).size → Each (IsAmong (pieces_of (drop done chunks))) (left_at chunks done bytes)
+left_among chunks done bytes below le =
+    subst (λ stretches. Each (IsAmong stretches) (left_at chunks done bytes)) (sym (pieces_more chunks done below))
+    (each_append (IsAmong (stretch_of (chunk_nr chunks done) ∷ pieces_of (drop (done + 1) chunks))) (places_from ((chunk_nr chunks done).size - bytes) ((chunk_nr chunks done).address + bytes)) (bytes_of (drop (done + 1) chunks))
+    (each_place (stretch_of (chunk_nr chunks done)) (pieces_of (drop (done + 1) chunks)) ((chunk_nr chunks done).size - bytes) ((chunk_nr chunks done).address + bytes) (omega arith) (whole (chunk_nr chunks done).address bytes (chunk_nr chunks done).size le))
+    (each_more (IsAmong (pieces_of (drop (done + 1) chunks))) (IsAmong (stretch_of (chunk_nr chunks done) ∷ pieces_of (drop (done + 1) chunks))) (bytes_of (drop (done + 1) chunks)) (λ b is. inr is) (bytes_among (drop (done + 1) chunks))))
+  where
+    whole : (a b n : ℕ) → b ≤ n → a + b + (n - b) ≤ a + n
+    whole a b n le = omega (arith, le)
+
+-- ---- where the stub stands behind the exchange
+
+stood_parted : (chunks : List Chunk) (done : ℕ) (left : List ℕ) (half : Bool) (s : Station) → Each (IsAmong (pieces_of (drop done chunks))) left → Stood left half s → IsParted chunks done s
+stood_parted chunks done [] half s each at = inl at
+stood_parted chunks done (a ∷ left) half s each at = inr (a ∷ left, half, each, at)
+
+pub first_parted : (chunks : List Chunk) (done : ℕ) (s : Station) → Stood (bytes_of (drop done chunks)) false s → IsParted chunks done s
+first_parted chunks done s at = stood_parted chunks done (bytes_of (drop done chunks)) false s (bytes_among (drop done chunks)) at
+
+pub amid_parted : (chunks : List Chunk) (done most : ℕ) (x : Link) → done < length chunks → most ≤ 2 * (chunk_nr chunks done).size → Amid chunks done most x → IsParted chunks done x.station
+amid_parted chunks done most x below room a = stood_parted chunks done (left_at chunks done a.bytes) a.half x.station (left_among chunks done a.bytes below (inside a.bytes (one_if a.half) (length x.down) most (chunk_nr chunks done).size a.few room)) a.at
+  where
+    inside : (b h n most size : ℕ) → 2 * b + h + n ≤ most → most ≤ 2 * size → b ≤ size
+    inside b h n most size few room = omega (arith, few, room)
+
+-- ---- the stub takes a character
+
+-- what is left behind a byte
+record Left (memory text : List ℕ) (more : List ℕ) (s' : Station) (answer : List ℕ) : Type 0 where
   pub memory_is : s'.machine.memory ≡ memory
-  pub gone : Gone more s'
+  pub at : Stood more false s'
   pub extra : List ℕ
   pub fits : TextFits more extra
   pub answer_is : answer ≡ text ++ extra
 
-answers_left : (m : Machine) (memory text : List ℕ) (more : List Stretch) (s' : Station) (answer : List ℕ) → is_running m.mode ≡ true → Answers m memory text more s' answer → Left memory text more s' answer
+answers_left : (m : Machine) (memory text : List ℕ) (more : List ℕ) (s' : Station) (answer : List ℕ) → is_running m.mode ≡ true → Answers m memory text more s' answer → Left memory text more s' answer
 answers_left m memory text [] s' answer runs (is, (extra, halts, whole)) = record {
   memory_is = ap (λ (s : Station). s.machine.memory) is;
-  gone = record { none = ap (λ (s : Station). s.stub) is; prompt = ap (λ (s : Station). s.machine.mode) is };
+  at = record { none = ap (λ (s : Station). s.stub) is; prompt = ap (λ (s : Station). s.machine.mode) is };
   extra = extra;
   fits = halts;
   answer_is = whole;
 }
-answers_left m memory text (stretch ∷ stretches) s' answer runs (is, whole) = record {
+answers_left m memory text (a ∷ left) s' answer runs (is, whole) = record {
   memory_is = ap (λ (s : Station). s.machine.memory) is;
-  gone = (ap (λ (s : Station). is_running s.machine.mode) is ∙ runs, ap (λ (s : Station). s.stub) is);
+  at = record { runs = ap (λ (s : Station). is_running s.machine.mode) is ∙ runs; is = ap (λ (s : Station). s.stub) is };
   extra = [];
   fits = refl;
   answer_is = whole ∙ sym (append-nil text);
@@ -132,60 +203,65 @@ answers_left m memory text (stretch ∷ stretches) s' answer runs (is, whole) = 
 abbrev pub met : Link → Station → List ℕ → List ℕ → Link
 met x s' rest answer = record { station = s'; down = rest; up = x.up ++ answer; lost = x.lost }
 
-pub takes_asking : (image : Image) (chunks : List Chunk) (before : List ℕ) (done place : ℕ) (x : Link) → AreApart chunks → done < length chunks → Holds image chunks before done x.station.machine.memory → IsWide x.station.machine.memory →
-    (a : Asking chunks done place x) → (c : ℕ) (rest : List ℕ) (s' : Station) (answer : List ℕ) → x.down ≡ c ∷ rest → (memory : List ℕ) → ChangesWithin (stretch_of (chunk_nr chunks done)) x.station.machine.memory memory →
-    (test : Bool) → ltb (a.count + 1) (2 * (chunk_nr chunks done).size) ≡ test → Fills test x.station.machine memory (stretch_of (chunk_nr chunks done)) (pieces_of (drop (done + 1) chunks)) a.count s' answer →
-    Kept image chunks before done (Answer place) (met x s' rest answer)
-takes_asking image chunks before done place x apart below h wide a c rest s' answer first memory changes true less (is, silent) =
-    let now : s'.machine.memory ≡ memory = ap (λ (s : Station). s.machine.memory) is in
-    let all : Each IsNibble (c ∷ rest) = subst (Each IsNibble) first a.nibbles in
-    let long : length x.down ≡ length (c ∷ rest) = ap length first in record {
-      holds = subst (Holds image chunks before done) (sym now) (within_holds image chunks before done x.station.machine.memory memory apart below h changes);
-      wide = subst IsWide (sym now) (changes.wide wide);
-      stands = inl (record {
-        none_heard = a.none_heard;
-        silent = ap (λ up. up ++ answer) a.silent ∙ silent;
-        count = a.count + 1;
-        at = record {
-          runs = ap (λ (s : Station). is_running s.machine.mode) is ∙ a.at.runs;
-          is = ap (λ (s : Station). s.stub) is ∙ ap (λ stretches. Some (record { stretches = stretches; count = a.count + 1 })) (sym (pieces_more chunks done below));
-        };
-        nibbles = all.1;
-        few = let few = a.few in omega (arith, few, long);
-        more = lower (a.count + 1) (2 * (chunk_nr chunks done).size) less;
-      });
-    }
-  where
-    lower : (a b : ℕ) → ltb a b ≡ true → a < b
-    lower a b e = grind (arith, nat_tests)
-takes_asking image chunks before done place x apart below h wide a c rest s' answer first memory changes false less fills =
-    let chunk : Chunk = chunk_nr chunks done in
-    let l : Left memory (answer_text memory (stretch_of chunk)) (pieces_of (drop (done + 1) chunks)) s' answer =
-    answers_left x.station.machine memory (answer_text memory (stretch_of chunk)) (pieces_of (drop (done + 1) chunks)) s' answer a.at.runs fills in
-    let long : length x.down ≡ length (c ∷ rest) = ap length first in
-    let last : 2 * chunk.size ≤ a.count + 1 = higher (a.count + 1) (2 * chunk.size) less in
-    let none : rest ≡ [] = none_left rest (let few = a.few in omega (arith, few, long, last)) in
-    let whole : x.up ++ answer ≡ answer_from memory chunk.address 0 (2 * chunk.size - 0) ++ l.extra =
-    ap (λ up. up ++ answer) a.silent ∙ (l.answer_is ∙ ap (λ n. answer_from memory chunk.address 0 n ++ l.extra) (nothing_off chunk)) in record {
-      holds = subst (Holds image chunks before done) (sym l.memory_is) (within_holds image chunks before done x.station.machine.memory memory apart below h changes);
-      wide = subst IsWide (sym l.memory_is) (changes.wide wide);
-      stands = inr (subst (λ n. Answered image chunks done n (met x s' rest answer)) (sym a.none_heard) (record {
-        none_down = none;
-        gone = l.gone;
-        answer = inl (subst (λ list. Intact image chunks done 0 list (x.up ++ answer)) (sym l.memory_is) (record {
-          text = l.extra;
-          fits = l.fits;
-          rest = whole;
-          heard = λ q low. absurd (omega (arith, low));
-        }));
-      }));
-    }
-  where
-    higher : (a b : ℕ) → ltb a b ≡ false → b ≤ a
-    higher a b e = grind (arith, nat_tests)
+-- the first character of a byte, or the second: the byte is answered, and what ODT prints may follow
+abbrev pub Does : List Chunk → ℕ → ℕ → List ℕ → ℕ → Station → List ℕ → Type 0
+Does chunks done bytes memory now s' answer =
+    ((now ≡ bytes) × (s'.machine.memory ≡ memory) × (answer ≡ []))
+    ⊎ ((now ≡ bytes + 1) × (bytes < (chunk_nr chunks done).size) × ChangesAt ((chunk_nr chunks done).address + bytes) memory s'.machine.memory
+    × ((extra : List ℕ) × TextFits (left_at chunks done (bytes + 1)) extra × (answer ≡ answer_text s'.machine.memory ((chunk_nr chunks done).address + bytes) ++ extra)))
 
-    nothing_off : (chunk : Chunk) → 2 * size_of (stretch_of chunk) ≡ 2 * chunk.size - 0
-    nothing_off chunk = omega arith
+pub record Took (chunks : List Chunk) (done most : ℕ) (x : Link) (bytes : ℕ) (s' : Station) (rest answer : List ℕ) : Type 0 where
+  pub next : Amid chunks done most (met x s' rest answer)
+  pub how : Does chunks done bytes x.station.machine.memory next.bytes s' answer
+
+pub takes_amid : (program : Program) (chunks : List Chunk) (done most : ℕ) (x : Link) → most ≤ 2 * (chunk_nr chunks done).size → (a : Amid chunks done most x) → (c : ℕ) (rest : List ℕ) (s' : Station) (answer : List ℕ) → x.down ≡ c ∷ rest →
+    Meets program x.station.stub x.station.machine c s' answer → Took chunks done most x a.bytes s' rest answer
+takes_amid program chunks done most x room a c rest s' answer first meets = by_half a.half refl (subst (λ b. StubMeets b x.station.machine here a.half s' answer) all.0 stub)
+  where
+    all : Each IsNibble (c ∷ rest)
+    all = subst (Each IsNibble) first a.keys
+
+    long : length x.down ≡ length (c ∷ rest)
+    long = ap length first
+
+    less : a.bytes < (chunk_nr chunks done).size
+    less = let few = a.few in omega (arith, few, long, room)
+
+    here : List ℕ
+    here = ((chunk_nr chunks done).address + a.bytes) ∷ left_at chunks done (a.bytes + 1)
+
+    stands : StubAt (((chunk_nr chunks done).address + a.bytes) ∷ left_at chunks done (a.bytes + 1)) a.half x.station
+    stands = subst (λ left. Stood left a.half x.station) (left_next chunks done a.bytes less) a.at
+
+    stub : StubMeets (is_nibble c) x.station.machine (((chunk_nr chunks done).address + a.bytes) ∷ left_at chunks done (a.bytes + 1)) a.half s' answer
+    stub = subst (λ stub. Meets program stub x.station.machine c s' answer) stands.is meets
+
+    by_half : (half : Bool) → a.half ≡ half → Fills a.half x.station.machine ((chunk_nr chunks done).address + a.bytes) (left_at chunks done (a.bytes + 1)) s' answer → Took chunks done most x a.bytes s' rest answer
+    by_half half is fills = go half (subst (λ h. Fills h x.station.machine ((chunk_nr chunks done).address + a.bytes) (left_at chunks done (a.bytes + 1)) s' answer) is fills) (subst (λ h. 2 * a.bytes + one_if h + length x.down ≤ most) is a.few)
+      where
+        go : (half : Bool) → Fills half x.station.machine ((chunk_nr chunks done).address + a.bytes) (left_at chunks done (a.bytes + 1)) s' answer → 2 * a.bytes + one_if half + length x.down ≤ most → Took chunks done most x a.bytes s' rest answer
+        go false (now, none) few = record {
+          next = record {
+            bytes = a.bytes;
+            half = true;
+            at = subst (λ left. Stood left true s') (sym (left_next chunks done a.bytes less))
+                (record { runs = ap (λ (s : Station). is_running s.machine.mode) now ∙ stands.runs; is = ap (λ (s : Station). s.stub) now });
+            keys = all.1;
+            few = omega (arith, few, long);
+          };
+          how = inl (refl, ap (λ (s : Station). s.machine.memory) now, none);
+        }
+        go true (memory, changes, answers) few =
+            let l : Left memory (answer_text memory ((chunk_nr chunks done).address + a.bytes)) (left_at chunks done (a.bytes + 1)) s' answer =
+            answers_left x.station.machine memory (answer_text memory ((chunk_nr chunks done).address + a.bytes)) (left_at chunks done (a.bytes + 1)) s' answer stands.runs answers in record {
+              next = record { bytes = a.bytes + 1; half = false; at = l.at; keys = all.1; few = omega (arith, few, long) };
+              how = inr (
+                refl,
+                less,
+                subst (λ m. ChangesAt ((chunk_nr chunks done).address + a.bytes) x.station.machine.memory m) (sym l.memory_is) changes,
+                (l.extra, l.fits, subst (λ m. answer ≡ answer_text m ((chunk_nr chunks done).address + a.bytes) ++ l.extra) (sym l.memory_is) l.answer_is),
+              );
+            }
 
 -- ---- `Z` behind the exchange
 
@@ -216,9 +292,9 @@ z_halts program chunks done s s' answer (inl at) meets = at_odt s.machine.mode a
         prompt = ap (λ (t : Station). t.machine.mode) now ∙ goes s.machine.mode is;
       };
     }
-z_halts program chunks done s s' answer (inr (n, count, le, at)) meets = by_stub (subst (λ stub. Meets program stub s.machine 90 s' answer) at.is meets)
+z_halts program chunks done s s' answer (inr (left, half, each, at)) meets = by_stub (subst (λ stub. Meets program stub s.machine 90 s' answer) at.is meets)
   where
-    by_stub : StubMeets false s.machine (pieces_of (drop n chunks)) count s' answer → IsHalted s s'
+    by_stub : StubMeets false s.machine left half s' answer → IsHalted s s'
     by_stub (now, halts) = record {
       memory = ap (λ (t : Station). t.machine.memory) now;
       back = record { none = ap (λ (t : Station). t.stub) now; prompt = ap (λ (t : Station). t.machine.mode) now };

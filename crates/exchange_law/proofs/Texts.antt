@@ -1,5 +1,5 @@
 -- Texts of a stub, and how many of its characters a text has.
-use Rattle.std.proofs.Common.{◌≡◌, ℕ, zero, suc, ◌+◌, ◌-◌, ◌*◌, ◌/◌, ◌%◌, ◌<◌, ◌≤◌, ◌⊎◌, Bool, true, false, List, [], ◌∷◌, ◌++◌, length, Option, Some, None, unwrap_or, inl, inr, refl, arith, ap, sym, ◌∙◌}
+use Rattle.std.proofs.Common.{◌≡◌, ℕ, zero, suc, ◌+◌, ◌-◌, ◌*◌, ◌/◌, ◌%◌, ◌<◌, ◌≤◌, ◌⊎◌, Bool, true, false, List, [], ◌∷◌, ◌++◌, length, Option, Some, None, unwrap_or, inl, inr, refl, arith, ap, sym, subst, ◌∙◌}
 use Rattle.std.proofs.lemmas.Bool.Decides.{nat_tests}
 use Rattle.std.specs.Prelude.{◌==◌, if◌then◌else◌, IsSome, IfSome, slice_index}
 use Rattle.std.specs.FinMap.{get}
@@ -9,8 +9,7 @@ use Rattle.tape_image.specs.Memory.{byte_of}
 use Rattle.tape_image.specs.Plan.{PlanValue, IsPlan}
 use Rattle.odt_machine.specs.Machine.{IsWide}
 use Rattle.exchange_core.specs.declared.chunk.Chunk.{Chunk}
-use Rattle.exchange_core.specs.Chunk.{answer_for, chunk_keys, is_nibble, key_at, key_for, nibble_of, told}
-use Rattle.exchange_core.specs.declared.stretch.Stretch.{Stretch}
+use Rattle.exchange_core.specs.Chunk.{answer_for, is_nibble, key_for, keys_from, nibble_of, told}
 use Rattle.exchange_law.specs.Station.{Each, IsHaltCharacter, IsHaltText, answer_from}
 
 -- a character of a stub
@@ -45,7 +44,7 @@ nibble_small byte place small = here (place % 2 == 0)
 is_one : (c : ℕ) → 96 ≤ c → c ≤ 111 → is_nibble c ≡ true
 is_one c low high = grind (arith, nat_tests)
 
-key_is_one : (byte place : ℕ) → byte < 256 → IsNibble (key_for byte place)
+pub key_is_one : (byte place : ℕ) → byte < 256 → IsNibble (key_for byte place)
 key_is_one byte place small = let n = nibble_small byte place small in is_one (key_for byte place) (omega arith) (omega (arith, n))
 
 pub answer_is_one : (byte place : ℕ) → byte < 256 → IsNibble (answer_for byte place)
@@ -60,12 +59,10 @@ told_small plan is a = here (get plan.image a) (is.bytes a)
     here None h = omega arith
     here (Some byte) h = h
 
-pub keys_are_nibbles : (image : Image) (chunk : Chunk) → ((a : ℕ) → told image a < 256) → (places : ℕ) → Each IsNibble (chunk_keys image chunk places)
-unfolding chunk_keys
-keys_are_nibbles image chunk small zero = tt
-keys_are_nibbles image chunk small (suc place) =
-    each_append IsNibble (chunk_keys image chunk place) (key_at image chunk place ∷ []) (keys_are_nibbles image chunk small place)
-    (key_is_one (told image (chunk.address + place / 2)) place (small (chunk.address + place / 2)), tt)
+pub keys_are_nibbles : (image : Image) (chunk : Chunk) → ((a : ℕ) → told image a < 256) → (place count : ℕ) → Each IsNibble (keys_from image chunk place count)
+keys_are_nibbles image chunk small place zero = tt
+keys_are_nibbles image chunk small place (suc count) =
+    (key_is_one (told image (chunk.address + place / 2)) place (small (chunk.address + place / 2)), keys_are_nibbles image chunk small (place + 1) count)
 
 -- ---- what is answered
 
@@ -91,6 +88,16 @@ nibbles_removed [] (suc k) = omega arith
 nibbles_removed (c ∷ xs) zero = omega arith
 nibbles_removed (c ∷ xs) (suc k) = let less = nibbles_removed xs k in omega (arith, less)
 
+pub nibbles_append : (xs ys : List ℕ) → nibbles (xs ++ ys) ≡ nibbles xs + nibbles ys
+nibbles_append [] ys = none (nibbles ys)
+  where
+    none : (n : ℕ) → n ≡ 0 + n
+    none n = omega arith
+nibbles_append (c ∷ xs) ys = ap (λ n. one_if (is_nibble c) + n) (nibbles_append xs ys) ∙ again (one_if (is_nibble c)) (nibbles xs) (nibbles ys)
+  where
+    again : (a b c : ℕ) → a + (b + c) ≡ a + b + c
+    again a b c = omega arith
+
 -- what ODT prints has none
 halt_is_none : (c : ℕ) → IsHaltCharacter c → is_nibble c ≡ false
 halt_is_none c (inl digit) = grind (arith, nat_tests)
@@ -107,16 +114,24 @@ halt_has_none (c ∷ text) h = ap (λ b. one_if b + nibbles text) (halt_is_none 
 
 -- ---- an answer and the text behind it
 
--- behind the answer of the last stretch ODT may print something, behind another nothing comes
-abbrev pub TextFits : List Stretch → List ℕ → Type 0
+-- behind the answer of the last byte ODT may print something, behind another nothing comes
+abbrev pub TextFits : List ℕ → List ℕ → Type 0
 TextFits [] text = IsHaltText text
 TextFits (stretch ∷ stretches) text = text ≡ []
 
-pub fitting_has_none : (stretches : List Stretch) (text : List ℕ) → TextFits stretches text → nibbles text ≡ 0
+pub fits_none : (left : List ℕ) (text : List ℕ) → text ≡ [] → TextFits left text
+fits_none [] text none = subst IsHaltText (sym none) tt
+fits_none (a ∷ left) text none = none
+
+pub fits_some : (left : List ℕ) (a : ℕ) (more : List ℕ) (text : List ℕ) → left ≡ a ∷ more → TextFits left text → text ≡ []
+fits_some [] a more text is fits = absurd (cc)
+fits_some (one ∷ left) a more text is fits = fits
+
+pub fitting_has_none : (stretches : List ℕ) (text : List ℕ) → TextFits stretches text → nibbles text ≡ 0
 fitting_has_none [] text h = halt_has_none text h
 fitting_has_none (stretch ∷ stretches) text h = ap nibbles h
 
-fits_removed : (stretches : List Stretch) (text : List ℕ) (k : ℕ) → k < length text → TextFits stretches text → TextFits stretches (remove text k)
+fits_removed : (stretches : List ℕ) (text : List ℕ) (k : ℕ) → k < length text → TextFits stretches text → TextFits stretches (remove text k)
 fits_removed [] text k below h = each_removed IsHaltCharacter text k h
 fits_removed (stretch ∷ stretches) text k below h = absurd (omega (arith, below, ap length h))
 
@@ -125,7 +140,7 @@ unfolding answer_from
 answer_more memory address place left = refl
 
 -- where a character of it is lost, it was one of the answer, and then too few are left; or one of the text
-pub answer_loses : (memory : List ℕ) → IsWide memory → (address place left : ℕ) (stretches : List Stretch) (text : List ℕ) (k : ℕ) → TextFits stretches text → k < length (answer_from memory address place left ++ text) →
+pub answer_loses : (memory : List ℕ) → IsWide memory → (address place left : ℕ) (stretches : List ℕ) (text : List ℕ) (k : ℕ) → TextFits stretches text → k < length (answer_from memory address place left ++ text) →
     (nibbles (remove (answer_from memory address place left ++ text) k) < left)
     ⊎ ((less : List ℕ) × TextFits stretches less × (remove (answer_from memory address place left ++ text) k ≡ answer_from memory address place left ++ less))
 unfolding answer_from
@@ -135,7 +150,7 @@ answer_loses memory wide address place (suc left) stretches text zero fits below
     here : (left : ℕ) → nibbles (answer_from memory address (place + 1) left ++ text) ≡ left → nibbles (answer_from memory address (place + 1) left ++ text) < suc left
     here left e = omega (arith, e)
 
-    answer_has : (memory : List ℕ) → IsWide memory → (address place left : ℕ) (stretches : List Stretch) (text : List ℕ) → TextFits stretches text → nibbles (answer_from memory address place left ++ text) ≡ left
+    answer_has : (memory : List ℕ) → IsWide memory → (address place left : ℕ) (stretches : List ℕ) (text : List ℕ) → TextFits stretches text → nibbles (answer_from memory address place left ++ text) ≡ left
     answer_has memory wide address place zero stretches text fits = fitting_has_none stretches text fits
     answer_has memory wide address place (suc left) stretches text fits =
         ap (λ b. one_if b + nibbles (answer_from memory address (place + 1) left ++ text)) (answer_is_one (byte_of memory (address + place / 2)) place (byte_small memory wide (address + place / 2)))
@@ -149,6 +164,59 @@ answer_loses memory wide address place (suc left) stretches text (suc k) fits be
     more : (b : Bool) (n left : ℕ) → n < left → one_if b + n < suc left
     more true n left few = omega (arith, few)
     more false n left few = omega (arith, few)
+
+pub answer_none : (memory : List ℕ) (address place : ℕ) → answer_from memory address place 0 ≡ []
+unfolding answer_from
+answer_none memory address place = refl
+
+-- two characters more: those of the next byte
+pub answer_grows : (memory : List ℕ) (address place n j : ℕ) → place + n ≡ 2 * j →
+    answer_from memory address place (n + 2) ≡ answer_from memory address place n ++ (answer_for (byte_of memory (address + j)) 0 ∷ answer_for (byte_of memory (address + j)) 1 ∷ [])
+unfolding answer_from
+answer_grows memory address place zero j is =
+    ap (λ k. answer_from memory address place k) (zero_two tt)
+    ∙ (ap (λ k. answer_for (byte_of memory (address + k)) place ∷ answer_for (byte_of memory (address + (place + 1) / 2)) (place + 1) ∷ []) (half place j is)
+    ∙ (ap (λ k. answer_for (byte_of memory (address + j)) place ∷ answer_for (byte_of memory (address + k)) (place + 1) ∷ []) (half_more place j is)
+    ∙ (ap (λ (p : ℕ). answer_for (byte_of memory (address + j)) place ∷ (111 - (if p == 0 then byte_of memory (address + j) / 16 else byte_of memory (address + j) % 16)) ∷ []) (odd place j is)
+    ∙ ap (λ (p : ℕ). (111 - (if p == 0 then byte_of memory (address + j) / 16 else byte_of memory (address + j) % 16)) ∷ answer_for (byte_of memory (address + j)) 1 ∷ []) (even place j is))))
+  where
+    zero_two : Unit {0} → 0 + 2 ≡ 2
+    zero_two u = omega arith
+
+    half : (p j : ℕ) → p + 0 ≡ 2 * j → p / 2 ≡ j
+    half p j is = omega (arith, is)
+
+    half_more : (p j : ℕ) → p + 0 ≡ 2 * j → (p + 1) / 2 ≡ j
+    half_more p j is = omega (arith, is)
+
+    even : (p j : ℕ) → p + 0 ≡ 2 * j → p % 2 ≡ 0
+    even p j is = omega (arith, is)
+
+    odd : (p j : ℕ) → p + 0 ≡ 2 * j → (p + 1) % 2 ≡ 1
+    odd p j is = omega (arith, is)
+answer_grows memory address place (suc n) j is =
+    ap (λ k. answer_from memory address place k) (one n) ∙ ap (λ list. answer_for (byte_of memory (address + place / 2)) place ∷ list) (answer_grows memory address (place + 1) n j (next place n j is))
+  where
+    one : (n : ℕ) → suc n + 2 ≡ suc (n + 2)
+    one n = omega arith
+
+    next : (p n j : ℕ) → p + suc n ≡ 2 * j → p + 1 + n ≡ 2 * j
+    next p n j is = omega (arith, is)
+
+-- an answer of bytes that did not change
+pub answer_same : (before now : List ℕ) (address place n j : ℕ) → place + n ≤ 2 * j → ((i : ℕ) → i < j → byte_of now (address + i) ≡ byte_of before (address + i)) →
+    answer_from now address place n ≡ answer_from before address place n
+unfolding answer_from
+answer_same before now address place zero j le same = refl
+answer_same before now address place (suc n) j le same =
+    ap (λ b. answer_for b place ∷ answer_from now address (place + 1) n) (same (place / 2) (inside place n j le))
+    ∙ ap (λ list. answer_for (byte_of before (address + place / 2)) place ∷ list) (answer_same before now address (place + 1) n j (less place n j le) same)
+  where
+    inside : (p n j : ℕ) → p + suc n ≤ 2 * j → p / 2 < j
+    inside p n j le = omega (arith, le)
+
+    less : (p n j : ℕ) → p + suc n ≤ 2 * j → p + 1 + n ≤ 2 * j
+    less p n j le = omega (arith, le)
 
 -- ---- equal answers are of equal bytes
 

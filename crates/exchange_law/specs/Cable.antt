@@ -8,6 +8,7 @@ use Rattle.host_core.specs.declared.heard.Heard.TheVariants.{Got, Quiet}
 use Rattle.host_devices.specs.declared.item.Item.{Item}
 use Rattle.host_devices.specs.declared.item.Item.TheVariants.{Heard as Came, Sent}
 use Rattle.exchange_core.specs.declared.chunk.Chunk.{Chunk}
+use Rattle.exchange_core.specs.declared.duplex.Duplex.{Duplex}
 use Rattle.exchange_core.specs.declared.exchange.Exchange.{Exchange}
 use Rattle.exchange_core.specs.declared.phase.End.TheVariants.{Broken, Complete}
 use Rattle.exchange_core.specs.declared.phase.Phase.{Phase}
@@ -76,7 +77,8 @@ pub record GoesWell (plan : PlanValue) (chunks : List Chunk) (before : List ℕ)
 -- a line that loses nothing brings everything in, however deliveries follow one another
 abbrev pub CleanLinesBringAllIn : Type 0
 CleanLinesBringAllIn =
-    (plan : PlanValue) (from : ℕ) (chunks : List Chunk) (memory : List ℕ) (things : List Heard) (y : Cable) → AreChunks plan from chunks → IsWide memory →
+    (plan : PlanValue) (from : ℕ) (duplex : Duplex) (chunks : List Chunk) (memory : List ℕ) (things : List Heard) (y : Cable) →
+    AreChunks plan from chunks → IsWide memory →
     ((k : ℕ) → k < length chunks → (chunk_nr chunks k).address + (chunk_nr chunks k).size ≤ top_of memory) →
-    Passes (still memory chunks) (dialogue plan.image chunks (begun from) things) y →
-    GoesWell plan chunks memory things (led plan.image chunks (begun from) things) y
+    Passes (still memory chunks) (dialogue plan.image chunks (begun from duplex) things) y →
+    GoesWell plan chunks memory things (led plan.image chunks (begun from duplex) things) y

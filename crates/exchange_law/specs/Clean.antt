@@ -8,6 +8,7 @@ use Rattle.host_core.specs.declared.heard.Heard.{Heard}
 use Rattle.host_core.specs.declared.heard.Heard.TheVariants.{Got, Quiet}
 use Rattle.host_devices.specs.Dialogue.{keys_of}
 use Rattle.exchange_core.specs.declared.chunk.Chunk.{Chunk}
+use Rattle.exchange_core.specs.declared.duplex.Duplex.{Duplex}
 use Rattle.exchange_core.specs.declared.exchange.Exchange.{Exchange}
 use Rattle.exchange_core.specs.declared.phase.End.TheVariants.{Complete}
 use Rattle.exchange_core.specs.declared.phase.Phase.TheVariants.{Ended}
@@ -30,9 +31,9 @@ abbrev pub all_heard : Filling → List Heard
 all_heard f = Quiet ∷ map Got f.answers
 
 -- what comes of it
-pub record IsBroughtIn (plan : PlanValue) (from : ℕ) (chunks : List Chunk) (memory : List ℕ) (f : Filling) (e : Exchange) : Type 0 where
+pub record IsBroughtIn (plan : PlanValue) (from : ℕ) (duplex : Duplex) (chunks : List Chunk) (memory : List ℕ) (f : Filling) (e : Exchange) : Type 0 where
   -- the host sends these characters and no others, and ends complete
-  pub said : keys_of (dialogue plan.image chunks (begun from) (all_heard f)) ≡ all_keys plan.image chunks
+  pub said : keys_of (dialogue plan.image chunks (begun from duplex) (all_heard f)) ≡ all_keys plan.image chunks
   pub complete : e.phase ≡ Ended Complete
   pub all : e.done ≡ length chunks
   -- the stub has nothing more to fill
@@ -43,7 +44,7 @@ pub record IsBroughtIn (plan : PlanValue) (from : ℕ) (chunks : List Chunk) (me
 -- a line that loses nothing brings everything in
 abbrev pub CleanExchangesComplete : Type 0
 CleanExchangesComplete =
-    (plan : PlanValue) (from : ℕ) (chunks : List Chunk) (memory : List ℕ) → AreChunks plan from chunks → IsWide memory →
+    (plan : PlanValue) (from : ℕ) (duplex : Duplex) (chunks : List Chunk) (memory : List ℕ) → AreChunks plan from chunks → IsWide memory →
     ((k : ℕ) → k < length chunks → (chunk_nr chunks k).address + (chunk_nr chunks k).size ≤ top_of memory) →
-    IsBroughtIn plan from chunks memory (stub_behind plan.image chunks memory)
-    (led plan.image chunks (begun from) (all_heard (stub_behind plan.image chunks memory)))
+    IsBroughtIn plan from duplex chunks memory (stub_behind plan.image chunks memory)
+    (led plan.image chunks (begun from duplex) (all_heard (stub_behind plan.image chunks memory)))

@@ -1,5 +1,5 @@
 -- What an exchange with a stub says, and what may be trusted of it.
-use Rattle.std.specs.Prelude.{◌≡◌, ℕ, ◌+◌, ◌<◌, ◌≤◌, true, List, [], ◌∷◌, ◌++◌, length, map, drop, Some, None}
+use Rattle.std.specs.Prelude.{◌≡◌, ℕ, ◌+◌, ◌<◌, ◌≤◌, true, false, List, [], ◌∷◌, ◌++◌, length, map, drop, Some, None}
 use Rattle.std.specs.FinMap.{get}
 use Rattle.tape_image.specs.Image.{Image}
 use Rattle.tape_image.specs.Memory.{byte_of, top_of}
@@ -12,13 +12,14 @@ use Rattle.line_world.specs.Safe.{FirstStand}
 use Rattle.host_devices.specs.declared.item.Item.{Item}
 use Rattle.host_devices.specs.declared.item.Item.TheVariants.{Heard as Came, Sent}
 use Rattle.exchange_core.specs.declared.chunk.Chunk.{Chunk}
+use Rattle.exchange_core.specs.declared.duplex.Duplex.{Duplex}
 use Rattle.exchange_core.specs.declared.exchange.Exchange.{Exchange}
 use Rattle.exchange_core.specs.declared.phase.End.TheVariants.{Complete}
 use Rattle.exchange_core.specs.declared.phase.Phase.TheVariants.{Ended}
 use Rattle.exchange_core.specs.declared.stretch.Stretch.{Stretch}
 use Rattle.exchange_core.specs.Chunk.{AreChunks, IsIn, chunk_nr}
 use Rattle.exchange_core.specs.Exchange.{IsExchange, advance, begun, led}
-use Rattle.exchange_core.specs.Stretch.{stretch_of}
+use Rattle.exchange_core.specs.Stretch.{places, stretch_of}
 use Rattle.exchange_law.specs.Line.{Link, Passes}
 use Rattle.exchange_law.specs.Station.{Program}
 use Rattle.exchange_law.specs.Unsettled.{IsAmong, IsUnsettled}
@@ -34,9 +35,13 @@ dialogue image chunks e [] = []
 dialogue image chunks e (heard ∷ more) =
     Came heard ∷ (said_all (advance image chunks e heard).keys ++ dialogue image chunks (advance image chunks e heard).next more)
 
--- the bytes of these chunks, as a stub takes them
+-- the bytes of these chunks
 abbrev pub pieces_of : List Chunk → List Stretch
 pieces_of chunks = map stretch_of chunks
+
+-- their addresses, in their order
+abbrev pub bytes_of : List Chunk → List ℕ
+bytes_of chunks = places (pieces_of chunks)
 
 -- an exchange may begin over this line: nothing is under way, and a stub runs that has taken nothing yet and is to fill these chunks, all of which lie
 -- in memory
@@ -45,7 +50,7 @@ pub record MayExchange (chunks : List Chunk) (x : Link) : Type 0 where
   pub silent : x.up ≡ []
   pub console : IsMachine x.station.machine
   pub runs : is_running x.station.machine.mode ≡ true
-  pub stub : x.station.stub ≡ Some (record { stretches = pieces_of chunks; count = 0 })
+  pub stub : x.station.stub ≡ Some (record { left = bytes_of chunks; half = false })
   pub room : (k : ℕ) → k < length chunks → (chunk_nr chunks k).address + (chunk_nr chunks k).size ≤ top_of x.station.machine.memory
 
 -- the first chunks, so many, stand in memory, and outside of all chunks it is what it was
@@ -73,11 +78,12 @@ pub record IsExchanged (program : Program) (plan : PlanValue) (chunks : List Chu
   -- from now on only bytes of the chunks that are not done may change
   pub left : IsUnsettled program (IsAmong (pieces_of (drop e.done chunks))) y
 
--- an exchange over a line: its plan, how many words were verified before it, its chunks; what was heard, what was said on the line, and what the host was
--- about to send where it was stopped
+-- an exchange over a line: its plan, how many words were verified before it, whether it sends while answers come, its chunks; what was heard, what was
+-- said on the line, and what the host was about to send where it was stopped
 pub record Exchanging : Type 0 where
   pub plan : PlanValue
   pub from : ℕ
+  pub duplex : Duplex
   pub chunks : List Chunk
   pub heard : List Heard
   pub items : List Item
@@ -85,14 +91,14 @@ pub record Exchanging : Type 0 where
 
 -- the exchange that it became
 abbrev pub exchange_of : Exchanging → Exchange
-exchange_of o = led o.plan.image o.chunks (begun o.from) o.heard
+exchange_of o = led o.plan.image o.chunks (begun o.from o.duplex) o.heard
 
 -- it is one, from the line that it finds to the line that it leaves
 pub record IsExchanging (program : Program) (x : Link) (o : Exchanging) (y : Link) : Type 0 where
   pub chunks : AreChunks o.plan o.from o.chunks
   pub begins : MayExchange o.chunks x
   -- the host says what the exchange decides, and may be stopped before any character
-  pub stopped : dialogue o.plan.image o.chunks (begun o.from) o.heard ≡ o.items ++ said_all o.unsent
+  pub stopped : dialogue o.plan.image o.chunks (begun o.from o.duplex) o.heard ≡ o.items ++ said_all o.unsent
   -- the line delivers and loses as a line may
   pub passes : Passes program x o.items y
 

@@ -6,7 +6,7 @@ use Rattle.odt_machine.specs.Laws.{is_running}
 use Rattle.odt_machine.specs.declared.mode.Mode.TheVariants.{Running}
 use Rattle.processor.specs.Machine.{Machine, Runs}
 use Rattle.exchange_core.specs.declared.stretch.Stretch.{Stretch}
-use Rattle.exchange_core.specs.Stretch.{pieces}
+use Rattle.exchange_core.specs.Stretch.{places}
 use Rattle.exchange_law.specs.Station.{Station, Program, after_odt}
 use Rattle.exchange_law.specs.Line.{Link as Line}
 use Rattle.stub.specs.Decoder.{stub_at}
@@ -14,15 +14,15 @@ use Rattle.stub.specs.Law.{waiting}
 use Rattle.stub.specs.Seen.{Bench, held}
 use Rattle.exchange_law.specs.StubStation.{BenchRun, MayRun, PassesAsAStation}
 
--- the chunks of a stub's stretches; a stub without any halts at once, and counts as none
-abbrev pub chunks_of : Option (List Stretch) → Option (List Stretch)
-chunks_of None = None
-chunks_of (Some []) = None
-chunks_of (Some (stretch ∷ stretches)) = Some (pieces (stretch ∷ stretches))
+-- the bytes of a stub's stretches; a stub without any halts at once, and counts as none
+abbrev pub bytes_in : Option (List Stretch) → Option (List ℕ)
+bytes_in None = None
+bytes_in (Some []) = None
+bytes_in (Some (stretch ∷ stretches)) = Some (places (stretch ∷ stretches))
 
--- which chunks a stub fills that stands in a memory at an address, where one stands there
+-- which bytes a stub fills that stands in a memory at an address, where one stands there
 abbrev pub program : Program
-program memory address = chunks_of (stub_at memory address)
+program memory address = bytes_in (stub_at memory address)
 
 -- a key at ODT, and the stub with stretches that it is to start: where it stands, and its stretches
 pub record StubStart : Type 0 where

@@ -1,7 +1,7 @@
--- A station: a machine at whose console ODT listens, or on which a program runs, which may be a stub (this project's choice). A stub takes stretches of
--- memory one after another: for each it hears two characters a byte, then it answers with what memory holds there, then the next; behind the last it halts.
+-- A station: a machine at whose console ODT listens, or on which a program runs, which may be a stub (this project's choice). A stub takes bytes
+-- one after another: for each it hears two characters, then it answers two with what memory holds there, then the next; behind the last it halts.
 -- What it does is said as a host sees it, and no more than a host relies on: how it makes bytes of characters is left open.
-use Rattle.std.specs.Prelude.{◌≡◌, ℕ, zero, suc, ◌+◌, ◌-◌, ◌*◌, ◌/◌, ◌<◌, ◌≤◌, ◌⊎◌, Bool, true, false, nat_lt, ⊤}
+use Rattle.std.specs.Prelude.{◌≡◌, ◌≢◌, ℕ, zero, suc, ◌+◌, ◌/◌, ◌⊎◌, Bool, true, false, ⊤}
 use Rattle.std.specs.Prelude.{List, [], ◌∷◌, ◌++◌, length, Option, Some, None}
 use Rattle.octal.specs.Octal.{is_digit}
 use Rattle.tape_image.specs.Memory.{byte_of}
@@ -11,33 +11,23 @@ use Rattle.odt_machine.specs.Laws.{is_running}
 use Rattle.odt_machine.specs.Machine.{Machine, IsWide}
 use Rattle.odt_machine.specs.declared.mode.Mode.{Mode}
 use Rattle.odt_machine.specs.declared.mode.Mode.TheVariants.{Prompt, Running}
-use Rattle.exchange_core.specs.declared.stretch.Stretch.{Stretch}
 use Rattle.exchange_core.specs.Chunk.{answer_for, is_nibble}
 
--- a stub that runs: the stretches that it has still to fill, and how many characters for the first it has taken
+-- a stub that runs: where the bytes go that it has still to take, in their order, and whether it has taken the first character of the next
 pub record Stub : Type 0 where
-  pub stretches : List Stretch
-  pub count : ℕ
+  pub left : List ℕ
+  pub half : Bool
 
 -- a machine, and the stub that runs on it, where one does
 pub record Station : Type 0 where
   pub machine : Machine
   pub stub : Option Stub
 
--- how many bytes a stretch has
-abbrev pub size_of : Stretch → ℕ
-size_of stretch = stretch.to - stretch.from
-
--- an address is one of the stretch's
-pub record IsInStretch (stretch : Stretch) (b : ℕ) : Type 0 where
-  pub from : stretch.from ≤ b
-  pub to : b < stretch.to
-
--- memory changed within the stretch alone
-pub record ChangesWithin (stretch : Stretch) (before now : List ℕ) : Type 0 where
+-- memory changed at one address alone
+pub record ChangesAt (a : ℕ) (before now : List ℕ) : Type 0 where
   pub size : length now ≡ length before
   pub wide : IsWide before → IsWide now
-  pub bytes : (b : ℕ) → (IsInStretch stretch b → ⊥) → byte_of now b ≡ byte_of before b
+  pub bytes : (b : ℕ) → b ≢ a → byte_of now b ≡ byte_of before b
 
 -- what ODT may print where a program halts: an address, in lines of its own, and its prompt
 abbrev pub IsHaltCharacter : ℕ → Type 0
@@ -57,44 +47,42 @@ unfoldable pub answer_from : List ℕ → (address place left : ℕ) → List �
 answer_from memory address place zero = []
 answer_from memory address place (suc left) = answer_for (byte_of memory (address + place / 2)) place ∷ answer_from memory address (place + 1) left
 
--- the answer for a stretch: two characters for each byte, as memory holds it
-abbrev pub answer_text : List ℕ → Stretch → List ℕ
-answer_text memory stretch = answer_from memory stretch.from 0 (2 * size_of stretch)
+-- the answer for a byte: two characters, as memory holds it
+abbrev pub answer_text : List ℕ → ℕ → List ℕ
+answer_text memory a = answer_for (byte_of memory a) 0 ∷ answer_for (byte_of memory a) 1 ∷ []
 
 -- the stub halted over this memory: ODT is at its prompt
 abbrev pub halted : Machine → List ℕ → Station
 halted m memory = record { machine = record m { memory = memory; mode = Prompt }; stub = None }
 
 -- the stub runs on
-abbrev pub running : Machine → List ℕ → List Stretch → ℕ → Station
-running m memory stretches count = record { machine = record m { memory = memory }; stub = Some (record { stretches = stretches; count = count }) }
+abbrev pub running : Machine → List ℕ → List ℕ → Bool → Station
+running m memory left half = record { machine = record m { memory = memory }; stub = Some (record { left = left; half = half }) }
 
--- behind the last character for a stretch: its answer, and then the next stretch, or the halt
-abbrev pub Answers : Machine → List ℕ → List ℕ → List Stretch → Station → List ℕ → Type 0
+-- behind the last character for a byte: its answer, and then the next byte, or the halt
+abbrev pub Answers : Machine → List ℕ → List ℕ → List ℕ → Station → List ℕ → Type 0
 Answers m memory text [] station' answer = (station' ≡ halted m memory) × ((more : List ℕ) × IsHaltText more × (answer ≡ text ++ more))
-Answers m memory text (next ∷ stretches) station' answer = (station' ≡ running m memory (next ∷ stretches) 0) × (answer ≡ text)
+Answers m memory text (next ∷ left) station' answer = (station' ≡ running m memory (next ∷ left) false) × (answer ≡ text)
 
--- a character for a stretch was taken: are more to come?
-abbrev pub Fills : Bool → Machine → List ℕ → Stretch → List Stretch → ℕ → Station → List ℕ → Type 0
-Fills true m memory stretch stretches count station' answer = (station' ≡ running m memory (stretch ∷ stretches) (count + 1)) × (answer ≡ [])
-Fills false m memory stretch stretches count station' answer = Answers m memory (answer_text memory stretch) stretches station' answer
+-- a character for a byte was taken: was it the second?
+abbrev pub Fills : Bool → Machine → ℕ → List ℕ → Station → List ℕ → Type 0
+Fills false m a left station' answer = (station' ≡ running m m.memory (a ∷ left) true) × (answer ≡ [])
+Fills true m a left station' answer = (memory : List ℕ) × ChangesAt a m.memory memory × Answers m memory (answer_text memory a) left station' answer
 
--- what a stub makes of a character: of a nibble it may change memory within its first stretch; anything else halts it
-abbrev pub StubMeets : Bool → Machine → List Stretch → ℕ → Station → List ℕ → Type 0
-StubMeets false m stretches count station' answer = (station' ≡ halted m m.memory) × IsHaltText answer
-StubMeets true m [] count station' answer = (station' ≡ halted m m.memory) × IsHaltText answer
-StubMeets true m (stretch ∷ stretches) count station' answer =
-    (memory : List ℕ) × ChangesWithin stretch m.memory memory
-    × Fills (nat_lt (count + 1) (2 * size_of stretch)) m memory stretch stretches count station' answer
+-- what a stub makes of a character: of a nibble it may change memory where the next byte goes; anything else halts it
+abbrev pub StubMeets : Bool → Machine → List ℕ → Bool → Station → List ℕ → Type 0
+StubMeets false m left half station' answer = (station' ≡ halted m m.memory) × IsHaltText answer
+StubMeets true m [] half station' answer = (station' ≡ halted m m.memory) × IsHaltText answer
+StubMeets true m (a ∷ left) half station' answer = Fills half m a left station' answer
 
--- which stretches a stub fills that lies in a memory at an address, where one lies there
+-- which bytes a stub fills that lies in a memory at an address, where one lies there
 abbrev pub Program : Type 0
-Program = List ℕ → ℕ → Option (List Stretch)
+Program = List ℕ → ℕ → Option (List ℕ)
 
 -- a stub that has taken nothing yet
-abbrev pub fresh : Option (List Stretch) → Option Stub
+abbrev pub fresh : Option (List ℕ) → Option Stub
 fresh None = None
-fresh (Some stretches) = Some (record { stretches = stretches; count = 0 })
+fresh (Some left) = Some (record { left = left; half = false })
 
 -- the stub that a key started: where the machine ran before, none
 abbrev pub begins : Program → Bool → List ℕ → Mode → Option Stub
@@ -109,4 +97,4 @@ after_odt program m c = record { machine = after_key m c; stub = begins program 
 -- what a station makes of a character, and what it answers
 abbrev pub Meets : Program → Option Stub → Machine → ℕ → Station → List ℕ → Type 0
 Meets program None m c station' answer = (station' ≡ after_odt program m c) × (answer ≡ (take_of m c).answer)
-Meets program (Some stub) m c station' answer = StubMeets (is_nibble c) m stub.stretches stub.count station' answer
+Meets program (Some stub) m c station' answer = StubMeets (is_nibble c) m stub.left stub.half station' answer

@@ -1,32 +1,29 @@
 -- The machine with the stub in it, as a station.
-use Rattle.std.specs.Prelude.{◌≡◌, ℕ, ◌+◌, ◌-◌, ◌*◌, ◌<◌, if◌then◌else◌, List, [], ◌∷◌, ◌++◌, is_some, ⊤}
+use Rattle.std.specs.Prelude.{◌≡◌, ℕ, ◌<◌, false, List, [], ◌∷◌, ◌++◌, is_some, ⊤}
 use Rattle.odt_machine.specs.Machine.{Machine as OdtMachine}
 use Rattle.host_core.specs.declared.heard.Heard.TheVariants.{Got, Quiet}
 use Rattle.host_devices.specs.declared.item.Item.{Item}
 use Rattle.host_devices.specs.declared.item.Item.TheVariants.{Sent, Heard as Came}
 use Rattle.exchange_core.specs.declared.stretch.Stretch.{Stretch}
+use Rattle.exchange_core.specs.Stretch.{places}
 use Rattle.exchange_law.specs.Station.{Station, Program, IsHaltText, Each, halted, running}
 use Rattle.exchange_law.specs.Line.{Link as Line, Passes}
 use Rattle.stub.specs.Filling.{Filling, begun}
 use Rattle.stub.specs.Law.{IsStarted}
 use Rattle.stub.specs.Seen.{Bench, Happening, Sends, Hears, Silent, Ran, Link, Shows, opened, held}
 
--- how many characters of a chunk have come
-abbrev pub count_in : Filling → Stretch → ℕ
-count_in f chunk = 2 * (f.next - chunk.from) + (if is_some f.high then 1 else 0)
-
 -- the station: `odt` is the machine as ODT left it when it started the stub
-abbrev pub station_by : OdtMachine → Filling → List Stretch → Station
+abbrev pub station_by : OdtMachine → Filling → List ℕ → Station
 station_by odt f [] = halted odt f.memory
-station_by odt f (chunk ∷ chunks) = running odt f.memory (chunk ∷ chunks) (count_in f chunk)
+station_by odt f (a ∷ left) = running odt f.memory (a ∷ left) (is_some f.high)
 
 abbrev pub station : OdtMachine → Filling → Station
 station odt f = station_by odt f f.left
 
 -- what ODT prints at the halt comes behind all that the stub sends
-abbrev pub goodbye : List Stretch → List ℕ → List ℕ
+abbrev pub goodbye : List ℕ → List ℕ → List ℕ
 goodbye [] farewell = farewell
-goodbye (chunk ∷ chunks) farewell = []
+goodbye (a ∷ left) farewell = []
 
 -- the line at whose end that station stands
 abbrev pub as_line : OdtMachine → List ℕ → Link → Line
@@ -76,8 +73,8 @@ StubsAreStations =
     (program : Program) (place : ℕ) (stretches : List Stretch) (odt : OdtMachine) (run : BenchRun) →
     IsStarted place stretches run.before.machine → MayRun run → PassesAsAStation program odt (as_line odt run.farewell (opened stretches run.before)) run
 
--- at its start it is the station that ODT makes of a stub with these chunks: no character of the first has come
+-- at its start it is the station that ODT makes of a stub with these bytes: no character of the first has come
 abbrev pub StubsBeginFresh : Type 0
 StubsBeginFresh =
-    (odt : OdtMachine) (memory : List ℕ) (chunk : Stretch) (chunks : List Stretch) →
-    station odt (begun memory (chunk ∷ chunks)) ≡ running odt memory (chunk ∷ chunks) 0
+    (odt : OdtMachine) (memory : List ℕ) (stretches : List Stretch) (a : ℕ) (left : List ℕ) → places stretches ≡ a ∷ left →
+    station odt (begun memory stretches) ≡ running odt memory (places stretches) false

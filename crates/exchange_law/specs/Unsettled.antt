@@ -1,5 +1,5 @@
 -- What a host may find at a line on which a stub was at work: it may still run, and characters for it may still be under way.
-use Rattle.std.specs.Prelude.{◌≡◌, ℕ, ◌⊎◌, true, false, List, [], ◌∷◌, length, Option, Some, None, ⊤}
+use Rattle.std.specs.Prelude.{◌≡◌, ℕ, ◌<◌, ◌≤◌, ◌⊎◌, true, false, List, [], ◌∷◌, length, Option, Some, None}
 use Rattle.tape_image.specs.Memory.{byte_of}
 use Rattle.odt_machine.specs.Laws.{is_running}
 use Rattle.odt_machine.specs.Machine.{IsMachine}
@@ -8,22 +8,22 @@ use Rattle.host_core.specs.Console.{resynchronise}
 use Rattle.exchange_core.specs.declared.stretch.Stretch.{Stretch}
 use Rattle.exchange_core.specs.Chunk.{is_nibble}
 use Rattle.exchange_law.specs.Line.{Link}
-use Rattle.exchange_law.specs.Station.{Each, IsInStretch, Program, Stub, after_odt}
+use Rattle.exchange_law.specs.Station.{Each, Program, Stub, after_odt}
+
+-- an address is one of the stretch's
+pub record IsInStretch (stretch : Stretch) (b : ℕ) : Type 0 where
+  pub from : stretch.from ≤ b
+  pub to : b < stretch.to
 
 -- an address is one of these stretches'
 abbrev pub IsAmong : List Stretch → ℕ → Type 0
 IsAmong [] b = ⊥
 IsAmong (stretch ∷ stretches) b = IsInStretch stretch b ⊎ IsAmong stretches b
 
--- all bytes of these stretches are such
-abbrev pub AreWithin : (ℕ → Type 0) → List Stretch → Type 0
-AreWithin R [] = ⊤
-AreWithin R (stretch ∷ stretches) = ((b : ℕ) → IsInStretch stretch b → R b) × AreWithin R stretches
-
 -- a stub that runs may only fill such bytes; where none runs, no program does
 abbrev pub MayFill : (ℕ → Type 0) → Mode → Option Stub → Type 0
 MayFill R mode None = is_running mode ≡ false
-MayFill R mode (Some stub) = (is_running mode ≡ true) × AreWithin R stub.stretches
+MayFill R mode (Some stub) = (is_running mode ≡ true) × Each R stub.left
 
 -- a character is one for a stub, or `Z`
 abbrev pub IsForStub : ℕ → Type 0

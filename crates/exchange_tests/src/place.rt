@@ -3,7 +3,7 @@
 use exchange_core::Stretch;
 use stub::stub_fits;
 
-// A stub of one stretch has 68 words: from this address up to 157210.
+// A stub of one stretch has 66 words: from this address up to 157204.
 const PLACE: u16 = 0o157000;
 
 // The one stretch, and whether it fits.
@@ -13,10 +13,10 @@ const ROWS: [(u16, u16, bool, &str); 13] = [
     (0o001000, 0o157001, false, "the stub's first byte"),
     (0o156777, 0o157000, true, "the byte before it"),
     (0o157000, 0o157001, false, "its first byte alone"),
-    (0o157207, 0o157210, false, "its last byte alone"),
-    (0o157207, 0o160000, false, "from its last byte on"),
-    (0o157210, 0o160000, true, "behind it, up to the top"),
-    (0o157210, 0o160001, false, "above the top"),
+    (0o157203, 0o157204, false, "its last byte alone"),
+    (0o157203, 0o160000, false, "from its last byte on"),
+    (0o157204, 0o160000, true, "behind it, up to the top"),
+    (0o157204, 0o160001, false, "above the top"),
     (0o177776, 0o177777, false, "among the devices"),
     (0o000000, 0o160000, false, "all of memory"),
     (0o001000, 0o001000, false, "no byte"),

@@ -16,43 +16,36 @@ fn gapped(alloc: Global) -> Option<Plan> {
     )
 }
 
-const CHUNKS: [(usize, Chunk); 4] = [
-    // up to the first multiple of 16
-    (
-        0,
-        Chunk {
-            address: 0o1006,
-            size: 10,
-            until: 5,
-        },
-    ),
+const CHUNKS: [Chunk; 5] = [
+    // up to the first multiple of 64
+    Chunk {
+        address: 0o1006,
+        size: 58,
+        until: 29,
+    },
     // from one to the next
-    (
-        1,
-        Chunk {
-            address: 0o1020,
-            size: 16,
-            until: 13,
-        },
-    ),
+    Chunk {
+        address: 0o1100,
+        size: 64,
+        until: 61,
+    },
+    Chunk {
+        address: 0o1200,
+        size: 64,
+        until: 93,
+    },
     // up to the gap
-    (
-        12,
-        Chunk {
-            address: 0o1300,
-            size: 14,
-            until: 100,
-        },
-    ),
+    Chunk {
+        address: 0o1300,
+        size: 14,
+        until: 100,
+    },
     // half a word
-    (
-        13,
-        Chunk {
-            address: 0o2001,
-            size: 1,
-            until: 101,
-        },
-    ),
+    Chunk {
+        address: 0o2001,
+        size: 1,
+        until: 101,
+    },
 ];
 
 const STRETCHES: [Stretch; 2] = [
@@ -72,13 +65,8 @@ fn is_split(alloc: Global) -> Option<bool> {
         return None;
     }
     let chunks = chunks_of(alloc, &plan, 0, 101).ok()?;
-    let mut is_so = chunks.len() == 14;
-    for row in &CHUNKS {
-        let (number, chunk) = *row;
-        is_so = chunks.get(number) == Some(&chunk) && is_so;
-    }
     let stretches = stretches_of(alloc, &chunks).ok()?;
-    Some(is_so && stretches.as_slice() == STRETCHES.as_slice())
+    Some(chunks.as_slice() == CHUNKS.as_slice() && stretches.as_slice() == STRETCHES.as_slice())
 }
 
 #[test]

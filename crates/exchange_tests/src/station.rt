@@ -1,4 +1,4 @@
-//! A station in memory, on which a stub runs that takes two chunks of two bytes. It tells what was said.
+//! A station in memory, on which a stub runs that takes a few bytes. It tells what was said.
 
 ghost use Rattle.std.specs.Prelude.{◌≡◌, ◌∷◌, ◌++◌, [], OnOk, OnErr};
 ghost use Rattle.host_devices.specs.Failures.{count_after, fault_of};
@@ -36,17 +36,11 @@ pub(crate) enum Upset {
     LacksByte(usize),
 }
 
-// The bytes that the stub fills.
-const BYTES: usize = 4;
-
-// How many characters of a chunk there are.
-const CHUNK_KEYS: usize = 4;
-
 /// The station's half: memory, the stub, and the characters under way from it.
 #[derive(Drop)]
 struct Station {
     upset: Upset,
-    memory: [u8; BYTES],
+    memory: Vec<u8>,
     high: u8,
     taken: usize,
     is_halted: bool,
@@ -70,20 +64,23 @@ impl Station {
 
     // The stub takes a key.
     fn take(&mut self, key: u8) {
-        if self.is_halted || key < 0o140 || key > 0o157 || self.taken >= 2 * BYTES {
+        if self.is_halted || key < 0o140 || key > 0o157 || self.is_full() {
             self.is_halted = true;
             return;
         }
         let place = self.taken;
-        self.taken = place + 1;
+        self.taken = place.saturating_add(1);
         if place % 2 == 0 {
             self.high = key - 0o140;
         } else {
             self.store(place / 2, (self.high % 16) * 16 + (key - 0o140) % 16);
-        }
-        if self.taken % CHUNK_KEYS == 0 {
             self.answer(place / 2);
         }
+    }
+
+    // Nothing is left to fill.
+    fn is_full(&self) -> bool {
+        self.taken / 2 >= self.memory.len()
     }
 
     fn store(&mut self, number: usize, byte: u8) {
@@ -94,13 +91,11 @@ impl Station {
         }
     }
 
-    // The answer for the chunk whose last byte has this number.
-    fn answer(&mut self, last: usize) {
-        for number in last.saturating_sub(1)..=last {
-            let byte = self.memory.get(number).copied().unwrap_or(0);
-            self.give(0o157 - byte / 16);
-            self.give(0o157 - byte % 16);
-        }
+    // The answer for the byte with this number, as memory has it.
+    fn answer(&mut self, number: usize) {
+        let byte = self.memory.get(number).copied().unwrap_or(0);
+        self.give(0o157 - byte / 16);
+        self.give(0o157 - byte % 16);
     }
 
     fn give(&mut self, character: u8) {
@@ -167,9 +162,11 @@ pub(crate) struct StationLine {
 }
 
 impl StationLine {
-    /// A line on which nothing was said yet.
-    pub(crate) fn new(alloc: Global, upset: Upset) -> StationLine {
+    /// A line on which nothing was said yet, to a station with so many bytes.
+    pub(crate) fn new(alloc: Global, upset: Upset, bytes: usize) -> StationLine {
         let mut up = Vec::new(alloc);
+        let mut memory = Vec::new(alloc);
+        let _ = memory.resize(bytes, 0);
         if let Upset::Says(character) = upset {
             let _ = up.push(character);
         }
@@ -180,7 +177,7 @@ impl StationLine {
         StationLine {
             station: Station {
                 upset,
-                memory: [0; BYTES],
+                memory,
                 high: 0,
                 taken: 0,
                 is_halted: false,
@@ -206,14 +203,14 @@ impl StationLine {
     }
 
     /// The bytes that the stub was to fill.
-    pub(crate) fn memory(&self) -> [u8; BYTES] {
-        self.station.memory
+    pub(crate) fn memory(&self) -> &[u8] {
+        &self.station.memory
     }
 
-    /// Whether the stub has halted: behind its last chunk it takes no nibble, and any key but a nibble
+    /// Whether the stub has halted: behind its last byte it takes no nibble, and any key but a nibble
     /// halts it.
     pub(crate) fn is_halted(&self) -> bool {
-        self.station.is_halted || self.station.taken == 2 * BYTES
+        self.station.is_halted || self.station.is_full()
     }
 }
 

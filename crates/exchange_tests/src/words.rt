@@ -10,10 +10,10 @@ const PLACE: u16 = 0o157000;
 
 // How many stretches, and how many words with them.
 const SIZES: [(usize, usize, &str); 4] = [
-    (0, 66, "the code, and the table's end"),
-    (1, 68, "a tape that is one stretch"),
-    (3, 72, "a few"),
-    (28_672, 57_410, "every other byte"),
+    (0, 64, "the code, and the table's end"),
+    (1, 66, "a tape that is one stretch"),
+    (3, 70, "a few"),
+    (28_672, 57_408, "every other byte"),
 ];
 
 #[test]
@@ -54,6 +54,7 @@ fn the_table_begins_with_an_end(rt: HostRuntime) {
     ];
     let words = stub_words(rt.alloc(), PLACE, &stretches).expect(&rt, "memory is ample");
     let table = [0o1400, 0o1000, 0o2002, 0o2001, 0];
-    assert!(rt; words.get(65..) == Some(table.as_slice()), "the table");
-    assert!(rt; words.get(3) == Some(&0o157202), "the table's address");
+    assert!(rt; words.get(63..) == Some(table.as_slice()), "the table");
+    assert!(rt; words.get(3) == Some(&0o157176), "the table's address");
+    assert!(rt; words.get(36) == Some(&0o157174), "the halt's address");
 }

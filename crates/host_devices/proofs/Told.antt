@@ -7,12 +7,15 @@ gains_none None = tt
 gains_none (Some items) = sym (append-nil items)
 
 pub gains_kept : {A : Type 0} → (old new : Option (List A)) → SaysNothing old new → Gains old new []
-gains_kept None new k = tt
+gains_kept None None k = tt
+gains_kept None (Some same) k = absurd k
 gains_kept (Some items) None k = absurd k
 gains_kept (Some items) (Some same) k = k ∙ sym (append-nil items)
 
 pub gains_join : {A : Type 0} → (a b c : Option (List A)) (one two : List A) → Gains a b one → Gains b c two → Gains a c (one ++ two)
-gains_join None b c one two g h = tt
+gains_join None None None one two g h = tt
+gains_join None None (Some all) one two g h = absurd h
+gains_join None (Some grown) c one two g h = absurd g
 gains_join (Some items) None c one two g h = absurd g
 gains_join (Some items) (Some grown) None one two g h = absurd h
 gains_join (Some items) (Some grown) (Some all) one two g h = h ∙ (ap (λ front. front ++ two) g ∙ append_assoc items one two)

@@ -1,15 +1,17 @@
 -- What a call does to a list that a device tells, where its type tells one.
 use Rattle.std.specs.Prelude.{◌≡◌, List, ◌++◌, Option, None, Some, ⊤}
 
--- a told list grows by these, and is still told
+-- a told list grows by these, and is still told; where nobody tells, nobody begins to
 abbrev pub Gains : {A : Type 0} → Option (List A) → Option (List A) → List A → Type 0
-Gains None new more = ⊤
+Gains None None more = ⊤
+Gains None (Some grown) more = ⊥
 Gains (Some items) None more = ⊥
 Gains (Some items) (Some grown) more = grown ≡ items ++ more
 
--- a told list stays as it was
+-- a told list stays as it was, and is told where it was told
 abbrev pub SaysNothing : {A : Type 0} → Option (List A) → Option (List A) → Type 0
-SaysNothing None new = ⊤
+SaysNothing None None = ⊤
+SaysNothing None (Some same) = ⊥
 SaysNothing (Some items) None = ⊥
 SaysNothing (Some items) (Some same) = same ≡ items
 

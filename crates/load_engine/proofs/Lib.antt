@@ -1,7 +1,6 @@
 mod Beliefs
 mod Driven
-pub mod Keepings
 mod Lendings
+mod Steps
 pub mod News
 pub mod Sessions
-mod Turns

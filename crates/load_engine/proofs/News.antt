@@ -50,7 +50,7 @@ taken_grows core Stray =
 taken_grows core Timeout =
     on_move (λ m. core.verified ≤ m.next.verified) (nat_lt core.spent core.patience) (sends (record core { spent = core.spent + 1 }) resynchronise (Sync 0)) (listens core (Ended GaveUp)) (λ _. omega arith) (λ _. omega arith)
 
-move_forward : (core : Core) (heard : Heard) → IsHost core → IsForward core (move core heard).next
+pub move_forward : (core : Core) (heard : Heard) → IsHost core → IsForward core (move core heard).next
 move_forward core heard h = record {
   plan = (moved core heard).plan;
   verified = taken_grows core (turn_of core heard);
@@ -71,7 +71,7 @@ led_forward core (heard ∷ more) h =
 
 -- ---- the news of one step
 
-no_mark : (old new : Bool) → new ≡ old → mark_between old new ≡ []
+pub no_mark : (old new : Bool) → new ≡ old → mark_between old new ≡ []
 no_mark true new e = ap (λ b. mark_between true b) e
 no_mark false new e = ap (λ b. mark_between false b) e
 
@@ -87,7 +87,7 @@ the_mark true new e f = absurd (cc)
 the_mark false true e f = refl
 the_mark false false e f = absurd (cc)
 
-news_mark : (old new : Core) → new.verified ≡ old.verified → old.going ≡ false → new.going ≡ true → news_between old new ≡ Go ∷ []
+pub news_mark : (old new : Core) → new.verified ≡ old.verified → old.going ≡ false → new.going ≡ true → news_between old new ≡ Go ∷ []
 news_mark old new same was is =
     rw (no_words old.plan.words old.verified new.verified same, the_mark old.going new.going was is) refl
 
@@ -131,18 +131,6 @@ not_marked old new is e unmarked not_old set = cc
 -- the same word of the same list at the same place
 pub word_at : (words same : List WordValue) (i j : ℕ) (word : WordValue) → word ≡ get_or words i word → words ≡ same → i ≡ j → word ≡ get_or same j word
 word_at words same i j word is e f = is ∙ (ap (λ list. get_or list i word) e ∙ ap (λ k. get_or same k word) f)
-
--- a list of one is the one
-only_news : (news : Option Kept) (item : Kept) → option_to_list news ≡ item ∷ [] → news ≡ Some item
-only_news None item e = absurd (cc)
-only_news (Some news) item e = ap Some (cc)
-
--- where `G` is sent the news is the mark
-pub step_start : (old new : Core) (key : Option ℕ) (news : Option Kept) → (key ≡ Some go → IsMarking old new key) →
-    (new.verified ≡ old.verified) ⊎ IsVerifying old new key → option_to_list news ≡ news_between old new → key ≡ Some go → news ≡ Some Go
-step_start old new key news marks words all sends =
-    let m : IsMarking old new key = marks sends in
-    only_news news Go (all ∙ step_mark old new key old.going new.going words refl refl (ap not m.was) m.now)
 
 -- ---- the news of two stretches
 

@@ -1,16 +1,14 @@
-//! The engine: it lends the host's core to a line and a keeper, turn by turn.
+//! The host of a load, lent to a line and a keeper by the engine.
 //!
-//! `drive` hears one thing from the line, lets the core take its step, has what became verified and
-//! the start mark kept, and only then sends the character that the step answered. Its contract says
-//! that nothing else is said and nothing else is kept, whatever the line, the keeper and the peer.
+//! `drive` is the engine's `lead` of it: what became verified and the start mark are kept, before the
+//! key that goes with them is sent. Its contract says what that comes to, also where the line is honest.
 //! `drive_in_memory` is `drive` over a line in memory, of which nobody has to say that it is honest.
 //! Used by `machine_load`, and by `machine_probe` where it puts a number back.
 #![tactic(auto)]
 
 mod driving;
+mod hosting;
 mod lending;
-mod stop;
 
-pub use driving::drive;
+pub use driving::{Stop, drive};
 pub use lending::drive_in_memory;
-pub use stop::Stop;

@@ -24,13 +24,14 @@ use Rattle.line_world.specs.Site.{ground}
 use Rattle.line_world.proofs.Frame.{scene}
 use Rattle.host_devices.specs.Dialogue.{dialogue, keys_of}
 use Rattle.exchange_core.specs.declared.chunk.Chunk.{Chunk}
+use Rattle.exchange_core.specs.declared.duplex.Duplex.{Duplex}
 use Rattle.exchange_core.specs.declared.exchange.Exchange.{Exchange}
 use Rattle.exchange_core.specs.Chunk.{AreChunks, chunk_nr, words_behind}
 use Rattle.exchange_core.specs.Exchange.{begun as exchange_begun, led as exchange_led}
 use Rattle.exchange_law.specs.Station.{Program, fresh}
 use Rattle.exchange_law.specs.Line.{Link, Passes}
 use Rattle.exchange_law.specs.Unsettled.{IsUnsettled, MayFill, Untouched}
-use Rattle.exchange_law.specs.Law.{IsExchanged, MayExchange, dialogue as exchange_dialogue, pieces_of}
+use Rattle.exchange_law.specs.Law.{IsExchanged, MayExchange, bytes_of, dialogue as exchange_dialogue}
 use Rattle.exchange_law.proofs.Passing.{led_from, whole_exchange, within_all}
 use Rattle.exchange_law.proofs.Words.{begins_within, still_stands}
 use Rattle.exchange_law.specs.Recovery.{HasStarted, IsLater, IsTrustedBehind}
@@ -66,7 +67,7 @@ stub_host part is long = begun_kept part.stub 0 false part.patience is (omega ar
 -- what its start brings to run may only fill the chunks
 stub_starts : (program : Program) (tape stub : PlanValue) (from : ℕ) (chunks : List Chunk) (core : Core) → IsStubFor program tape from stub chunks → core.plan ≡ stub → StartsWithin program (IsLater tape from) core
 stub_starts program tape stub from chunks core for plan memory set all =
-    let lies : program memory (start_of core) ≡ Some (pieces_of chunks) =
+    let lies : program memory (start_of core) ≡ Some (bytes_of chunks) =
     ap (λ (p : PlanValue). program memory (unwrap_or p.start 0)) plan ∙ for.code.lies memory (subst (λ (p : PlanValue). FirstStand p.words (length p.words) memory) plan all) in
     subst (MayFill (IsLater tape from) (Running (start_of core))) (sym (ap fresh lies))
     (refl, within_all (IsLater tape from) chunks (λ i below b inside. chunk_later tape from chunks 0 i for.words (omega arith) below b inside))
@@ -124,12 +125,12 @@ stub_brought program tape part from before things x y for long between passes =
 
 -- ---- an exchange
 
-pub exchange_went : (program : Program) (tape : PlanValue) (from : ℕ) (before : List ℕ) (chunks : List Chunk) (things : List Heard) (x y : Link) → AreChunks tape from chunks → MayExchange chunks x → Between program tape from before x →
-    Passes program x (exchange_dialogue tape.image chunks (exchange_begun from) things) y → Between program tape (exchange_led tape.image chunks (exchange_begun from) things).verified before y
-exchange_went program tape from before chunks things x y are may between passes =
-    let e : Exchange = exchange_led tape.image chunks (exchange_begun from) things in
-    let t : IsExchanged program tape chunks x.station.machine.memory e y = whole_exchange program tape from chunks things x y are may passes in
-    let origin : e.from ≡ from = led_from tape.image chunks things (exchange_begun from) in
+pub exchange_went : (program : Program) (tape : PlanValue) (from : ℕ) (before : List ℕ) (duplex : Duplex) (chunks : List Chunk) (things : List Heard) (x y : Link) → AreChunks tape from chunks → MayExchange chunks x → Between program tape from before x →
+    Passes program x (exchange_dialogue tape.image chunks (exchange_begun from duplex) things) y → Between program tape (exchange_led tape.image chunks (exchange_begun from duplex) things).verified before y
+exchange_went program tape from before duplex chunks things x y are may between passes =
+    let e : Exchange = exchange_led tape.image chunks (exchange_begun from duplex) things in
+    let t : IsExchanged program tape chunks x.station.machine.memory e y = whole_exchange program tape from duplex chunks things x y are may passes in
+    let origin : e.from ≡ from = led_from tape.image chunks things (exchange_begun from duplex) in
     let words : e.verified ≡ words_behind from chunks e.done = t.is.words ∙ ap (λ n. words_behind n chunks e.done) origin in record {
       stand = t.words (subst (λ n. FirstStand tape.words n x.station.machine.memory) (sym origin) between.stand);
       kept = kept_then tape.image before x.station.machine.memory y.station.machine.memory between.kept

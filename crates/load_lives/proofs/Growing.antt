@@ -5,6 +5,7 @@ use Rattle.tape_image.specs.Image.{Image}
 use Rattle.tape_image.specs.Plan.{PlanValue}
 use Rattle.host_core.specs.declared.heard.Heard.{Heard}
 use Rattle.exchange_core.specs.declared.chunk.Chunk.{Chunk}
+use Rattle.exchange_core.specs.declared.duplex.Duplex.{Duplex}
 use Rattle.exchange_core.specs.declared.exchange.Exchange.{Exchange}
 use Rattle.exchange_core.specs.Chunk.{AreChunks, words_behind}
 use Rattle.exchange_core.specs.Exchange.{IsExchange, advance, begun as exchange_begun, led as exchange_led}
@@ -33,19 +34,19 @@ record Verifies (tape : PlanValue) (from verified : ℕ) : Type 0 where
   pub more : from ≤ verified
   pub within : verified ≤ length tape.words
 
-exchange_verifies : (tape : PlanValue) (from : ℕ) (chunks : List Chunk) (things : List Heard) → AreChunks tape from chunks → Verifies tape from (exchange_led tape.image chunks (exchange_begun from) things).verified
-exchange_verifies tape from chunks things are =
-    let e : Exchange = exchange_led tape.image chunks (exchange_begun from) things in
-    let k : IsExchange chunks e = exchange_kept tape.image chunks things (exchange_begun from) (are_small tape from chunks are) (record { within = omega arith; words = refl; fits = refl; paid = omega arith }) in
-    let words : e.verified ≡ words_behind from chunks e.done = k.words ∙ ap (λ n. words_behind n chunks e.done) (led_from tape.image chunks things (exchange_begun from)) in
+exchange_verifies : (tape : PlanValue) (from : ℕ) (duplex : Duplex) (chunks : List Chunk) (things : List Heard) → AreChunks tape from chunks → Verifies tape from (exchange_led tape.image chunks (exchange_begun from duplex) things).verified
+exchange_verifies tape from duplex chunks things are =
+    let e : Exchange = exchange_led tape.image chunks (exchange_begun from duplex) things in
+    let k : IsExchange chunks e = exchange_kept tape.image chunks things (exchange_begun from duplex) (are_small tape from chunks are) (record { within = omega arith; words = refl; fits = refl; paid = omega arith }) in
+    let words : e.verified ≡ words_behind from chunks e.done = k.words ∙ ap (λ n. words_behind n chunks e.done) (led_from tape.image chunks things (exchange_begun from duplex)) in
     let low = behind_grows tape from chunks are e.done k.within in
     let high = words_within tape from chunks are e.done k.within in record { more = omega (arith, words, low); within = omega (arith, words, high) }
 
 part_verifies : (program : Program) (tape : PlanValue) (v : ℕ) (part : StubPart) → v ≤ length tape.words → IsStubFor program tape v part.stub part.chunks → Verifies tape v (verified_after tape v part)
 part_verifies program tape v part within for = by (starts part)
   where
-    by : (test : Bool) → Verifies tape v (if test then (exchange_led tape.image part.chunks (exchange_begun v) part.exchanged).verified else v)
-    by true = exchange_verifies tape v part.chunks part.exchanged for.words
+    by : (test : Bool) → Verifies tape v (if test then (exchange_led tape.image part.chunks (exchange_begun v part.duplex) part.exchanged).verified else v)
+    by true = exchange_verifies tape v part.duplex part.chunks part.exchanged for.words
     by false = record { more = omega arith; within = within }
 
 pub part_within : (program : Program) (tape : PlanValue) (v : ℕ) (part : StubPart) → v ≤ length tape.words → IsStubFor program tape v part.stub part.chunks → verified_after tape v part ≤ length tape.words

@@ -23,13 +23,12 @@ use Rattle.host_devices.specs.declared.item.Kept.{Kept}
 use Rattle.host_devices.specs.declared.item.Kept.TheVariants.{Word, Go}
 use Rattle.host_devices.specs.Dialogue.{said, dialogue, keys_of, mark_between, news_between}
 use Rattle.honest_line.proofs.Trusted.{keys_of-dialogue}
-use Rattle.load_engine.specs.declared.stop.Stop.{Stop}
-use Rattle.load_engine.specs.declared.stop.Stop.TheVariants.{Ended, LineFailed, KeepFailed, TurnsOver}
-use Rattle.load_engine.specs.Failing.{keep_fault}
-use Rattle.load_engine.specs.Keeping.{KeepsEach, KeptBy, keeping}
-use Rattle.load_engine.specs.Session.{IsKeptNews, Session}
+use Rattle.engine.specs.declared.stop.Stop.TheVariants.{Ended, LineFailed, KeepFailed, TurnsOver}
+use Rattle.engine.specs.Keeping.{AllOrFront, KeepsEach, KeptBy, LacksLast, keeping}
+use Rattle.engine.specs.Stopping.{keep_fault}
+use Rattle.load_engine.specs.Driving.{Driving, LoadSession, LoadStop}
 use Rattle.load_engine.proofs.News.{led_forward}
-use Rattle.load_engine.proofs.Sessions.{keys_join}
+use Rattle.load_engine.proofs.Sessions.{core_is, keys_join, session_given, session_mark, session_said}
 use Rattle.load_record.specs.declared.version.Version.TheVariants.{Second}
 use Rattle.load_record.specs.Keeper.{Keeper, HasKept, HasCutShort, HoldsRecord}
 use Rattle.load_record.specs.RecordText.{mark_text, record_text, second_piece, words_text}
@@ -204,7 +203,7 @@ said_marked core things items unsent host is has =
 -- ---- what the keeper holds, by how the engine stopped
 
 -- a front of the record, where the keeper failed; else all of it
-abbrev HoldsNow : Stop → PlanValue → ℕ → Bool → Keeper → Type 0
+abbrev HoldsNow : LoadStop → PlanValue → ℕ → Bool → Keeper → Type 0
 HoldsNow (KeepFailed fault) plan n set keep = HoldsFront plan n set keep
 HoldsNow (LineFailed fault) plan n set keep = keep.text ≡ Some (record_text Second plan n set)
 HoldsNow TurnsOver plan n set keep = keep.text ≡ Some (record_text Second plan n set)
@@ -216,7 +215,7 @@ all_kept plan k n words later set keep keep' holds are n_is each =
     let held = words_held plan k words later (mark_between false set) keep keep' holds are each in
     holds_all plan n set held.0 keep' (subst (HoldsRecord held.0 plan) (sym n_is) held.1) held.2
 
-holds_now : (stop : Stop) (plan : PlanValue) (k n : ℕ) (words later : List WordValue) (set : Bool) (keep keep' : Keeper) → HoldsRecord keep plan k → drop k plan.words ≡ words ++ later → n ≡ k + length words →
+holds_now : (stop : LoadStop) (plan : PlanValue) (k n : ℕ) (words later : List WordValue) (set : Bool) (keep keep' : Keeper) → HoldsRecord keep plan k → drop k plan.words ≡ words ++ later → n ≡ k + length words →
     KeptBy record_calls (keeping (map Word words ++ mark_between false set) (keep_fault (Some stop))) keep keep' → HoldsNow stop plan n set keep'
 holds_now (KeepFailed fault) plan k n words later set keep keep' holds are n_is by =
     cut_front plan k n words later set by.kept by.last keep by.next keep' holds are n_is (cut_at words set by.kept by.last by.items_are) by.each by.failing
@@ -225,18 +224,18 @@ holds_now TurnsOver plan k n words later set keep keep' holds are n_is by = all_
 holds_now (Ended end) plan k n words later set keep keep' holds are n_is by = all_kept plan k n words later set keep keep' holds are n_is by
 
 -- where the keeper failed no mark was kept
-abbrev NoMark : Stop → List Kept → Type 0
+abbrev NoMark : LoadStop → List Kept → Type 0
 NoMark (KeepFailed fault) kept = Contains kept Go → ⊥
 NoMark stop kept = Unit {0}
 
-no_mark_kept : (stop : Stop) (words : List WordValue) (set : Bool) (news kept : List Kept) → news ≡ map Word words ++ mark_between false set → IsKeptNews (Some stop) news kept → NoMark stop kept
+no_mark_kept : (stop : LoadStop) (words : List WordValue) (set : Bool) (news kept : List Kept) → news ≡ map Word words ++ mark_between false set → AllOrFront (keep_fault (Some stop)) (kept ≡ news) (LacksLast news kept) → NoMark stop kept
 no_mark_kept (KeepFailed fault) words set news kept are (last, is) = kept_no_mark words set kept last (cut_at words set kept last (sym are ∙ is))
 no_mark_kept (LineFailed fault) words set news kept are is = tt
 no_mark_kept TurnsOver words set news kept are is = tt
 no_mark_kept (Ended end) words set news kept are is = tt
 
 -- what went out where the keeper failed was told
-said_of : (stop : Stop) (all told items : List Item) → WentOutAt stop all told items → WentOut all told items
+said_of : (stop : LoadStop) (all told items : List Item) → WentOutAt stop all told items → WentOut all told items
 said_of (KeepFailed fault) all told items out = inl out
 said_of (LineFailed fault) all told items out = out
 said_of TurnsOver all told items out = out
@@ -256,7 +255,7 @@ whole_left load unset is sets =
       };
     }
 
-leaves : (stop : Stop) (load : KeptLoad) (all told : List Item) (kept : List Kept) → load.run.progress.going ≡ false → HoldsNow stop load.run.plan load.run.core.verified load.run.core.going load.keep' →
+leaves : (stop : LoadStop) (load : KeptLoad) (all told : List Item) (kept : List Kept) → load.run.progress.going ≡ false → HoldsNow stop load.run.plan load.run.core.verified load.run.core.going load.keep' →
     (Contains (keys_of load.run.items) go → load.run.core.going ≡ true) → WentOutAt stop all told load.run.items → (Contains (keys_of told) go → Contains kept Go) → NoMark stop kept → HasLeft load
 leaves (KeepFailed fault) load all told kept unset (text, is, front) sets out first none = record {
   now = text;
@@ -272,7 +271,7 @@ keepers_leave load was stopped by =
     leaves load.stop load said session.said session.kept was.no_mark
     (holds_now load.stop plan progress.verified core.verified words later core.going load.keep load.keep' was.holds (sym (take-append-drop (core.verified - progress.verified) (drop progress.verified plan.words))) count
     (subst (λ (news : List Kept). KeptBy record_calls (keeping news (keep_fault (Some load.stop))) load.keep load.keep') news by))
-    sets stopped.out session.mark_first (no_mark_kept load.stop words core.going (news_between first core) session.kept news session.news)
+    sets stopped.out (session_mark load.run.turns turns load.run.before load.run.after session host) (no_mark_kept load.stop words core.going session.given session.kept (given ∙ news) session.news)
   where
     plan : PlanValue
     plan = load.run.plan
@@ -289,8 +288,14 @@ keepers_leave load was stopped by =
     goes : GoesOnFrom plan load.text progress
     goes = stopped.driven.goes_on
 
-    session : Session load.run.turns (turns_of load.run (Some load.stop)) load.run.before load.run.after
+    turns : Driving
+    turns = turns_of load.run (Some load.stop)
+
+    session : LoadSession load.run.turns turns load.run.before load.run.after
     session = stopped.driven.session
+
+    at : core ≡ led first session.heard
+    at = core_is load.run.turns turns load.run.before load.run.after session
 
     -- all that its core decided to say
     said : List Item
@@ -308,18 +313,21 @@ keepers_leave load was stopped by =
         begun_kept plan progress.verified progress.going load.run.patience was.fits (omega (arith, goes.fewer, sound.within)) stopped.driven.patient (λ set. (sound.marked (sym goes.same_mark ∙ set)).1)
 
     within : core.verified ≤ length plan.words
-    within = subst (λ (p : PlanValue). core.verified ≤ length p.words) (ap (λ (c : Core). c.plan) session.core ∙ led_plan first session.heard) (subst IsHost (sym session.core) (led_kept first session.heard host)).within
+    within = subst (λ (p : PlanValue). core.verified ≤ length p.words) (ap (λ (c : Core). c.plan) at ∙ led_plan first session.heard) (subst IsHost (sym at) (led_kept first session.heard host)).within
 
     more : progress.verified ≤ core.verified
-    more = subst (λ (c : Core). progress.verified ≤ c.verified) (sym session.core) (led_forward first session.heard host).verified
+    more = subst (λ (c : Core). progress.verified ≤ c.verified) (sym at) (led_forward first session.heard host).verified
 
     count : core.verified ≡ progress.verified + length words
     count = omega (arith, within, more, length-take (core.verified - progress.verified) (drop progress.verified plan.words), length-drop progress.verified plan.words)
+
+    given : session.given ≡ news_between first core
+    given = session_given load.run.turns turns load.run.before load.run.after session host
 
     news : news_between first core ≡ map Word words ++ mark_between false core.going
     news = ap (λ g. map Word words ++ mark_between g core.going) was.no_mark
 
     sets : Contains (keys_of load.run.items) go → core.going ≡ true
     sets has =
-        let u = unsent_out (Some load.stop) (load.run.turns - length session.heard) said session.said load.run.items session.items (said_of load.stop said session.said load.run.items stopped.out) in
-        ap (λ (c : Core). c.going) session.core ∙ said_marked first session.heard load.run.items u.0 host u.1 has
+        let u = unsent_out (Some load.stop) said session.said load.run.items (session_said load.run.turns turns load.run.before load.run.after session) (said_of load.stop said session.said load.run.items stopped.out) in
+        ap (λ (c : Core). c.going) at ∙ said_marked first session.heard load.run.items u.0 host u.1 has

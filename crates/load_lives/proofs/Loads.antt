@@ -46,11 +46,11 @@ was_started Go e = absurd (cc)
 -- the exchange, where the stub was seen to start
 exchange_or : (program : Program) (tape : PlanValue) (v : ℕ) (before : List ℕ) (part : StubPart) (x y : Link) → IsPlan tape → v ≤ length tape.words → IsStubFor program tape v part.stub part.chunks → (test : Bool) → starts part ≡ test →
     IsBrought program tape v before part.chunks (led (bringer part) part.brought) x →
-    Passes program x (if test then exchange_dialogue tape.image part.chunks (exchange_begun v) part.exchanged else []) y →
-    Between program tape (if test then (exchange_led tape.image part.chunks (exchange_begun v) part.exchanged).verified else v) before y
+    Passes program x (if test then exchange_dialogue tape.image part.chunks (exchange_begun v part.duplex) part.exchanged else []) y →
+    Between program tape (if test then (exchange_led tape.image part.chunks (exchange_begun v part.duplex) part.exchanged).verified else v) before y
 exchange_or program tape v before part x y is within for true e b passes =
     let may : MayExchange part.chunks x = b.starts (was_started (led (bringer part) part.brought).phase e) in
-    exchange_went program tape v before part.chunks part.exchanged x y for.words may b.between passes
+    exchange_went program tape v before part.duplex part.chunks part.exchanged x y for.words may b.between passes
 exchange_or program tape v before part x y is within for false e b passes = between_passes program tape v before [] x y is within refl b.between passes
 
 -- ---- all of them

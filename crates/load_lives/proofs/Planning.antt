@@ -1,10 +1,9 @@
 -- A stub that was planned is found where its words stand.
 use Rattle.std.proofs.Common.{◌≡◌, ℕ, zero, suc, ◌+◌, ◌-◌, ◌*◌, ◌/◌, ◌%◌, ◌<◌, ◌≤◌, Bool, true, false, List, [], ◌∷◌, ◌++◌, length, Option, Some, None, unwrap_or, inl, refl, arith, ap, sym, subst, ◌∙◌}
-use Rattle.std.proofs.lemmas.Bool.Decides.{nat_tests}
 use Rattle.std.proofs.lemmas.List.{get_or_default}
 use Rattle.std.proofs.lemmas.List.Elements.{All-head, All-tail, Contains-get_or}
 use Rattle.std.proofs.lemmas.List.Folds.{Any-from_list_any}
-use Rattle.std.specs.Prelude.{All, slice_index, ◌==◌, nat_lt, if◌then◌else◌, ⊤}
+use Rattle.std.specs.Prelude.{All, slice_index, ◌==◌, if◌then◌else◌, ⊤}
 use Rattle.std.specs.List.{list_any}
 use Rattle.std.specs.FinMap.{get}
 use Rattle.tape_image.specs.Memory.{byte_of, half, top_of}
@@ -17,16 +16,17 @@ use Rattle.line_world.specs.Safe.{FirstStand}
 use Rattle.exchange_core.specs.declared.chunk.Chunk.{Chunk}
 use Rattle.exchange_core.specs.declared.stretch.Stretch.{Stretch}
 use Rattle.exchange_core.specs.Chunk.{AreChunks, IsIn, chunk_nr, words_behind}
-use Rattle.exchange_core.specs.Stretch.{cut, piece_end, pieces}
+use Rattle.exchange_core.specs.Stretch.{places, places_from}
 use Rattle.exchange_core.proofs.Chunks.{behind_rises}
-use Rattle.exchange_law.specs.Law.{pieces_of}
+use Rattle.exchange_law.specs.Law.{bytes_of}
+use Rattle.exchange_law.specs.Station.{Each}
+use Rattle.exchange_law.proofs.Passing.{within_all}
 use Rattle.exchange_law.proofs.Words.{lies_below, stands_there}
 use Rattle.exchange_core.specs.StubPlan.{IsStubPlan, place_of}
 use Rattle.stub.specs.Place.{AreThere, StretchesFit, StubStands, stub_end}
 use Rattle.stub.specs.Words.{stub_words}
-use Rattle.stub.proofs.Cuts.{end_past}
 use Rattle.stub.proofs.Decoding.{are_found}
-use Rattle.exchange_law.specs.Start.{chunks_of, program as stub_program}
+use Rattle.exchange_law.specs.Start.{bytes_in, program as stub_program}
 use Rattle.load_lives.specs.Planned.{PlannedStubsAreStubs}
 use Rattle.load_lives.proofs.Storing.{gives_below}
 
@@ -37,44 +37,31 @@ abbrev AllBelow : ℕ → List Stretch → Type 0
 AllBelow top [] = ⊤
 AllBelow top (stretch ∷ stretches) = (stretch.to ≤ top) × AllBelow top stretches
 
-below_parts : (top : ℕ) (xs ys : List Stretch) → AllBelow top (xs ++ ys) → AllBelow top xs × AllBelow top ys
+-- each address lies below this one
+abbrev EachBelow : ℕ → List ℕ → Type 0
+EachBelow top those = Each (λ a. a < top) those
+
+below_parts : (top : ℕ) (xs ys : List ℕ) → EachBelow top (xs ++ ys) → EachBelow top xs × EachBelow top ys
 below_parts top [] ys all = (tt, all)
 below_parts top (x ∷ xs) ys all = let rest = below_parts top xs ys all.1 in ((all.0, rest.0), rest.1)
 
-lower : (a b : ℕ) → nat_lt a b ≡ true → a < b
-lower a b e = grind (arith, nat_tests)
+-- a stretch ends behind its last address
+ends_below : (top n a : ℕ) → 0 < n → EachBelow top (places_from n a) → a + n ≤ top
+ends_below top zero a some all = absurd (omega (arith, some))
+ends_below top (suc zero) a some all = let here = all.0 in omega (arith, here)
+ends_below top (suc (suc n)) a some all = let rest = ends_below top (suc n) (a + 1) (omega arith) all.1 in omega (arith, rest)
 
-higher : (a b : ℕ) → nat_lt a b ≡ false → b ≤ a
-higher a b e = grind (arith, nat_tests)
-
--- a stretch ends where its last piece does
-cut_below : (top n a to : ℕ) → a < to → to - a ≤ n → AllBelow top (cut n a to) → to ≤ top
-cut_below top zero a to less few all = absurd (omega (arith, less, few))
-cut_below top (suc n) a to less few all =
-    by (λ later more. cut_below top n (piece_end a to) to more (fewer a (piece_end a to) to n (end_past a to less) few) later) (nat_lt a to) refl all
-  where
-    fewer : (a end to n : ℕ) → a < end → to - a ≤ suc n → to - end ≤ n
-    fewer a end to n past few = omega (arith, past, few)
-
-    here : (AllBelow top (cut n (piece_end a to) to) → piece_end a to < to → to ≤ top) → piece_end a to ≤ top → AllBelow top (cut n (piece_end a to) to) → (test : Bool) → nat_lt (piece_end a to) to ≡ test → to ≤ top
-    here rest first all true e = rest all (lower (piece_end a to) to e)
-    here rest first all false e = let whole = higher (piece_end a to) to e in omega (arith, first, whole)
-
-    by : (AllBelow top (cut n (piece_end a to) to) → piece_end a to < to → to ≤ top) → (test : Bool) → nat_lt a to ≡ test → AllBelow top (if test then record { from = a; to = piece_end a to } ∷ cut n (piece_end a to) to else []) → to ≤ top
-    by rest true e all = here rest all.0 all.1 (nat_lt (piece_end a to) to) refl
-    by rest false e all = absurd (let over = higher a to e in omega (arith, less, over))
-
-stretches_below : (top : ℕ) (stretches : List Stretch) → All (λ s. s.from < s.to) stretches → AllBelow top (pieces stretches) → AllBelow top stretches
+stretches_below : (top : ℕ) (stretches : List Stretch) → All (λ s. s.from < s.to) stretches → EachBelow top (places stretches) → AllBelow top stretches
 stretches_below top [] some all = tt
 stretches_below top (s ∷ stretches) some all =
-    let parts = below_parts top (cut (s.to - s.from) s.from s.to) (pieces stretches) all in (
-      cut_below top (s.to - s.from) s.from s.to (All-head (λ (t : Stretch). t.from < t.to) s stretches some) (omega arith) parts.0,
+    let parts = below_parts top (places_from (s.to - s.from) s.from) (places stretches) all in
+    let rising : s.from < s.to = All-head (λ (t : Stretch). t.from < t.to) s stretches some in (
+      (let last = ends_below top (s.to - s.from) s.from (omega (arith, rising)) parts.0 in omega (arith, last, rising)),
       stretches_below top stretches (All-tail (λ (t : Stretch). t.from < t.to) s stretches some) parts.1,
     )
 
-chunks_below : (top : ℕ) (chunks : List Chunk) → ((k : ℕ) → k < length chunks → (chunk_nr chunks k).address + (chunk_nr chunks k).size ≤ top) → AllBelow top (pieces_of chunks)
-chunks_below top [] each = tt
-chunks_below top (c ∷ chunks) each = (each 0 (omega arith), chunks_below top chunks (λ k less. each (suc k) (omega (arith, less))))
+chunks_below : (top : ℕ) (chunks : List Chunk) → ((k : ℕ) → k < length chunks → (chunk_nr chunks k).address + (chunk_nr chunks k).size ≤ top) → EachBelow top (bytes_of chunks)
+chunks_below top chunks each = within_all (λ a. a < top) chunks (λ i below b inside. let end = each i below in let to = inside.to in omega (arith, end, to))
 
 -- stretches below the stub fit it
 fit_below : (place until top : ℕ) (stretches : List Stretch) → place ≤ top → All (λ s. s.from < s.to) stretches → AllBelow place stretches → StretchesFit place until top stretches
@@ -175,13 +162,20 @@ word_stands tape from window words stub memory s even all i less =
 
 -- ---- the stub is found
 
-no_pieces : (chunks : List Chunk) → 0 < length chunks → [] ≡ pieces_of chunks → ⊥
-no_pieces [] some e = absurd (omega (arith, some))
-no_pieces (c ∷ chunks) some e = absurd (cc e)
+no_bytes : (chunks : List Chunk) → 0 < length chunks → 0 < (chunk_nr chunks 0).size → [] ≡ bytes_of chunks → ⊥
+no_bytes [] some first e = absurd (omega (arith, some))
+no_bytes (c ∷ chunks) some first e = by (c.address + c.size - c.address) (counts c.address c.size first) e
+  where
+    counts : (a n : ℕ) → 0 < n → 0 < a + n - a
+    counts a n some = omega (arith, some)
 
-pieces_found : (stretches : List Stretch) (chunks : List Chunk) → 0 < length chunks → pieces stretches ≡ pieces_of chunks → chunks_of (Some stretches) ≡ Some (pieces_of chunks)
-pieces_found [] chunks some are = absurd (no_pieces chunks some are)
-pieces_found (s ∷ stretches) chunks some are = ap (λ list. Some list) are
+    by : (n : ℕ) → 0 < n → [] ≡ places_from n c.address ++ bytes_of chunks → ⊥
+    by zero some e = absurd (omega (arith, some))
+    by (suc n) some e = absurd (cc e)
+
+bytes_found : (stretches : List Stretch) (chunks : List Chunk) → 0 < length chunks → 0 < (chunk_nr chunks 0).size → places stretches ≡ bytes_of chunks → bytes_in (Some stretches) ≡ Some (bytes_of chunks)
+bytes_found [] chunks some first are = absurd (no_bytes chunks some first are)
+bytes_found (s ∷ stretches) chunks some first are = ap (λ list. Some list) are
 
 pub planned_stubs : PlannedStubsAreStubs
 planned_stubs tape from window chunks stretches stub p = record {
@@ -191,7 +185,7 @@ planned_stubs tape from window chunks stretches stub p = record {
   words = are;
   code = record {
     lies = λ memory all. ap (λ a. stub_program memory a) (ap (λ start. unwrap_or start 0) p.stub_is.start)
-        ∙ (ap chunks_of ((are_found memory place stretches).1 (stands memory all)) ∙ pieces_found stretches chunks are.some p.stretches_are.pieces_are);
+        ∙ (ap bytes_in ((are_found memory place stretches).1 (stands memory all)) ∙ bytes_found stretches chunks are.some (are.each 0 are.some).some p.stretches_are.places_are);
     above = λ k below. let at = first_word in (
       at.k,
       at.below,
@@ -217,7 +211,7 @@ planned_stubs tape from window chunks stretches stub p = record {
     ends = chunk_ends tape from window chunks p.chunks_are.are p.chunks_are.all within
 
     low : AllBelow (place_of tape window) stretches
-    low = stretches_below (place_of tape window) stretches p.stretches_are.some (subst (AllBelow (place_of tape window)) (sym p.stretches_are.pieces_are) (chunks_below (place_of tape window) chunks ends))
+    low = stretches_below (place_of tape window) stretches p.stretches_are.some (subst (EachBelow (place_of tape window)) (sym p.stretches_are.places_are) (chunks_below (place_of tape window) chunks ends))
 
     first_byte : get stub.image (place_of tape window) ≡ Some (half (place_of tape window) (slice_index (stub_words (place_of tape window) stretches) ((place_of tape window - place_of tape window) / 2)))
     first_byte = p.stub_is.code (place_of tape window) (record { from = omega arith; to = omega arith })

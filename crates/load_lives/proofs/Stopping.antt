@@ -1,5 +1,5 @@
 -- Where a life may stop.
-use Rattle.std.proofs.Common.{◌≡◌, ℕ, ◌+◌, ◌-◌, ◌≤◌, Bool, true, false, List, [], ◌∷◌, ◌++◌, length, take, drop, Option, Some, None, inl, inr, refl, arith, ap, sym, subst, ◌∙◌, append-nil, append_assoc}
+use Rattle.std.proofs.Common.{◌≡◌, ℕ, ◌+◌, ◌-◌, ◌≤◌, Bool, true, false, List, [], ◌∷◌, ◌++◌, take, drop, Option, Some, None, inl, inr, refl, arith, ap, sym, subst, ◌∙◌, append-nil, append_assoc}
 use Rattle.std.proofs.Math.Seq.{take-add}
 use Rattle.tape_image.specs.Plan.{PlanValue}
 use Rattle.tape_image.specs.Word.{WordValue}
@@ -7,16 +7,16 @@ use Rattle.host_core.specs.Core.{Core}
 use Rattle.host_devices.specs.declared.item.Item.{Item}
 use Rattle.host_devices.specs.declared.item.Item.TheVariants.{Sent, Heard as Came}
 use Rattle.host_devices.specs.Dialogue.{LacksKey, said, dialogue}
-use Rattle.load_engine.specs.declared.stop.Stop.{Stop}
-use Rattle.load_engine.specs.declared.stop.Stop.TheVariants.{Ended, LineFailed, KeepFailed, TurnsOver}
-use Rattle.load_engine.specs.Session.{IsSaid}
-use Rattle.load_engine.proofs.Sessions.{dialogue_join}
+use Rattle.engine.specs.declared.stop.Stop.TheVariants.{Ended, LineFailed, KeepFailed, TurnsOver}
+use Rattle.load_engine.specs.Driven.{IsSaid}
+use Rattle.load_engine.specs.Driving.{LoadStop}
+use Rattle.load_engine.proofs.Sessions.{core_is, dialogue_join, session_said}
 use Rattle.load_record.specs.declared.version.Version.TheVariants.{Second}
 use Rattle.load_record.specs.Lines.{header}
 use Rattle.load_record.specs.RecordText.{mark_text, open_run, pieces, record_text, run_over, second_piece, words_text}
 use Rattle.load_record.proofs.Pieces.{pieces-append, words_text-more, words_text-of}
 use Rattle.load_lives.specs.Lives.{Life, IsLeft}
-use Rattle.load_lives.specs.Stops.{WentOut, SessionsAreLives, FrontsAreStopped, IsBeginning, IsStoppedAt, RecordsAreFronts, decided}
+use Rattle.load_lives.specs.Stops.{WentOut, SessionsAreLives, FrontsAreStopped, IsBeginning, IsStoppedAt, RecordsAreFronts, decided, turns_of}
 use Rattle.load_lives.proofs.LastTurns.{Broken, broken}
 use Rattle.load_lives.proofs.LastTurns.Broken.{between_turns, in_turn}
 
@@ -29,34 +29,36 @@ lacking all told (key, is) = (Some key, is)
 all_said : (all told : List Item) → told ≡ all → (unsent : Option ℕ) × (all ≡ told ++ said unsent)
 all_said all told is = (None, sym is ∙ sym (append-nil told))
 
-unsent_of : (stop : Option Stop) (left : ℕ) (all told : List Item) → IsSaid stop left all told → (unsent : Option ℕ) × (all ≡ told ++ said unsent)
-unsent_of None left all told s = all_said all told s.0
-unsent_of (Some (Ended end)) left all told s = all_said all told s
-unsent_of (Some TurnsOver) left all told s = all_said all told s.0
-unsent_of (Some (LineFailed fault)) left all told (inl s) = all_said all told s.0
-unsent_of (Some (LineFailed fault)) left all told (inr s) = lacking all told s
-unsent_of (Some (KeepFailed fault)) left all told s = lacking all told s
+unsent_of : (stop : Option LoadStop) (all told : List Item) → IsSaid stop all told → (unsent : Option ℕ) × (all ≡ told ++ said unsent)
+unsent_of None all told s = all_said all told s
+unsent_of (Some (Ended end)) all told s = all_said all told s
+unsent_of (Some TurnsOver) all told s = all_said all told s
+unsent_of (Some (LineFailed fault)) all told (inl s) = all_said all told s
+unsent_of (Some (LineFailed fault)) all told (inr s) = lacking all told s
+unsent_of (Some (KeepFailed fault)) all told s = lacking all told s
 
-pub unsent_out : (stop : Option Stop) (left : ℕ) (all told items : List Item) → IsSaid stop left all told → WentOut all told items → (unsent : Option ℕ) × (all ≡ items ++ said unsent)
-unsent_out stop left all told items s (inl same) = subst (λ (list : List Item). (unsent : Option ℕ) × (all ≡ list ++ said unsent)) (sym same) (unsent_of stop left all told s)
-unsent_out stop left all told items s (inr whole) = all_said all items whole
+pub unsent_out : (stop : Option LoadStop) (all told items : List Item) → IsSaid stop all told → WentOut all told items → (unsent : Option ℕ) × (all ≡ items ++ said unsent)
+unsent_out stop all told items s (inl same) = subst (λ (list : List Item). (unsent : Option ℕ) × (all ≡ list ++ said unsent)) (sym same) (unsent_of stop all told s)
+unsent_out stop all told items s (inr whole) = all_said all items whole
 
 pub sessions_are_lives : SessionsAreLives
 sessions_are_lives load was passed left =
     let run = load.run in
     let session = was.driven.session in
-    let u = unsent_out load.stop (run.turns - length session.heard) (decided was.driven) session.said run.items session.items was.out in
+    let turns = turns_of run load.stop in
+    let core = core_is run.turns turns run.before run.after session in
+    let u = unsent_out load.stop (decided was.driven) session.said run.items (session_said run.turns turns run.before run.after session) was.out in
     let life : Life = record { patience = run.patience; progress = run.progress; heard = session.heard; items = run.items; unsent = u.0 } in
     record {
       life = life;
-      core = sym session.core;
+      core = sym core;
       items = refl;
       is_life = record {
         patient = was.driven.patient;
         goes_on = was.driven.goes_on;
         stopped = u.1;
         line = passed;
-        left = subst (λ (c : Core). IsLeft run.plan run.progress c run.items load.found.text load.left.text) session.core left;
+        left = subst (λ (c : Core). IsLeft run.plan run.progress c run.items load.found.text load.left.text) core left;
       };
     }
 

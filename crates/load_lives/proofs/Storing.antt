@@ -21,25 +21,21 @@ use Rattle.exchange_core.specs.declared.chunk.Chunk.{Chunk}
 use Rattle.exchange_core.specs.Chunk.{AreChunks, IsIn, chunk_nr, no_chunk, words_behind}
 use Rattle.exchange_law.specs.Station.{Program}
 use Rattle.exchange_law.specs.Line.{Link}
-use Rattle.exchange_law.specs.Unsettled.{AreWithin, IsAmong, IsUnsettled, MayFill, Untouched}
+use Rattle.exchange_law.specs.Unsettled.{IsAmong, IsUnsettled, MayFill, Untouched}
 use Rattle.odt_machine.specs.declared.mode.Mode.{Mode}
-use Rattle.exchange_core.specs.declared.stretch.Stretch.{Stretch}
 use Rattle.exchange_law.specs.Station.{Stub}
 use Rattle.exchange_core.proofs.Chunks.{chunk_has, chunks_apart}
 use Rattle.exchange_law.specs.Law.{pieces_of}
 use Rattle.exchange_law.proofs.Holding.{in_of}
+use Rattle.exchange_law.proofs.Texts.{each_weaker}
 use Rattle.exchange_law.proofs.Words.{find, first_others, stands_there}
 use Rattle.exchange_law.specs.Recovery.{IsLater}
 
 -- ---- lists of bytes that may change, one within another
 
-within_weaker : (R S : ℕ → Type 0) → ((b : ℕ) → R b → S b) → (stretches : List Stretch) → AreWithin R stretches → AreWithin S stretches
-within_weaker R S f [] w = tt
-within_weaker R S f (stretch ∷ stretches) w = (λ b of. f b (w.0 b of), within_weaker R S f stretches w.1)
-
 fill_weaker : (R S : ℕ → Type 0) → ((b : ℕ) → R b → S b) → (mode : Mode) (stub : Option Stub) → MayFill R mode stub → MayFill S mode stub
 fill_weaker R S f mode None m = m
-fill_weaker R S f mode (Some stub) m = (m.0, within_weaker R S f stub.stretches m.1)
+fill_weaker R S f mode (Some stub) m = (m.0, each_weaker R S f stub.left m.1)
 
 untouched_weaker : (R S : ℕ → Type 0) → ((b : ℕ) → R b → S b) → (before now : List ℕ) → Untouched R before now → Untouched S before now
 untouched_weaker R S f before now u = record { size = u.size; bytes = λ b none. u.bytes b (λ r. none (f b r)) }

@@ -2,26 +2,26 @@
 use Rattle.std.specs.Prelude.{◌≡◌, ℕ, false, List, Some, None}
 use Rattle.tape_image.specs.Plan.{IsPlan}
 use Rattle.host_devices.specs.declared.item.Item.{Item}
-use Rattle.host_devices.specs.Devices.{KeeperCalls}
-use Rattle.load_engine.specs.declared.stop.Stop.{Stop}
-use Rattle.load_engine.specs.declared.stop.Stop.TheVariants.{Ended, LineFailed, KeepFailed, TurnsOver}
+use Rattle.host_devices.specs.declared.item.Kept.{Kept}
+use Rattle.engine.specs.declared.stop.Stop.TheVariants.{Ended, LineFailed, KeepFailed, TurnsOver}
+use Rattle.engine.specs.Keeping.{KeeperCalls, KeptBy}
 use Rattle.load_engine.specs.Driven.{turns_give}
-use Rattle.load_engine.specs.Keeping.{KeptBy}
+use Rattle.load_engine.specs.Driving.{LoadStop}
 use Rattle.load_record.specs.Keeper.{Keeper, HasKept, HasCutShort, HoldsRecord, fault_now}
 use Rattle.load_lives.specs.Lives.{IsLeft}
 use Rattle.load_lives.specs.Stops.{EngineRun, HasRun, WentOut, decided, turns_of}
 
 -- what went out of a dialogue, by how the engine stopped: where the keeper failed the last key was never sent
-abbrev pub WentOutAt : Stop → List Item → List Item → List Item → Type 0
+abbrev pub WentOutAt : LoadStop → List Item → List Item → List Item → Type 0
 WentOutAt (KeepFailed fault) all told items = items ≡ told
 WentOutAt (LineFailed fault) all told items = WentOut all told items
 WentOutAt TurnsOver all told items = WentOut all told items
 WentOutAt (Ended end) all told items = WentOut all told items
 
 -- what the calls of a keeper make of it that writes a record, in whose list nothing is told
-abbrev pub record_calls : KeeperCalls Keeper
+abbrev pub record_calls : KeeperCalls Keeper Kept
 record_calls = record {
-  kept = λ _. None;
+  told = λ _. None;
   failures = λ keeper. keeper.failures;
   fault = λ keeper. fault_now keeper.failures;
   keeps = HasKept;
@@ -31,7 +31,7 @@ record_calls = record {
 -- a load whose keeper writes the record, up to where it stopped: the text that the record had before, and the keeper before and after
 pub record KeptLoad : Type 0 where
   pub run : EngineRun
-  pub stop : Stop
+  pub stop : LoadStop
   pub text : List ℕ
   pub keep : Keeper
   pub keep' : Keeper

@@ -8,9 +8,9 @@ use Rattle.host_core.specs.declared.progress.Progress.{Progress}
 use Rattle.host_core.specs.Core.{Core, begun}
 use Rattle.host_devices.specs.declared.item.Item.{Item}
 use Rattle.host_devices.specs.Dialogue.{said, dialogue}
-use Rattle.load_engine.specs.declared.stop.Stop.{Stop}
-use Rattle.load_engine.specs.Driving.{Driving, driving}
-use Rattle.load_engine.specs.Session.{Session, SessionTold}
+use Rattle.host_devices.specs.declared.item.Kept.{Kept}
+use Rattle.engine.specs.Session.{SessionTold}
+use Rattle.load_engine.specs.Driving.{Driving, LoadSession, LoadStop, driving}
 use Rattle.load_record.specs.declared.version.Version.TheVariants.{Second}
 use Rattle.load_record.specs.RecordText.{mark_text, open_run, record_text, second_piece}
 use Rattle.load_lives.specs.Lives.{WireAndRecord, Life, last_core, GoesOnFrom, PassesOver, IsLeft, IsLife}
@@ -27,31 +27,31 @@ pub record EngineRun : Type 0 where
   pub patience : ℕ
   pub turns : ℕ
   pub core : Core
-  pub before : SessionTold
-  pub after : SessionTold
+  pub before : SessionTold Kept
+  pub after : SessionTold Kept
   pub items : List Item
 
 -- the core that it began with, and its turns
 abbrev pub opening : EngineRun → Core
 opening run = begun run.plan run.progress.verified run.progress.going run.patience
 
-abbrev pub turns_of : EngineRun → Option Stop → Driving
+abbrev pub turns_of : EngineRun → Option LoadStop → Driving
 turns_of run stop = driving (opening run) run.core stop
 
 -- it went on from what a record's text says, and its turns stopped so
-pub record HasRun (run : EngineRun) (text : List ℕ) (stop : Option Stop) : Type 0 where
+pub record HasRun (run : EngineRun) (text : List ℕ) (stop : Option LoadStop) : Type 0 where
   pub patient : run.patience < 2 ^ 32
   pub goes_on : GoesOnFrom run.plan text run.progress
-  pub session : Session run.turns (turns_of run stop) run.before run.after
+  pub session : LoadSession run.turns (turns_of run stop) run.before run.after
 
 -- all that its core decided to say
-abbrev pub decided : {run : EngineRun} {text : List ℕ} {stop : Option Stop} → HasRun run text stop → List Item
+abbrev pub decided : {run : EngineRun} {text : List ℕ} {stop : Option LoadStop} → HasRun run text stop → List Item
 decided {run} h = dialogue (opening run) h.session.heard
 
 -- a load that stopped, or may go on (None), with the line and the record that it found and left
 pub record StoppedLoad : Type 0 where
   pub run : EngineRun
-  pub stop : Option Stop
+  pub stop : Option LoadStop
   pub found : WireAndRecord
   pub left : WireAndRecord
 

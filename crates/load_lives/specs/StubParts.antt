@@ -14,15 +14,16 @@ use Rattle.line_world.specs.Safe.{FirstStand}
 use Rattle.host_devices.specs.declared.item.Item.{Item}
 use Rattle.host_devices.specs.Dialogue.{dialogue}
 use Rattle.exchange_core.specs.declared.chunk.Chunk.{Chunk}
+use Rattle.exchange_core.specs.declared.duplex.Duplex.{Duplex}
 use Rattle.exchange_core.specs.Chunk.{AreChunks, chunk_nr}
 use Rattle.exchange_core.specs.Exchange.{begun as exchange_begun, led as exchange_led}
-use Rattle.exchange_law.specs.Law.{dialogue as exchange_dialogue, pieces_of}
+use Rattle.exchange_law.specs.Law.{bytes_of, dialogue as exchange_dialogue}
 use Rattle.exchange_law.specs.Station.{Program}
 
 -- where every word of this plan stands, a stub lies at its start that fills these chunks; and no chunk ends above the plan's words, so that memory is
 -- known to be there
 pub record IsStubOf (program : Program) (stub : PlanValue) (chunks : List Chunk) : Type 0 where
-  pub lies : (memory : List ℕ) → FirstStand stub.words (length stub.words) memory → program memory (unwrap_or stub.start 0) ≡ Some (pieces_of chunks)
+  pub lies : (memory : List ℕ) → FirstStand stub.words (length stub.words) memory → program memory (unwrap_or stub.start 0) ≡ Some (bytes_of chunks)
   pub above : (k : ℕ) → k < length chunks →
       (i : ℕ) × (i < length stub.words) × ((chunk_nr chunks k).address + (chunk_nr chunks k).size ≤ (word_nr stub.words i).address + 2)
 
@@ -34,12 +35,13 @@ pub record IsStubFor (program : Program) (tape : PlanValue) (from : ℕ) (stub :
   pub words : AreChunks tape from chunks
   pub code : IsStubOf program stub chunks
 
--- a stub's part of a load: its plan and its chunks, how many mishaps the host survives that brings it in, and what was heard while it was brought in and
--- in the exchange
+-- a stub's part of a load: its plan and its chunks, how many mishaps the host survives that brings it in, whether the host of the exchange sends while
+-- answers come, and what was heard while the stub was brought in and in the exchange
 pub record StubPart : Type 0 where
   pub stub : PlanValue
   pub chunks : List Chunk
   pub patience : ℕ
+  pub duplex : Duplex
   pub brought : List Heard
   pub exchanged : List Heard
 
@@ -58,11 +60,11 @@ starts part = is_started (led (bringer part) part.brought).phase
 
 -- how many words are verified behind the part, where so many were before
 abbrev pub verified_after : PlanValue → ℕ → StubPart → ℕ
-verified_after tape v part = if starts part then (exchange_led tape.image part.chunks (exchange_begun v) part.exchanged).verified else v
+verified_after tape v part = if starts part then (exchange_led tape.image part.chunks (exchange_begun v part.duplex) part.exchanged).verified else v
 
 -- what is said in its exchange
 abbrev pub exchange_said : PlanValue → ℕ → StubPart → List Item
-exchange_said tape v part = if starts part then exchange_dialogue tape.image part.chunks (exchange_begun v) part.exchanged else []
+exchange_said tape v part = if starts part then exchange_dialogue tape.image part.chunks (exchange_begun v part.duplex) part.exchanged else []
 
 -- how many words are verified behind all of them
 abbrev pub verified_by : PlanValue → ℕ → List StubPart → ℕ

@@ -8,6 +8,7 @@ use load_record::RecordError;
 use machine_load::{Around, LoadFault};
 use record_file::RecordFile;
 use simulated_system::{FailingSteps, ToldDisk};
+use std::alloc::Global;
 use std::io::{ErrorKind, Write};
 use std::os::unix::fs::symlink;
 use std::test::Fail;
@@ -50,15 +51,22 @@ const LINKED: &str = "+ look d.record\n\
     + look d.record\n\
     - sole d.record\n";
 
-const WRITTEN_OVER: &str = "- sole d.record\n\
-    + look d.record\n\
-    + cut LDAODT 2\n001000 011064\n\
-    + sync LDAODT 2\n001000 011064\n";
+const WITH_THE_WORD: &str = "LDAODT 2\n001000 011064\n";
 
-const BEGUN_OVER: &str = "- sole d.record\n\
-    + look d.record\n\
-    + cut LDAODT 2\n\n\
-    + sync LDAODT 2\n\n";
+const WITHOUT_WORDS: &str = "LDAODT 2\n\n";
+
+fn begun_over(alloc: Global, folder: &str, text: &str) -> Option<String> {
+    let text = format!(in alloc;
+        "- sole d.record\n\
+        + resolve d.record {folder}/d.other\n\
+        + open to read {folder}\n\
+        + sync folder {folder}\n\
+        + look d.record\n\
+        + cut {text}\
+        + sync {text}"
+    );
+    text.ok()
+}
 
 // The one that was made goes again, where nothing was written to it.
 const UNMADE: &str = "+ look d.record\n\
@@ -245,14 +253,19 @@ fn put_link(rt: &HostRuntime, text: &str) -> io::Result<()> {
 
 #[test]
 fn one_that_a_rename_does_not_reach_is_begun_only_in_place(rt: HostRuntime) -> Result<(), Fail> {
-    for (text, then) in [
-        ("", BEGUN_OVER),
-        ("LDA", BEGUN_OVER),
-        (GOING_ON, WRITTEN_OVER),
-        (STANDING, WRITTEN_OVER),
+    let folder = fs::canonicalize(&rt, ".")?;
+    for (text, begun) in [
+        ("", WITHOUT_WORDS),
+        ("LDA", WITHOUT_WORDS),
+        (GOING_ON, WITH_THE_WORD),
+        (STANDING, WITH_THE_WORD),
     ] {
         put_link(&rt, text)?;
-        assert!(rt; is_loaded(&rt, AMPLE, None, (LINKED, then)), "{text}");
+        let then = begun_over(rt.alloc(), folder.as_str(), begun).ok_or("memory")?;
+        assert!(rt;
+            is_loaded(&rt, AMPLE, None, (LINKED, then.as_str())),
+            "{text}"
+        );
         assert!(rt;
             fs::read(&rt, OTHER)?.as_slice() == STARTED.as_bytes(),
             "{text}"

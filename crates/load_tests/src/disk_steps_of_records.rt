@@ -189,16 +189,25 @@ fn one_that_is_not_there_is_made(rt: HostRuntime) {
     assert!(rt; holds(&rt, RECORD, None) && holds(&rt, BESIDE, None));
 }
 
-// A link, and a file with a second name, are written in place, and cut behind what was written.
-const WRITTEN_OVER: &str = "+ look d.record\n\
-    + open to write d.record\n\
-    + hold d.record\n\
-    + look d.record\n\
-    - sole d.record\n\
-    - sole d.record\n\
-    + look d.record\n\
-    + cut LDAODT 2\n001000 011064\n\
-    + sync LDAODT 2\n001000 011064\n";
+// A link, and a file with a second name, are written in place, once it is on the disk that it stands in this folder, and cut behind
+// what was written.
+fn written_over(alloc: Global, folder: &str, file: &str) -> Option<String> {
+    let text = format!(in alloc;
+        "+ look d.record\n\
+        + open to write d.record\n\
+        + hold d.record\n\
+        + look d.record\n\
+        - sole d.record\n\
+        - sole d.record\n\
+        + resolve d.record {folder}/{file}\n\
+        + open to read {folder}\n\
+        + sync folder {folder}\n\
+        + look d.record\n\
+        + cut LDAODT 2\n001000 011064\n\
+        + sync LDAODT 2\n001000 011064\n"
+    );
+    text.ok()
+}
 
 // A record of version 2 whose lines are others than those that are written.
 const OTHER_LINES: &str = "LDAODT 2\n001000 001000\n";
@@ -211,27 +220,30 @@ const NOT_WRITTEN_OVER: &str = "+ look d.record\n\
     - sole d.record\n\
     - sole d.record\n";
 
-// Nor is one whose name leads to it no more: what is written there would be lost.
+// Nor is one whose name leads nowhere any more: what is written there would be lost.
 const GONE: &str = "+ look d.record\n\
     + open to write d.record\n\
     + hold d.record\n\
     + look d.record\n\
     - sole d.record\n\
     - sole d.record\n\
-    - look d.record\n";
+    - resolve d.record\n";
 
 #[test]
 fn a_file_with_another_name_is_written_over(rt: HostRuntime) -> Result<(), Fail> {
+    let folder = fs::canonicalize(&rt, ".")?;
+    let linked = written_over(rt.alloc(), folder.as_str(), OTHER).ok_or("memory")?;
+    let named = written_over(rt.alloc(), folder.as_str(), RECORD).ok_or("memory")?;
     put_link(&rt, CURRENT)?;
     assert!(rt;
-        is_course(&rt, (RECORD, NO_FAULT), Outcome::Begun, WRITTEN_OVER),
+        is_course(&rt, (RECORD, NO_FAULT), Outcome::Begun, linked.as_str()),
         "link"
     );
     assert!(rt; holds(&rt, OTHER, Some(BEGUN)));
     put(&rt, CURRENT)?;
     fs::hard_link(&rt, RECORD, OTHER)?;
     assert!(rt;
-        is_course(&rt, (RECORD, NO_FAULT), Outcome::Begun, WRITTEN_OVER),
+        is_course(&rt, (RECORD, NO_FAULT), Outcome::Begun, named.as_str()),
         "second name"
     );
     assert!(rt; holds(&rt, OTHER, Some(BEGUN)));
@@ -247,6 +259,35 @@ fn a_file_with_another_name_is_written_over(rt: HostRuntime) -> Result<(), Fail>
     let gone: FailingSteps = &[(6, ErrorKind::NotFound)];
     assert!(rt; is_course(&rt, (RECORD, gone), UNBEGUN, GONE), "gone");
     assert!(rt; holds(&rt, OTHER, Some(CURRENT)));
+    clear(&rt);
+    Ok(())
+}
+
+// One whose folder may not be opened is written all the same, and one whose folder can't be brought to the disk is not.
+#[test]
+fn a_folder_of_a_file_with_another_name(rt: HostRuntime) -> Result<(), Fail> {
+    let path = fs::canonicalize(&rt, ".")?;
+    let folder = path.as_str();
+    let done = written_over(rt.alloc(), folder, OTHER).ok_or("memory")?;
+    let alloc = rt.alloc();
+    let synced = format!(in alloc; "+ open to read {folder}\n+ sync folder {folder}\n")?;
+    let shut = format!(in alloc; "- open to read {folder}\n")?;
+    let (before, behind) = done.as_str().split_once(synced.as_str()).ok_or("steps")?;
+    let passed_over = format!(in alloc; "{before}{shut}{behind}")?;
+    let unsynced = format!(in alloc; "{before}+ open to read {folder}\n- sync folder {folder}\n")?;
+    let closed: FailingSteps = &[(7, ErrorKind::PermissionDenied)];
+    let failed: FailingSteps = &[(8, ErrorKind::Other)];
+    put_link(&rt, CURRENT)?;
+    assert!(rt;
+        is_course(&rt, (RECORD, failed), UNBEGUN, unsynced.as_str()),
+        "failed"
+    );
+    assert!(rt; holds(&rt, OTHER, Some(CURRENT)));
+    assert!(rt;
+        is_course(&rt, (RECORD, closed), Outcome::Begun, passed_over.as_str()),
+        "closed"
+    );
+    assert!(rt; holds(&rt, OTHER, Some(BEGUN)));
     clear(&rt);
     Ok(())
 }
@@ -409,21 +450,29 @@ const LEFT: &str = "+ look d.record\n\
     + sync folder .\n";
 
 // One that can't be renamed goes, and the record is written in place.
-const NOT_RENAMED: &str = "+ look d.record\n\
-    + open to write d.record\n\
-    + hold d.record\n\
-    + look d.record\n\
-    + sole d.record\n\
-    + sole d.record\n\
-    + open to read .\n\
-    + open new d.record.ldaodt-new\n\
-    + hold d.record.ldaodt-new\n\
-    + look d.record\n\
-    - rename d.record.ldaodt-new d.record\n\
-    + remove d.record.ldaodt-new\n\
-    + look d.record\n\
-    + cut LDAODT 2\n001000 011064\n\
-    + sync LDAODT 2\n001000 011064\n";
+fn not_renamed(alloc: Global, folder: &str) -> Option<String> {
+    let text = format!(in alloc;
+        "+ look d.record\n\
+        + open to write d.record\n\
+        + hold d.record\n\
+        + look d.record\n\
+        + sole d.record\n\
+        + sole d.record\n\
+        + open to read .\n\
+        + open new d.record.ldaodt-new\n\
+        + hold d.record.ldaodt-new\n\
+        + look d.record\n\
+        - rename d.record.ldaodt-new d.record\n\
+        + remove d.record.ldaodt-new\n\
+        + resolve d.record {folder}/d.record\n\
+        + open to read {folder}\n\
+        + sync folder {folder}\n\
+        + look d.record\n\
+        + cut LDAODT 2\n001000 011064\n\
+        + sync LDAODT 2\n001000 011064\n"
+    );
+    text.ok()
+}
 
 #[test]
 fn a_new_record_that_is_left_goes(rt: HostRuntime) -> Result<(), Fail> {
@@ -433,7 +482,9 @@ fn a_new_record_that_is_left_goes(rt: HostRuntime) -> Result<(), Fail> {
     assert!(rt; holds(&rt, RECORD, Some(BEGUN)) && holds(&rt, BESIDE, None));
     put(&rt, CURRENT)?;
     let fixed: FailingSteps = &[(10, ErrorKind::PermissionDenied)];
-    assert!(rt; is_course(&rt, (RECORD, fixed), Outcome::Begun, NOT_RENAMED));
+    let folder = fs::canonicalize(&rt, ".")?;
+    let lines = not_renamed(rt.alloc(), folder.as_str()).ok_or("memory")?;
+    assert!(rt; is_course(&rt, (RECORD, fixed), Outcome::Begun, lines.as_str()));
     assert!(rt; holds(&rt, RECORD, Some(BEGUN)) && holds(&rt, BESIDE, None));
     clear(&rt);
     Ok(())

@@ -2,6 +2,6 @@ pub mod Beliefs
 mod Calls
 mod Harm
 pub mod Inquiries
-pub mod Sessions
+pub mod Looks
+pub mod Numbers
 mod Tryings
-mod Ways

@@ -6,7 +6,7 @@ use Rattle.host_core.specs.declared.phase.End.{End}
 use Rattle.host_core.specs.declared.phase.End.TheVariants.{Loaded, MaybeStarted}
 use Rattle.host_core.specs.declared.phase.Phase.TheVariants.{Settle, Ended as HasEnded}
 use Rattle.host_core.specs.Core.{Core, ended}
-use Rattle.load_engine.specs.declared.stop.Stop.TheVariants.{Ended}
+use Rattle.engine.specs.declared.stop.Stop.TheVariants.{Ended}
 use Rattle.machine_load.specs.declared.load_end.LoadEnd.{LoadEnd}
 use Rattle.machine_load.specs.declared.load_end.LoadEnd.TheVariants.{Driven}
 use Rattle.machine_load.specs.Load.{IsOpening, IsOverAtOnce, IsNeverBegun, words_taken}

@@ -1,12 +1,13 @@
 -- Loads by their lives.
 use Rattle.std.proofs.Common.{◌≡◌, ◌⊎◌, List, [], Option, Some, None, option_map, refl, subst, inl, inr}
 use Rattle.host_core.specs.Core.{Core}
-use Rattle.host_devices.specs.Devices.{Devices, KeeperCalls, line_told}
+use Rattle.host_devices.specs.Devices.{Devices, line_told}
+use Rattle.host_devices.specs.declared.item.Kept.{Kept}
+use Rattle.engine.specs.Keeping.{IsKeptBy, KeeperCalls}
 use Rattle.host_devices.specs.Told.{Gains}
 use Rattle.host_devices.specs.Turns.{most_turns}
-use Rattle.load_engine.specs.declared.stop.Stop.{Stop}
-use Rattle.load_engine.specs.Driven.{IsDriven, IsKeptBy, turns_give}
-use Rattle.load_engine.specs.Driving.{driving}
+use Rattle.load_engine.specs.Driving.{LoadStop as Stop, driving}
+use Rattle.load_engine.specs.Driven.{IsDriven, turns_give}
 use Rattle.console_lines.specs.Dialling.{Call, LineRequest, asked_once}
 use Rattle.machine_load.specs.Asked.{Change, LoadTask, Opened, opened_as, ◌⇒◌}
 use Rattle.machine_load.specs.Called.{asked_by}
@@ -40,8 +41,8 @@ over_line tells opened around finish (inr (inr life)) = inr (inr (record {
     has_line = life.driven.has_line;
     stop = life.driven.stop;
     end_is = life.driven.end_is;
-    kept = tells.calls.kept life.driven.keeper;
-    kept' = tells.calls.kept life.driven.keeper';
+    kept = tells.calls.told life.driven.keeper;
+    kept' = tells.calls.told life.driven.keeper';
     between = told_by tells.calls life.driven.parts.between;
     parts = life.driven.parts.parts;
   };
@@ -126,7 +127,7 @@ asked_untold call (Some line) asked asked' once = inr once
 asked_untold call None asked asked' none = inl none
 
 -- a host behind stubs that hindered it
-pub hindered : {K : Type 0} (calls : KeeperCalls K) (first : Core) (stubs : Option Stubs) (core : Core) (stop : Stop) (here : Devices) (keeper : K) → Some stop ≡ hindrance stubs → core ≡ host_behind first stubs
+pub hindered : {K : Type 0} (calls : KeeperCalls K Kept) (first : Core) (stubs : Option Stubs) (core : Core) (stop : Stop) (here : Devices) (keeper : K) → Some stop ≡ hindrance stubs → core ≡ host_behind first stubs
     → IsDrivenBehind (course first stubs (core, stop)) here here × IsKeptBehind calls (course first stubs (core, stop)) keeper keeper
 hindered calls first stubs core stop here keeper is same = (
   subst (λ why. IsDrivenUnless why (course first stubs (core, stop)) here here) is (record { core = same; stop_is = refl; devices_same = refl }),
@@ -134,7 +135,7 @@ hindered calls first stubs core stop here keeper is same = (
 )
 
 -- one that nothing hindered
-pub free : {K : Type 0} (calls : KeeperCalls K) (first : Core) (stubs : Option Stubs) (core : Core) (answer : Core × Stop) (before after : Devices) (keeper keeper' : K) → None ≡ hindrance stubs → core ≡ host_behind first stubs
+pub free : {K : Type 0} (calls : KeeperCalls K Kept) (first : Core) (stubs : Option Stubs) (core : Core) (answer : Core × Stop) (before after : Devices) (keeper keeper' : K) → None ≡ hindrance stubs → core ≡ host_behind first stubs
     → IsDriven most_turns (driving core answer.0 (Some answer.1)) before after → IsKeptBy calls (turns_give (driving core answer.0 (Some answer.1))) keeper keeper'
     → IsDrivenBehind (course first stubs answer) before after × IsKeptBehind calls (course first stubs answer) keeper keeper'
 free calls first stubs core answer before after keeper keeper' is same driven kept = (

@@ -3,7 +3,7 @@ use Rattle.std.proofs.Common.{◌≡◌, ℕ, Bool, true, false, List, Option, N
 use Rattle.std.proofs.KnownBytes.{Keeps-refl, Keeps-trans}
 use Rattle.host_devices.specs.Devices.{LineTold}
 use Rattle.machine_load.specs.Step.{LoadStep, Connected, begin_step}
-use Rattle.machine_load.proofs.Steps.{gains_more}
+use Rattle.host_devices.proofs.Told.{gains_join}
 use Rattle.machine_load.specs.declared.looks.Looks.{Looks}
 use Rattle.machine_load.specs.GivenBack.{GivesLooked, GivesNone}
 use Rattle.machine_load.specs.Looks.{AreLooks, AreLooksAt, IsSampled, ended_by, unfinished_at}
@@ -85,8 +85,8 @@ module _ (GoesSo : HowItGoesOn) (task : LoadTask) (before between after : Surrou
 pub behind_looks_fault : (first : Core) (before between after : SurroundingsTold) (lines lines' : Option (List LineTold)) (why : RecordFault) (writable : Bool) → IsUnbegun why → writable ≡ true
     → Asks before between (Connected ∷ []) → Asks between after (begin_step {A = Unit {0}} (Err why) ∷ []) → GivesLooked first lines lines'
     → IsBeginningFault writable first (gone before lines ⇒ gone after lines') (fault_of_record why)
-behind_looks_fault first before between after lines lines' why.Write writable is may connected fails given = inr (may, gains_more _ _ _ _ _ connected fails, given)
-behind_looks_fault first before between after lines lines' why.Memory writable is may connected fails given = inr (may, gains_more _ _ _ _ _ connected fails, given)
+behind_looks_fault first before between after lines lines' why.Write writable is may connected fails given = inr (may, gains_join _ _ _ _ _ connected fails, given)
+behind_looks_fault first before between after lines lines' why.Memory writable is may connected fails given = inr (may, gains_join _ _ _ _ _ connected fails, given)
 behind_looks_fault first before between after lines lines' other writable is may connected fails given = absurd is
 
 -- ---- looks

@@ -85,7 +85,7 @@ stub_fronts program tape v (part ∷ more) front rest are is =
     elim (cut talk (exchange_said tape v part ++ later) front rest is) [
       | inl within ↦ typed (fronts_are_stopped (bringer part) part.brought front within.0 within.1)
       | inr behind ↦ elim (cut (exchange_said tape v part) later behind.0 rest behind.2) [
-        | inl half ↦ exchanged behind.0 behind.1 (where_cut (starts part) tape.image part.chunks (exchange_begun v) part.exchanged behind.0 half.0 half.1)
+        | inl half ↦ exchanged behind.0 behind.1 (where_cut (starts part) tape.image part.chunks (exchange_begun v part.duplex) part.exchanged behind.0 half.0 half.1)
         | inr all ↦
             let s = stub_fronts program tape (verified_after tape v part) more all.0 rest are.2 all.2 in
             record {
@@ -116,7 +116,7 @@ stub_fronts program tape v (part ∷ more) front rest are is =
         }
 
     exchanged : (within : List Item) → front ≡ talk ++ within
-        → (fewer : List Heard) × (unsent : List ℕ) × ((if starts part then exchange_dialogue tape.image part.chunks (exchange_begun v) fewer else []) ≡ within ++ said_all unsent)
+        → (fewer : List Heard) × (unsent : List ℕ) × ((if starts part then exchange_dialogue tape.image part.chunks (exchange_begun v part.duplex) fewer else []) ≡ within ++ said_all unsent)
         → AreStoppedAt program tape v front
     exchanged within front_is (fewer, unsent, said_is) =
         let less : StubPart = record part { exchanged = fewer } in

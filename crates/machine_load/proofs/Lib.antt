@@ -7,4 +7,3 @@ mod Loads
 pub mod OnDisk
 mod Opened
 mod Renewed
-mod Steps

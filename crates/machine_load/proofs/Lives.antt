@@ -12,10 +12,13 @@ use Rattle.host_core.specs.Laws.{led}
 use Rattle.host_devices.specs.declared.item.Item.{Item}
 use Rattle.host_devices.specs.Dialogue.{dialogue, keys_of}
 use Rattle.host_devices.specs.Turns.{most_turns}
-use Rattle.load_engine.specs.declared.stop.Stop.{Stop}
-use Rattle.load_engine.specs.declared.stop.Stop.TheVariants.{Ended, LineFailed, KeepFailed, TurnsOver}
-use Rattle.load_engine.specs.Driving.{driving}
-use Rattle.load_engine.specs.Session.{Session, SessionTold, told_by as session_told_by}
+use Rattle.load_engine.specs.Driving.{LoadSession, LoadStop as Stop, driving}
+use Rattle.engine.specs.declared.stop.Stop.TheVariants.{Ended, LineFailed, KeepFailed, TurnsOver}
+use Rattle.host_devices.specs.declared.item.Kept.{Kept}
+use Rattle.engine.specs.Keeping.{IsKeptBy}
+use Rattle.engine.specs.Session.{SessionTold}
+use Rattle.load_engine.specs.Driven.{told_by as session_told_by}
+use Rattle.load_engine.proofs.Sessions.{core_is, session_said}
 use Rattle.load_lives.specs.Keepers.{WentOutAt}
 use Rattle.load_lives.specs.Lives.{Life, WireAndRecord, GoesOnFrom, IsLeft, PassesOver, last_core}
 use Rattle.load_lives.specs.Stops.{IsBeginning, WentOut}
@@ -50,7 +53,7 @@ use Rattle.machine_load.specs.Lives.{GoesOut, HostGoesOut, LooksGoOut, PartsGoOu
 use Rattle.machine_load.specs.Load.{SurroundingsTold, Finish, IsBusyLife, IsLoad, IsHeldUp, IsIdleLife, IsLived, words_taken}
 use Rattle.machine_load.specs.Looks.{AreLooks, vouched_for}
 use Rattle.machine_load.specs.Parts.{AreBrought, AreKept, AreParts, IsDrivenUnless, IsKeptBehind, Unless, course, stubs_of, told_by, turns_of}
-use Rattle.load_engine.specs.Driven.{IsDriven, IsKeptBy, turns_give}
+use Rattle.load_engine.specs.Driven.{IsDriven, turns_give}
 use Rattle.machine_load.specs.Stubs.{hindrance_of}
 use Rattle.machine_load.proofs.Renewed.{EachKept, HoldsFront, host_holds, stubs_front, stubs_held}
 
@@ -169,14 +172,15 @@ module _ (plan : PlanValue) (v patience : ℕ) (looks front rest : List Item) (o
   front_left core keep holds is = subst (λ text. (missing : List ℕ) × (text ++ missing ≡ record_text Second plan core.verified core.going)) (same_text holds.text new.text (sym holds.held ∙ is)) holds.front
 
   -- its host went on behind stubs
-  behind : (parts : List StubPart) (w : ℕ) (core : Core) (stop : Stop) (before after : SessionTold) (keep : Keeper) → w ≡ verified_by plan v parts → AreStubParts stub_program plan v parts → stubs_said plan v parts ≡ front
-      → (session : Session most_turns (driving (begun plan w false patience) core (Some stop)) before after) → WentOutAt stop (dialogue (begun plan w false patience) session.heard) session.said rest
+  behind : (parts : List StubPart) (w : ℕ) (core : Core) (stop : Stop) (before after : SessionTold Kept) (keep : Keeper) → w ≡ verified_by plan v parts → AreStubParts stub_program plan v parts → stubs_said plan v parts ≡ front
+      → (session : LoadSession most_turns (driving (begun plan w false patience) core (Some stop)) before after) → WentOutAt stop (dialogue (begun plan w false patience) session.heard) session.said rest
       → HoldsFront plan core rest keep → keep.text ≡ Some new.text → FastLives plan core looks front rest old new
   behind parts w core stop before after keep here are said_is session out holds is =
       let all = dialogue (begun plan w false patience) session.heard in
-      let u = unsent_out (Some stop) _ all session.said rest session.items (went_out stop all session.said rest out) in
+      let turns = driving (begun plan w false patience) core (Some stop) in
+      let u = unsent_out (Some stop) all session.said rest (session_said most_turns turns before after session) (went_out stop all session.said rest out) in
       let life : FastLife = record { progress = record { verified = v; going = false }; stubs = parts; patience = patience; heard = session.heard; front = front; rest = rest; unsent = option_to_list u.0 } in
-      let came : fast_core plan life ≡ core = ap (λ n. led (begun plan n false patience) session.heard) (sym here) ∙ sym session.core in (
+      let came : fast_core plan life ≡ core = ap (λ n. led (begun plan n false patience) session.heard) (sym here) ∙ sym (core_is most_turns turns before after session) in (
         record { looks = looks; life = life },
         came,
         refl,
@@ -327,7 +331,7 @@ module _ (plan : PlanValue) (v patience : ℕ) (told : Option (List ℕ)) (betwe
       parts_lived plan (vouched_for v life.first_looks.looks.finding) (patience - life.first_looks.looks.spent) looks front rest old new fits (less_patience patience life.first_looks.looks.spent long)
       (goes_behind plan old.text v life.first_looks.looks.finding goes)
       (inr (of_record plan v patience goes.recorded life.first_looks.looks life.first_looks.line life.first_looks.behind looks long goes.fewer goes.same_mark life.first_looks.looked looked))
-      passes finish.stubs finish.core life.driven.stop (devices life.first_looks.behind (of_file.calls.kept life.driven.keeper)) (told_by of_file.calls life.driven.parts.between) (devices life.driven.line' (of_file.calls.kept life.driven.keeper')) life.driven.keeper life.driven.parts.between.keeper life.driven.keeper' life.driven.begun_so
+      passes finish.stubs finish.core life.driven.stop (devices life.first_looks.behind (of_file.calls.told life.driven.keeper)) (told_by of_file.calls life.driven.parts.between) (devices life.driven.line' (of_file.calls.told life.driven.keeper')) life.driven.keeper life.driven.parts.between.keeper life.driven.keeper' life.driven.begun_so
       life.driven.parts.parts life.driven.parts.stubs_kept life.driven.parts.host_kept out (sym life.driven.left ∙ is)
 
   fast_lived : {fast writable : Bool} (going : Bool) → GoesOnFrom plan old.text (record { verified = v; going = going }) → (life : IsLived (IsDrivenOn of_file) (opened_as (begun plan v going patience) fast writable) (between ⇒ after) finish) → GoesOut life looks front rest
@@ -381,10 +385,10 @@ module _ (plan : PlanValue) (v patience : ℕ) (looks items : List Item) (old ne
       let front = host_holds plan v patience stop core (session_told_by before) (session_told_by behind) keeper keeper' items fits long (omega (arith, goes.fewer, sound.within)) holds host.session out kept.kept_by in
       let same : front.text ≡ new.text = same_text front.text new.text (sym front.held ∙ held) in
       let all = dialogue (begun plan v false patience) host.session.heard in
-      let u = unsent_out (Some stop) _ all host.session.said items host.session.items (went_out stop all host.session.said items out) in
+      let u = unsent_out (Some stop) all host.session.said items host.said (went_out stop all host.session.said items out) in
       let life : Life = record { patience = patience; progress = record { verified = v; going = false }; heard = host.session.heard; items = items; unsent = u.0 } in (
         record { looks = looks; life = life },
-        sym host.session.core,
+        sym host.core,
         refl,
         refl,
         record {
@@ -393,7 +397,7 @@ module _ (plan : PlanValue) (v patience : ℕ) (looks items : List Item) (old ne
           looked = looked;
           stopped = u.1;
           line = passes;
-          left = subst (λ (c : Core). IsLeft plan (record { verified = v; going = false }) c items old.text new.text) host.session.core (record {
+          left = subst (λ (c : Core). IsLeft plan (record { verified = v; going = false }) c items old.text new.text) host.core (record {
             cut = inr (subst (λ text. (missing : List ℕ) × (text ++ missing ≡ record_text Second plan core.verified core.going)) same front.front);
             whole = λ has. sym same ∙ front.whole has;
             alone = λ set. absurd (cc set);
@@ -449,7 +453,7 @@ module _ (plan : PlanValue) (v patience : ℕ) (told : Option (List ℕ)) (betwe
       parts_alone plan (vouched_for v life.first_looks.looks.finding) (patience - life.first_looks.looks.spent) looks items old new fits (less_patience patience life.first_looks.looks.spent long)
       (goes_behind plan old.text v life.first_looks.looks.finding goes)
       (inr (of_record plan v patience goes.recorded life.first_looks.looks life.first_looks.line life.first_looks.behind looks long goes.fewer goes.same_mark life.first_looks.looked looked))
-      passes finish.stubs finish.core life.driven.stop (devices life.first_looks.behind (of_file.calls.kept life.driven.keeper)) (told_by of_file.calls life.driven.parts.between) (devices life.driven.line' (of_file.calls.kept life.driven.keeper')) life.driven.keeper life.driven.parts.between.keeper life.driven.keeper' life.driven.stubs_asked life.driven.begun_so
+      passes finish.stubs finish.core life.driven.stop (devices life.first_looks.behind (of_file.calls.told life.driven.keeper)) (told_by of_file.calls life.driven.parts.between) (devices life.driven.line' (of_file.calls.told life.driven.keeper')) life.driven.keeper life.driven.parts.between.keeper life.driven.keeper' life.driven.stubs_asked life.driven.begun_so
       life.driven.parts.parts life.driven.parts.stubs_kept life.driven.parts.host_kept out (sym life.driven.left ∙ is)
 
   lived : {writable : Bool} (going : Bool) → GoesOnFrom plan old.text (record { verified = v; going = going }) → (life : IsLived (IsDrivenOn of_file) (opened_as (begun plan v going patience) false writable) (between ⇒ after) finish) → GoesOut life looks [] items

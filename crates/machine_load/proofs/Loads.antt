@@ -6,7 +6,7 @@ use Rattle.console_lines.specs.Dialling.{asked_once}
 use Rattle.host_core.specs.Core.{Core}
 use Rattle.host_devices.specs.Devices.{LineTold, line_told}
 use Rattle.host_devices.specs.Told.{Gains}
-use Rattle.load_engine.specs.declared.stop.Stop.{Stop}
+use Rattle.load_engine.specs.Driving.{LoadStop as Stop}
 use Rattle.machine_load.specs.declared.beginning.BegunLife.{BegunLife}
 use Rattle.machine_load.specs.declared.fault.LoadFault.{LoadFault}
 use Rattle.machine_load.specs.declared.fault.LoadFault.TheVariants.{WriteOutput}
@@ -29,7 +29,7 @@ use Rattle.machine_load.specs.Step.{RecordGivenBack}
 use Rattle.machine_load.proofs.Begun.{never_begun}
 use Rattle.machine_load.proofs.Driving.{asked_untold}
 use Rattle.machine_load.proofs.OnDisk.{begun_on, held_on, idle_on, untold_on}
-use Rattle.machine_load.proofs.Steps.{gains_more}
+use Rattle.host_devices.proofs.Told.{gains_join}
 
 -- a life was opened
 pub record IsOpenedIn (task : LoadTask) (scenes : Change Scene) (first : Core) (writable : Bool) : Type 0 where
@@ -91,7 +91,7 @@ module _ {L K : Type 0} (tells : LoadTells L K) (task : LoadTask) (before opened
   driven begun between stubs core stop line keeper is stubs_asked parts given_back left lines asked disk =
       let lived : Lived L = record { core = core; end = Driven stop; looks = Some begun.looks; stubs = stubs; line = Some line } in
       let on : IsDrivenOn tells.keeper (going_on begun.first task.options.fast (line_told tells.line begun.line)) (is.between ⇒ after.setting.around) (finish_told tells.line lived) = record {
-        asked = gains_more _ _ _ _ _ is.record_begun given_back;
+        asked = gains_join _ _ _ _ _ is.record_begun given_back;
         stubs_asked = stubs_asked;
         line' = line_told tells.line line;
         has_line = refl;

@@ -13,7 +13,7 @@ use Rattle.record_file.specs.declared.record_fault.RecordFault.{RecordFault}
 use Rattle.machine_load.specs.RecordDisk.{RecordDisk, FileKnown, DiskAsked, IsReadAnswered, IsBegunOf, IsBegunOn, IsNotBegunOf, IsNotBegunOn, IsBeginAnswered, IsReadFirst, IsReadAndBegun, IsReadNotBegun, IsOnlyRead, disk_asked_by, disk_asked_before}
 use Rattle.host_devices.specs.Devices.{LineTold}
 use Rattle.machine_load.specs.Beginning.{IsNoBeginningOn}
-use Rattle.load_engine.specs.declared.stop.Stop.{Stop as DriveStop}
+use Rattle.load_engine.specs.Driving.{LoadStop as DriveStop}
 use Rattle.machine_load.specs.declared.load_end.LoadEnd.{LoadEnd}
 use Rattle.machine_load.specs.declared.load_end.LoadEnd.TheVariants as load_end
 use Rattle.machine_load.specs.declared.looks.Looks.{Looks}

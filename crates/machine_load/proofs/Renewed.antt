@@ -16,11 +16,11 @@ use Rattle.host_devices.specs.declared.item.Kept.{Kept}
 use Rattle.host_devices.specs.declared.item.Kept.TheVariants.{Word}
 use Rattle.host_devices.specs.Dialogue.{dialogue, keys_of}
 use Rattle.host_devices.specs.Turns.{most_turns}
-use Rattle.load_engine.specs.declared.stop.Stop.{Stop}
+use Rattle.load_engine.specs.Driving.{LoadSession, LoadStop as Stop, driving}
+use Rattle.load_engine.proofs.Sessions.{core_is}
 use Rattle.load_engine.specs.Driven.{turns_give}
-use Rattle.load_engine.specs.Driving.{driving}
-use Rattle.load_engine.specs.Keeping.{AllOrFront, KeepsEach, KeptBy}
-use Rattle.load_engine.specs.Session.{Session, SessionTold}
+use Rattle.engine.specs.Keeping.{AllOrFront, KeepsEach, KeptBy}
+use Rattle.engine.specs.Session.{SessionTold}
 use Rattle.load_engine.proofs.News.{led_forward}
 use Rattle.byte_io.specs.Output.{WritesPrefix}
 use Rattle.load_record.specs.declared.version.Version.TheVariants.{Second}
@@ -67,8 +67,8 @@ front_of plan v core text more (inl same) = subst (λ t. IsBeginning t (record_t
 front_of plan v core text more (inr front) = front
 
 -- what the keeper of the record of the first words holds once a host has gone on behind them
-pub host_holds : (plan : PlanValue) (v patience : ℕ) (stop : Stop) (core : Core) (before after : SessionTold) (keep keep' : Keeper) (items : List Item) → IsPlan plan → patience < 2 ^ 32 → v ≤ length plan.words
-    → HoldsRecord keep plan v → (session : Session most_turns (driving (begun plan v false patience) core (Some stop)) before after) → WentOutAt stop (dialogue (begun plan v false patience) session.heard) session.said items
+pub host_holds : (plan : PlanValue) (v patience : ℕ) (stop : Stop) (core : Core) (before after : SessionTold Kept) (keep keep' : Keeper) (items : List Item) → IsPlan plan → patience < 2 ^ 32 → v ≤ length plan.words
+    → HoldsRecord keep plan v → (session : LoadSession most_turns (driving (begun plan v false patience) core (Some stop)) before after) → WentOutAt stop (dialogue (begun plan v false patience) session.heard) session.said items
     → KeptBy of_file.calls (turns_give (driving (begun plan v false patience) core (Some stop))) keep keep' → HoldsFront plan core items keep'
 host_holds plan v patience stop core before after keep keep' items fits long within holds session out by =
     let kept : HasLeft load =
@@ -98,7 +98,7 @@ host_holds plan v patience stop core before after keep keep' items fits long wit
     host = begun_kept plan v false patience fits within long (λ set. absurd (cc set))
 
     more : v ≤ core.verified
-    more = subst (λ (c : Core). v ≤ c.verified) (sym session.core) (led_forward (begun plan v false patience) session.heard host).verified
+    more = subst (λ (c : Core). v ≤ c.verified) (sym (core_is most_turns (driving (begun plan v false patience) core (Some stop)) before after session)) (led_forward (begun plan v false patience) session.heard host).verified
 
 -- ---- behind the stubs
 

@@ -1,8 +1,10 @@
 -- How a life goes on, over the line that was reached for it and the keeper that was begun for it.
 use Rattle.std.specs.Prelude.{◌≡◌, ℕ, List, [], ◌∷◌, Option, Some, is_some}
 use Rattle.tape_image.specs.Plan.{PlanValue}
-use Rattle.load_engine.specs.declared.stop.Stop.{Stop}
-use Rattle.host_devices.specs.Devices.{KeeperCalls, LineTold}
+use Rattle.load_engine.specs.Driving.{LoadStop as Stop}
+use Rattle.host_devices.specs.Devices.{LineTold}
+use Rattle.host_devices.specs.declared.item.Kept.{Kept}
+use Rattle.engine.specs.Keeping.{KeeperCalls}
 use Rattle.machine_load.specs.declared.load_end.LoadEnd.TheVariants.{Driven}
 use Rattle.machine_load.specs.Asked.{Change}
 use Rattle.machine_load.specs.Load.{SurroundingsTold, Finish, Going, Asks}
@@ -11,7 +13,7 @@ use Rattle.machine_load.specs.Step.{RecordBegun, RecordGivenBack}
 
 -- what keepers of a type tell and what their calls make of them; what one is that was begun, and what its record is
 pub record KeeperTells (K : Type 0) : Type 1 where
-  pub calls : KeeperCalls K
+  pub calls : KeeperCalls K Kept
   pub begins : K → PlanValue → ℕ → Type 0
   pub text : K → Option (List ℕ)
 

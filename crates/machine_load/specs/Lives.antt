@@ -5,7 +5,7 @@ use Rattle.tape_image.specs.Plan.{PlanValue, IsPlan}
 use Rattle.host_core.specs.Core.{Core}
 use Rattle.host_devices.specs.declared.item.Item.{Item}
 use Rattle.host_devices.specs.Dialogue.{dialogue}
-use Rattle.load_engine.specs.declared.stop.Stop.{Stop}
+use Rattle.load_engine.specs.Driving.{LoadStop as Stop}
 use Rattle.host_devices.specs.Devices.{Devices, LineTold}
 use Rattle.load_record.specs.Keeper.{Keeper, HoldsRecord}
 use Rattle.load_lives.specs.Keepers.{WentOutAt, record_calls}

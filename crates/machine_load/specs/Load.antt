@@ -9,8 +9,8 @@ use Rattle.host_core.specs.declared.progress.Progress.{Progress}
 use Rattle.host_core.specs.Core.{Core, begun, ended}
 use Rattle.host_devices.specs.declared.item.Kept.{Kept}
 use Rattle.host_devices.specs.Told.{Gains}
-use Rattle.load_engine.specs.declared.stop.Stop.{Stop}
-use Rattle.load_engine.specs.declared.stop.Stop.TheVariants.{Ended}
+use Rattle.load_engine.specs.Driving.{LoadStop as Stop}
+use Rattle.engine.specs.declared.stop.Stop.TheVariants.{Ended}
 use Rattle.load_record.specs.declared.version.Version.TheVariants.{Second}
 use Rattle.load_record.specs.RecordText.{record_text}
 use Rattle.load_record.specs.Reading.{Says}

@@ -5,7 +5,7 @@ use Rattle.host_core.specs.declared.phase.End.TheVariants as host
 use Rattle.host_core.specs.Core.{Core, begun}
 use Rattle.host_devices.specs.Turns.{most_turns}
 use Rattle.machine_load.specs.Asked.{Change, ◌⇒◌}
-use Rattle.load_engine.specs.declared.stop.Stop.TheVariants as drive
+use Rattle.engine.specs.declared.stop.Stop.TheVariants as drive
 use Rattle.machine_load.specs.declared.load_end.LoadEnd.{LoadEnd}
 use Rattle.machine_load.specs.declared.load_end.LoadEnd.TheVariants as load_end
 use Rattle.machine_load.specs.declared.looks.Looks.{Looks}

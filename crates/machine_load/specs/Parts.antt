@@ -1,11 +1,12 @@
 -- The parts of a life on its line: its stubs, where it brings some in, and its host behind them.
 use Rattle.std.specs.Prelude.{◌≡◌, Option, Some, None}
 use Rattle.host_core.specs.Core.{Core}
-use Rattle.host_devices.specs.Devices.{Devices, KeeperCalls, LineTold, devices}
+use Rattle.host_devices.specs.Devices.{Devices, LineTold, devices}
+use Rattle.host_devices.specs.declared.item.Kept.{Kept}
+use Rattle.engine.specs.Keeping.{IsKeptBy, KeeperCalls}
 use Rattle.host_devices.specs.Turns.{most_turns}
-use Rattle.load_engine.specs.declared.stop.Stop.{Stop}
-use Rattle.load_engine.specs.Driven.{IsDriven, IsKeptBy, turns_give}
-use Rattle.load_engine.specs.Driving.{Driving, driving}
+use Rattle.load_engine.specs.Driving.{Driving, LoadStop as Stop, driving}
+use Rattle.load_engine.specs.Driven.{IsDriven, turns_give}
 use Rattle.stub_engine.specs.Brought.{AreAllStubs, stubs_give}
 use Rattle.stub_engine.specs.Keeping.{IsKeptBy as StubsAreKeptBy}
 use Rattle.stub_engine.specs.Parts.{Bringing, bringing}
@@ -26,7 +27,7 @@ AreBrought None before after = after ≡ before
 AreBrought (Some stubs) before after = AreAllStubs stubs before after
 
 -- what they made of a keeper
-abbrev pub AreKept : {K : Type 0} → KeeperCalls K → Option Bringing → K → K → Type 0
+abbrev pub AreKept : {K : Type 0} → KeeperCalls K Kept → Option Bringing → K → K → Type 0
 AreKept {K} calls None keeper keeper' = keeper' ≡ keeper
 AreKept {K} calls (Some stubs) keeper keeper' = StubsAreKeptBy calls (stubs_give stubs) keeper keeper'
 
@@ -72,7 +73,7 @@ abbrev pub IsDrivenBehind : Course → Devices → Devices → Type 0
 IsDrivenBehind course before after = IsDrivenUnless (hindrance course.stubs) course before after
 
 -- what it made of a keeper, where it was driven
-abbrev pub IsKeptBehind : {K : Type 0} → KeeperCalls K → Course → K → K → Type 0
+abbrev pub IsKeptBehind : {K : Type 0} → KeeperCalls K Kept → Course → K → K → Type 0
 IsKeptBehind {K} calls course keeper keeper' =
     Unless (hindrance course.stubs) (IsKeptBy calls (turns_give (turns_of course)) keeper keeper') (λ why. keeper' ≡ keeper)
 
@@ -92,11 +93,11 @@ abbrev pub held : {K : Type 0} → LineTold → K → Held K
 held line keeper = record { line = line; keeper = keeper }
 
 -- what they tell
-abbrev pub told_by : {K : Type 0} → KeeperCalls K → Held K → Devices
-told_by calls hands = devices hands.line (calls.kept hands.keeper)
+abbrev pub told_by : {K : Type 0} → KeeperCalls K Kept → Held K → Devices
+told_by calls hands = devices hands.line (calls.told hands.keeper)
 
 -- the same, with what each made of the keeper
-pub record ArePartsOver {K : Type 0} (calls : KeeperCalls K) (course : Course) (before after : Held K) : Type 0 where
+pub record ArePartsOver {K : Type 0} (calls : KeeperCalls K Kept) (course : Course) (before after : Held K) : Type 0 where
   pub between : Held K
   pub parts : AreParts course (told_by calls before) (told_by calls between) (told_by calls after)
   pub stubs_kept : AreKept calls (stubs_of course.first course.stubs) before.keeper between.keeper

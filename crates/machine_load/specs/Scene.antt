@@ -4,7 +4,8 @@ use Rattle.std.specs.declared.io.Write.{Ghosts as Write}
 use Rattle.host_devices.specs.declared.keep.Keep.{Ghosts as Keep}
 use Rattle.host_devices.specs.declared.line.Line.{Ghosts as Line}
 use Rattle.host_devices.specs.Told.{Gains}
-use Rattle.host_devices.specs.Devices.{calls_of, line_told}
+use Rattle.host_devices.specs.Devices.{line_told}
+use Rattle.engine.specs.Keeping.{progress_calls}
 use Rattle.machine_load.specs.declared.fault.LoadFault.{LoadFault}
 use Rattle.machine_load.specs.declared.lived.Lived.{Lived}
 use Rattle.machine_load.specs.declared.outcome.Outcome.{Outcome}
@@ -44,7 +45,7 @@ scene tell write around out = record {
 
 -- what the keepers tell that surroundings begin
 abbrev pub keeper_of : {S L K : Type 0} → Surroundings S L K → Keep K → KeeperTells K
-keeper_of around tell = record { calls = calls_of tell; begins = around.begins; text = around.kept_text }
+keeper_of around tell = record { calls = progress_calls tell; begins = around.begins; text = around.kept_text }
 
 -- what a load gives back, and what its line tells then
 abbrev pub ending : {L : Type 0} → Line L → Outcome L → Ending

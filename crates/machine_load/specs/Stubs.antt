@@ -1,8 +1,8 @@
 -- What the looks and the stubs of a load leave to its host.
 use Rattle.std.specs.Prelude.{◌+◌, ◌^◌, ◌≤◌, false, Option, Some, None}
 use Rattle.host_core.specs.Core.{Core, begun}
-use Rattle.load_engine.specs.declared.stop.Stop.{Stop}
-use Rattle.load_engine.specs.declared.stop.Stop.TheVariants.{LineFailed, KeepFailed, TurnsOver}
+use Rattle.load_engine.specs.Driving.{LoadStop as Stop}
+use Rattle.engine.specs.declared.stop.Stop.TheVariants.{LineFailed, KeepFailed, TurnsOver}
 use Rattle.stub_engine.specs.declared.stop.Stop.{Stop as StubStop}
 use Rattle.stub_engine.specs.declared.stop.Stop.TheVariants as stub
 use Rattle.machine_load.specs.declared.looks.Looks.{Looks}

@@ -1,7 +1,8 @@
 //! The stubs of a load.
 ghost use Rattle.std.specs.Prelude.{◌≡◌, None, is_some};
 ghost use Rattle.host_core.specs.Core.{ended};
-ghost use Rattle.host_devices.specs.Devices.{calls_of, devices_of};
+ghost use Rattle.host_devices.specs.Devices.{devices_of};
+ghost use Rattle.engine.specs.Keeping.{progress_calls};
 ghost use Rattle.machine_load.specs.Parts.{AreBrought, AreKept, stubs_of};
 ghost use Rattle.machine_load.specs.Stubs.{hindrance};
 
@@ -32,7 +33,7 @@ pub(crate) fn bring_stubs<L: Line, K: Keep, O: Onlooker>(
 ) -> Option<Stubs>
     ensures asked { is_some result ≡ fast }
     ensures brought { AreBrought (stubs_of first.now result) (devices_of L.Line K.Keep line.old keeper.old) (devices_of L.Line K.Keep line.new keeper.new) }
-    ensures kept { AreKept (calls_of K.Keep) (stubs_of first.now result) keeper.old keeper.new }
+    ensures kept { AreKept (progress_calls K.Keep) (stubs_of first.now result) keeper.old keeper.new }
 {
     if !fast {
         return None;

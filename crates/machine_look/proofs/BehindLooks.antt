@@ -1,5 +1,5 @@
 -- Looks and a reading behind them, over one honest line.
-use Rattle.std.proofs.Common.{◌≡◌, ℕ, ◌-◌, ◌^◌, ◌<◌, List, [], ◌∷◌, ◌++◌, length, get_or, Option, Some, refl, ap, sym, subst, ◌∙◌, inl, inr}
+use Rattle.std.proofs.Common.{◌≡◌, ℕ, ◌-◌, ◌^◌, ◌<◌, List, [], ◌∷◌, ◌++◌, length, get_or, Option, None, Some, refl, ap, sym, subst, ◌∙◌, inl, inr}
 use Rattle.odt_machine.specs.Machine.{Machine, word_at}
 use Rattle.tape_image.specs.Word.{WordValue}
 use Rattle.host_core.specs.declared.heard.Heard.{Heard}
@@ -31,36 +31,32 @@ use Rattle.sample_looks.specs.Looked.{IsSeen}
 use Rattle.sample_looks.specs.declared.finding.Finding.TheVariants.{AllStand}
 use Rattle.sample_looks.specs.declared.looking.Looked.{Looked}
 use Rattle.sample_looks.proofs.Seen.{so_over}
-use Rattle.request_values.specs.Change.{Change, ◌⇒◌}
+use Rattle.request_values.specs.Change.{Change}
 use Rattle.machine_look.specs.Behind.{AreLookedAt, IsAsFound, WhereHonest, all_stood}
-use Rattle.machine_look.proofs.Looks.{believed_said, is_true}
+use Rattle.machine_look.proofs.Looks.{alone, believed_said, is_true}
 
 led_addresses : (r : Reader) (things : List Heard) → (led r things).addresses ≡ r.addresses
 led_addresses r [] = refl
 led_addresses r (what ∷ things) = led_addresses (ask r what).next things ∙ (asked r what).addresses
 
-said_told : (stop : LookStop) (left : ℕ) (all said : List Item) → IsSaid (Some stop) left all said → IsToldOf all said
-said_told (Ended end) left all said s = inl s
-said_told TurnsOver left all said s = inl s.0
-said_told (LineFailed fault) left all said (inl s) = inl s.0
-said_told (LineFailed fault) left all said (inr lacks) = inr lacks
-
--- the same, as of a line that tells what was said there alone
-told_by_itself : (turns : ℕ) (stop : LookStop) (first last : Reader) (line line' : Option (List Item)) (s : Inquired turns (inquiry first last (Some stop)) line line') → Inquired turns (inquiry first last (Some stop)) (Some []) (Some s.said)
-told_by_itself turns stop first last line line' s =
-    record { heard = s.heard; said = s.said; host = s.host; goes_on = s.goes_on; within = s.within; items = s.items; on_line = refl }
+said_told : (stop : Option LookStop) (left : ℕ) (all said : List Item) → IsSaid stop left all said → IsToldOf all said
+said_told None left all said s = s
+said_told (Some (Ended end)) left all said s = inl s
+said_told (Some TurnsOver) left all said s = inl s.0
+said_told (Some (LineFailed fault)) left all said (inl s) = inl s.0
+said_told (Some (LineFailed fault)) left all said (inr lacks) = inr lacks
 
 -- what looks found is so in memory, which is what it was
-pub looks_hold : (samples : List WordValue) (patience : ℕ) (looked : Looked) (line : Change (Option (List Item))) → AreAddresses (addresses_of samples) → patience < 2 ^ 32
-    → (s : AreLookedAt samples patience looked line) → IsReader looked.reader → WhereHonest s.inquired.said (IsAsFound samples looked.finding)
-looks_hold samples patience looked line are long s kept machine now lost ready honest =
+pub looks_hold : (samples : List WordValue) (patience : ℕ) (looked : Looked) (said : List Item) → AreAddresses (addresses_of samples) → patience < 2 ^ 32
+    → (s : AreLookedAt samples patience looked said) → IsReader looked.reader → WhereHonest s.inquired.said (IsAsFound samples looked.finding)
+looks_hold samples patience looked said are long s kept machine now lost ready honest =
     let looks : Reader = looked.reader in
     let stop : LookStop = looked.stop in
     let first : Reader = begun (addresses_of samples) [] patience in
     let reads = fresh_kept (addresses_of samples) patience are long in
     let same : looks.addresses ≡ first.addresses = ap (λ (r : Reader). r.addresses) s.inquired.host ∙ led_addresses first s.inquired.heard in
     let over : IsBelievableOver (inquiry first looks (Some stop)) (Some []) (Some s.inquired.said) =
-    inquired_believable most_turns stop first looks (Some []) (Some s.inquired.said) reads (told_by_itself most_turns stop first looks line.before line.after s.inquired) in
+    inquired_believable most_turns (Some stop) first looks (Some []) (Some s.inquired.said) reads (alone (Some stop) first looks (Some []) (Some said) s.inquired) in
     let seen : IsSeen samples looked.finding machine now =
     so_over samples first looks stop looked.finding (Some []) (Some s.inquired.said) refl kept same s.end s.found over s.inquired.said ([], refl, refl) machine now lost ready honest in
     (seen.memory, seen.so)
@@ -70,24 +66,24 @@ pub record IsReadBehind (samples : List WordValue) (last : Reader) (machine : Ch
   pub as_found : IsAsFound samples AllStand machine
   pub holds : (i : ℕ) → i < length last.values → get_or last.values i 0 ≡ word_at machine.after.memory (get_or last.addresses i 0)
 
-pub reading_holds : (samples : List WordValue) (patience : ℕ) (looks : Reader) (line : Change (Option (List Item))) → AreAddresses (addresses_of samples) → patience < 2 ^ 32
-    → (s : AreLookedAt samples patience (all_stood looks) line) → IsReader looks
-    → (turns : ℕ) (stop : LookStop) (addresses : List ℕ) (left : ℕ) (last : Reader) (line' : Option (List Item)) → AreAddresses addresses → left < 2 ^ 32
-    → (t : Inquired turns (inquiry (begun addresses [] left) last (Some stop)) line.after line') → WhereHonest (s.inquired.said ++ t.said) (IsReadBehind samples last)
-reading_holds samples patience looks line are long s kept turns stop addresses left last line' are' long' t machine now lost ready honest =
+pub reading_holds : (samples : List WordValue) (patience : ℕ) (looks : Reader) (said : List Item) → AreAddresses (addresses_of samples) → patience < 2 ^ 32
+    → (s : AreLookedAt samples patience (all_stood looks) said) → IsReader looks
+    → (stop : Option LookStop) (addresses : List ℕ) (left : ℕ) (last : Reader) (line line' : Option (List Item)) → AreAddresses addresses → left < 2 ^ 32
+    → (t : Inquired most_turns (inquiry (begun addresses [] left) last stop) line line') → WhereHonest (s.inquired.said ++ t.said) (IsReadBehind samples last)
+reading_holds samples patience looks said are long s kept stop addresses left last line line' are' long' t machine now lost ready honest =
     let one = Look (addresses_of samples) patience s.inquired.heard in
     let two = Look addresses left t.heard in
     let first : Reader = begun (addresses_of samples) [] patience in
     let second : Reader = begun addresses [] left in
     let reads = fresh_kept (addresses_of samples) patience are long in
     let reads' = fresh_kept addresses left are' long' in
-    let told : IsToldOf (dialogue first s.inquired.heard) s.inquired.said = said_told (Ended Complete) (most_turns - length s.inquired.heard) (dialogue first s.inquired.heard) s.inquired.said s.inquired.items in
-    let told' : IsToldOf (dialogue second t.heard) t.said = said_told stop (turns - length t.heard) (dialogue second t.heard) t.said t.items in
+    let told : IsToldOf (dialogue first s.inquired.heard) s.inquired.said = said_told (Some (Ended Complete)) (most_turns - length s.inquired.heard) (dialogue first s.inquired.heard) s.inquired.said s.inquired.items in
+    let told' : IsToldOf (dialogue second t.heard) t.said = said_told stop (most_turns - length t.heard) (dialogue second t.heard) t.said t.items in
     let parts = lines_split machine now s.inquired.said t.said lost (run_tidy one s.inquired.said machine ready (are, long) told) (told_begins (dialogue second t.heard) t.said told' (run_begins two)) honest in
-    let found = looks_hold samples patience (all_stood looks) line are long s kept machine parts.between parts.lost_before ready parts.before in
+    let found = looks_hold samples patience (all_stood looks) said are long s kept machine parts.between parts.lost_before ready parts.before in
     let ready' : IsReadyMachine parts.between = leave_ready first s.inquired.heard machine parts.between parts.lost_before reads (may_begin (addresses_of samples) patience machine ready)
     (told_honest (dialogue first s.inquired.heard) s.inquired.said machine parts.between parts.lost_before told parts.before) in
-    let read = is_true stop second last t.said parts.between now parts.lost_after (believed_said turns stop second last line.after line' t reads') (may_begin addresses left parts.between ready') parts.after in
+    let read = is_true stop second last t.said parts.between now parts.lost_after (believed_said stop second last line line' t reads') (may_begin addresses left parts.between ready') parts.after in
     record {
       as_found = (read.1.same ∙ found.0, subst (λ memory. IsSoIn memory samples AllStand) (sym read.1.same) found.1);
       holds = read.1.read.holds;

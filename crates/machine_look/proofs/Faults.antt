@@ -1,7 +1,7 @@
 -- Looks that come to nothing.
-use Rattle.std.proofs.Common.{◌≡◌, ◌<◌, ℕ, List, [], ◌∷◌, ◌++◌, length, Result, Ok, Err, IfOk, IsErrAnd, refl, arith, sym, subst, inl, inr, OnOk}
+use Rattle.std.proofs.Common.{◌≡◌, ◌<◌, ℕ, List, [], ◌∷◌, ◌++◌, length, Some, Result, Ok, Err, IfOk, IsErrAnd, refl, arith, sym, subst, inl, inr, OnOk}
 use Rattle.std.specs.Io.KnownBytes.{Keeps}
-use Rattle.host_devices.specs.Turns.{most_turns}
+use Rattle.looking_engine.specs.Stopping.{LookStop}
 use Rattle.machine_look.specs.declared.look_fault.LookFault.{LookFault}
 use Rattle.machine_look.specs.declared.look_fault.LookFault.TheVariants.{IsThere, WriteTape, Connect}
 use Rattle.machine_look.specs.declared.saving.SaveOptions.{SaveOptions}
@@ -54,25 +54,23 @@ not_read saving taking before after mid opened folder Connect takes is_open take
   fails.1,
 )
 not_read saving taking before after mid opened folder WriteTape takes is_open taken fails same = inr (inl (record {
-  turns = fails.3;
-  few = fails.4;
-  read = record { found = saving.found; taking = taking; taken_up = takes; looks = fails.0; last = fails.1; stop = fails.2; read = fails.5 };
-  number = fails.6;
-  within = fails.7;
-  refused = done_behind taking _ folder before.shelf mid.told after.shelf taken (fails.8 folder is_open);
+  read = record { found = saving.found; taking = taking; taken_up = takes; looks = fails.0; last = fails.1; read = fails.2 };
+  number = fails.3;
+  within = fails.4;
+  refused = done_behind taking _ folder before.shelf mid.told after.shelf taken (fails.5 folder is_open);
   nothing_reported = same;
 }))
 not_read saving taking before after mid opened folder other takes is_open taken fails same = absurd fails
 
 -- a tape that is not closed
-pub not_closed : (options : SaveOptions) (before after : SaveTold) (mid : ShelfTold) (mid' : ShelfAt) (opened : List ℕ → Type 0) (folder : List ℕ) (read : IsSaveRead most_turns options before after) (fault : LookFault)
+pub not_closed : (options : SaveOptions) (before after : SaveTold) (mid : ShelfTold) (mid' : ShelfAt) (opened : List ℕ → Type 0) (folder : List ℕ) (stop : LookStop) (read : IsSaveRead (Some stop) options before after) (fault : LookFault)
     → mid'.is_opened_as folder → AreDone folder read.taking before.shelf mid → AreDone folder (adds options.range.from (numbers_of read) (full (numbers_of read))) mid mid'.told
     → IsKeepFault (last_text options.range.from (numbers_of read) options.start) mid' (record { told = after.shelf; is_opened_as = opened }) fault → Keeps before.out after.out → IsSaveFault options before after fault
-not_closed options before after mid mid' opened folder read IsThere is_open taken added fails same =
-    inr (record { read = read; refused = done_behind read.taking _ folder before.shelf mid after.shelf taken (done_join folder (adds options.range.from (numbers_of read) (full (numbers_of read))) _ mid mid'.told after.shelf added (fails folder is_open)); nothing_reported = same })
-not_closed options before after mid mid' opened folder read WriteTape is_open taken added fails same =
-    inr (inr (record { read = read; refused = done_behind read.taking _ folder before.shelf mid after.shelf taken (done_join folder (adds options.range.from (numbers_of read) (full (numbers_of read))) _ mid mid'.told after.shelf added (fails folder is_open)); nothing_reported = same }))
-not_closed options before after mid mid' opened folder read other is_open taken added fails same = absurd fails
+not_closed options before after mid mid' opened folder stop read IsThere is_open taken added fails same =
+    inr (record { stop = stop; read = read; refused = done_behind read.taking _ folder before.shelf mid after.shelf taken (done_join folder (adds options.range.from (numbers_of read) (full (numbers_of read))) _ mid mid'.told after.shelf added (fails folder is_open)); nothing_reported = same })
+not_closed options before after mid mid' opened folder stop read WriteTape is_open taken added fails same =
+    inr (inr (record { stop = stop; read = read; refused = done_behind read.taking _ folder before.shelf mid after.shelf taken (done_join folder (adds options.range.from (numbers_of read) (full (numbers_of read))) _ mid mid'.told after.shelf added (fails folder is_open)); nothing_reported = same }))
+not_closed options before after mid mid' opened folder stop read other is_open taken added fails same = absurd fails
 
 -- ---- the last text
 

@@ -1,3 +1,4 @@
+mod Adding
 mod BehindLooks
 mod Courses
 mod Faults
@@ -7,7 +8,5 @@ mod SavedMemory
 mod SavedWords
 mod Saves
 mod Shown
-mod Steps
 mod Taking
-mod Turning
 mod Verified

@@ -1,86 +1,124 @@
 -- Looks, and what they say over an honest line.
-use Rattle.std.proofs.Common.{◌≡◌, ℕ, ◌+◌, ◌≤◌, List, [], length, Option, Some, None, refl, arith, sym, subst}
+use Rattle.std.proofs.Common.{◌≡◌, ℕ, ◌+◌, List, [], ◌∷◌, ◌++◌, length, Option, Some, None, inl, true, refl, arith, sym, subst}
 use Rattle.odt_machine.specs.Machine.{Machine}
 use Rattle.host_devices.specs.declared.item.Item.{Item}
 use Rattle.host_devices.specs.Dialogue.{keys_of}
 use Rattle.host_devices.specs.Turns.{most_turns}
 use Rattle.looking_engine.specs.Honest.{IsHonest}
-use Rattle.looking_engine.specs.Stopping.{LookStop, TellsEnd}
+use Rattle.looking_engine.specs.Stopping.{LookStop, line_fault}
 use Rattle.looking_engine.specs.declared.stop.Stop.TheVariants.{Ended, LineFailed, TurnsOver}
-use Rattle.looking_engine.specs.Belief.{IsBelievableAt}
-use Rattle.looking_engine.specs.Inquired.{Inquired, inquiry}
+use Rattle.looking_engine.specs.Belief.{IsBelievableBy}
+use Rattle.looking_engine.specs.Inquired.{Inquired, IsInquired, inquiry}
 use Rattle.looking_engine.proofs.Beliefs.{inquired_believable}
+use Rattle.looking_engine.proofs.Inquiries.{inquired}
+use Rattle.host_devices.proofs.Told.{gains_none}
+use Rattle.std.specs.Prelude.{Result, Ok, Err, OnErr, is_err}
 use Rattle.reading_core.specs.declared.phase.End.{End}
 use Rattle.reading_core.specs.declared.phase.End.TheVariants.{Complete, GaveUp, NoWord}
 use Rattle.reading_core.specs.declared.phase.Phase.{Phase}
 use Rattle.reading_core.specs.declared.phase.Phase.TheVariants.{Settle, Sync, Address, Slash, Before, Value, Close, Ended as Over}
-use Rattle.reading_core.specs.Bound.{reading_bound}
 use Rattle.reading_core.specs.Invariant.{Basis, PhaseFits, IsReader}
 use Rattle.reading_core.specs.Reader.{Reader, ended}
 use Rattle.reading_core.proofs.Turns.{within_bound}
 use Rattle.looking_law.specs.Belief.{IsTrueReading, MayLook}
+use Rattle.tape_values.specs.Told.{IsAsTold}
 use Rattle.host_devices.specs.Devices.{LineTold}
+use Rattle.host_devices.specs.Failures.{CountsFault, IsLastFault}
+use Rattle.host_devices.specs.Told.{Gains}
 use Rattle.request_values.specs.Change.{◌⇒◌}
-use Rattle.machine_look.specs.Look.{IsLineOf, IsLook, IsLookOf}
+use Rattle.machine_look.specs.Look.{IsGivenBack, IsLineOf, IsLook, IsLookOf}
 
 -- ---- how a look comes to be
 
--- what was said may be believed, also where the line doesn't tell it
-pub believed_said : (turns : ℕ) (stop : LookStop) (first last : Reader) (line line' : Option (List Item)) (s : Inquired turns (inquiry first last (Some stop)) line line') → IsReader first → IsBelievableAt stop first last s.said
-believed_said turns stop first last line line' s reads =
-    let told : Inquired turns (inquiry first last (Some stop)) (Some []) (Some s.said) = record {
-      heard = s.heard;
-      said = s.said;
-      host = s.host;
-      goes_on = s.goes_on;
-      within = s.within;
-      items = s.items;
-      on_line = refl;
-    } in
-    inquired_believable turns stop first last (Some []) (Some s.said) reads told s.said ([], refl, refl)
+-- what was said on a line, as behind other things
+pub behind : (stop : Option LookStop) (first last : Reader) (line line' : Option (List Item)) (before : List Item) (s : Inquired most_turns (inquiry first last stop) line line')
+    → Inquired most_turns (inquiry first last stop) (Some before) (Some (before ++ s.said))
+behind stop first last line line' before s = record { heard = s.heard; said = s.said; host = s.host; goes_on = s.goes_on; within = s.within; items = s.items; on_line = refl }
 
-pub is_look_of : (turns : ℕ) (first last : Reader) (stop : LookStop) (line line' : Option (List Item)) (lines lines' : Option (List LineTold)) → IsReader first → Inquired turns (inquiry first last (Some stop)) line line'
-    → IsLineOf (ended first.phase) stop (line ⇒ line') (lines ⇒ lines') → TellsEnd stop (ended last.phase)
-    → last.addresses ≡ first.addresses → last.patience ≡ first.patience → last.sent ≤ reading_bound (length last.addresses) last.patience → IsReader last → IsLookOf turns (first ⇒ last) stop (lines ⇒ lines')
-is_look_of turns first last stop line line' lines lines' reads inquired is end addresses patience bound kept = record {
-  line = line ⇒ line';
-  inquired = inquired;
-  line_is = is;
-  end = end;
-  believed = believed_said turns stop first last line line' inquired reads;
-  addresses = addresses;
-  patience = patience;
-  bound = bound;
-  kept = kept;
+-- or alone
+pub alone : (stop : Option LookStop) (first last : Reader) (line line' : Option (List Item)) (s : Inquired most_turns (inquiry first last stop) line line') → Inquired most_turns (inquiry first last stop) (Some []) (Some s.said)
+alone stop first last line line' s = behind stop first last line line' [] s
+
+-- it may be believed
+pub believed_said : (stop : Option LookStop) (first last : Reader) (line line' : Option (List Item)) (s : Inquired most_turns (inquiry first last stop) line line') → IsReader first → IsBelievableBy stop first last s.said
+believed_said stop first last line line' s reads = inquired_believable most_turns stop first last (Some []) (Some s.said) reads (alone stop first last line line' s) s.said ([], refl, refl)
+
+-- a line that told nothing, or that nothing had been said, tells all
+told_all : (line line' : Option (List Item)) (said : List Item) → IsAsTold line [] → Gains line line' said → IsAsTold line' said
+told_all None None said fresh g = tt
+told_all None (Some grown) said fresh g = absurd g
+told_all (Some items) None said fresh g = absurd g
+told_all (Some items) (Some grown) said fresh g = sym (subst (λ (front : List Item). grown ≡ front ++ said) (sym fresh) g)
+
+-- a line that was reached is given back
+pub given_back : (stop : Option LookStop) (reached told : LineTold) (said : List Item) (lines between lines' : Option (List LineTold)) → IsAsTold reached.said [] → reached.failures ≡ 0 → Gains reached.said told.said said
+    → CountsFault (line_fault stop) reached.failures told.failures → IsLastFault (line_fault stop) told.fault → between ≡ lines → Gains between lines' (told ∷ []) → IsGivenBack stop said (lines ⇒ lines')
+given_back stop reached told said lines between lines' fresh none gains counted named same given = record {
+  last = told;
+  all = told_all reached.said told.said said fresh gains;
+  counted = subst (λ n. CountsFault (line_fault stop) n told.failures) none counted;
+  named = named;
+  given = subst (λ l. Gains l lines' (told ∷ [])) same given;
 }
 
-pub is_look : (first last : Reader) (stop : LookStop) (line line' : Option (List Item)) (lines lines' : Option (List LineTold)) → IsReader first → Inquired most_turns (inquiry first last (Some stop)) line line'
-    → IsLineOf (ended first.phase) stop (line ⇒ line') (lines ⇒ lines') → TellsEnd stop (ended last.phase)
-    → last.addresses ≡ first.addresses → last.patience ≡ first.patience → last.sent ≤ reading_bound (length last.addresses) last.patience → IsReader last → IsLook (first ⇒ last) stop (lines ⇒ lines')
-is_look = is_look_of most_turns
+pub look_over : (stop : Option LookStop) (first last : Reader) (reached told : LineTold) (lines between lines' : Option (List LineTold)) → IsReader first → ended first.phase ≡ None → IsInquired most_turns (inquiry first last stop) reached told
+    → IsAsTold reached.said [] → reached.failures ≡ 0 → between ≡ lines → Gains between lines' (told ∷ []) → IsLookOf (first ⇒ last) stop (lines ⇒ lines')
+look_over stop first last reached told lines between lines' reads goes_on i fresh none same given =
+    let s = i.turns.session in
+    record {
+      said = s.said;
+      inquired = alone stop first last reached.said told.said s;
+      line_is = subst (λ over. IsLineOf over stop s.said (lines ⇒ lines')) (sym goes_on) (given_back stop reached told s.said lines between lines' fresh none s.on_line i.turns.counted i.turns.named same given);
+      end = i.turns.end;
+      believed = believed_said stop first last reached.said told.said s reads;
+      addresses = i.same_addresses;
+      patience = i.same_patience;
+      bound = i.bound;
+      kept = i.kept;
+    }
+
+-- before its first turn
+pub untouched : (reader : Reader) (line : LineTold) → IsReader reader → IsInquired most_turns (inquiry reader reader None) line line
+untouched reader line reads = inquired most_turns reader reader None line line reads reads record {
+  session = record { heard = []; said = []; host = refl; goes_on = tt; within = omega arith; items = inl refl; on_line = gains_none line.said };
+  end = tt;
+  counted = refl;
+  named = tt;
+}
 
 -- a reader that has an end from the beginning needs no line
 pub no_look : (reader : Reader) (end : End) (lines : Option (List LineTold)) → IsReader reader → ended reader.phase ≡ Some end → IsLook (reader ⇒ reader) (Ended end) (lines ⇒ lines)
 no_look reader end lines reads is =
-    let nothing : Inquired most_turns (inquiry reader reader (Some (Ended end))) None None = record {
+    let nothing : Inquired most_turns (inquiry reader reader (Some (Ended end))) (Some []) (Some []) = record {
       heard = [];
       said = [];
       host = refl;
       goes_on = tt;
       within = omega arith;
       items = refl;
-      on_line = tt;
+      on_line = refl;
     } in
-    is_look reader reader (Ended end) None None lines lines reads nothing (subst (λ over. IsLineOf over (Ended end) (None ⇒ None) (lines ⇒ lines)) (sym is) refl) is refl refl (within_bound reader reads) reads
+    record {
+      said = [];
+      inquired = nothing;
+      line_is = subst (λ over. IsLineOf over (Some (Ended end)) [] (lines ⇒ lines)) (sym is) refl;
+      end = is;
+      believed = believed_said (Some (Ended end)) reader reader (Some []) (Some []) nothing reads;
+      addresses = refl;
+      patience = refl;
+      bound = within_bound reader reads;
+      kept = reads;
+    }
 
 -- ---- what it says
 
 -- over an honest line what was read is true, with the losses or one more
-pub is_true : (stop : LookStop) (first last : Reader) (items : List Item) (machine now : Machine) (lost : ℕ) → IsBelievableAt stop first last items → MayLook first machine → IsHonest machine items lost now
+pub is_true : (stop : Option LookStop) (first last : Reader) (items : List Item) (machine now : Machine) (lost : ℕ) → IsBelievableBy stop first last items → MayLook first machine → IsHonest machine items lost now
     → (more : ℕ) × IsTrueReading machine.memory last now.memory (keys_of items) (lost + more)
-is_true (Ended end) first last items machine now lost believed may honest = (0, believed machine now lost may honest)
-is_true TurnsOver first last items machine now lost believed may honest = (0, believed machine now lost may honest)
-is_true (LineFailed fault) first last items machine now lost believed may honest = (1, believed.0 machine now lost may honest)
+is_true None first last items machine now lost believed may honest = (1, believed.0 machine now lost may honest)
+is_true (Some (Ended end)) first last items machine now lost believed may honest = (0, believed machine now lost may honest)
+is_true (Some TurnsOver) first last items machine now lost believed may honest = (0, believed machine now lost may honest)
+is_true (Some (LineFailed fault)) first last items machine now lost believed may honest = (1, believed.0 machine now lost may honest)
 
 -- a reader that has read all has as many numbers as addresses
 all_in : (phase : Phase) (b : Basis) → PhaseFits phase b → ended phase ≡ Some Complete → length b.values ≡ length b.addresses
@@ -97,3 +135,9 @@ all_in (Close place) b fits is = absurd (cc is)
 
 pub all_read : (reader : Reader) → IsReader reader → ended reader.phase ≡ Some Complete → length reader.values ≡ length reader.addresses
 all_read reader reads is = all_in reader.phase _ reads.fits is
+
+-- ---- what is known of an answer
+
+pub error_known : {T E : Type 0} (P : Type 0) (r : Result T E) → true ≡ is_err r → OnErr r P → P
+error_known P (Ok x) is h = absurd (cc is)
+error_known P (Err e) is h = h

@@ -36,7 +36,7 @@ module _ (saving : Saving) (mid mid' : ShelfAt) where
     not_concluded (WasHeldUp looked) fault h unclosed same = absurd unclosed
     not_concluded (WasRead looks last stop) fault h unclosed same =
         let added = h.2 folder is_open in
-        not_closed saving.options before after mid.told mid' opened folder (record { found = saving.found; taking = taking; taken_up = takes; looks = looks; last = last; stop = stop; read = h.0 }) fault added.0 taken added.1 unclosed same
+        not_closed saving.options before after mid.told mid' opened folder stop (record { found = saving.found; taking = taking; taken_up = takes; looks = looks; last = last; read = h.0 }) fault added.0 taken added.1 unclosed same
 
     pub concluded : (course : Course) (done : SaveCounts × SaveEnd) → IsRange saving.options.range.from saving.options.range.to → saving.options.start < 65536 → FillBlocks saving.options.range saving.found
         → IsCourse saving (record { shelf = mid; console = console_of before }) (record { shelf = mid'; console = console_of after }) course
@@ -54,7 +54,8 @@ module _ (saving : Saving) (mid mid' : ShelfAt) where
         let added = h.2 folder is_open in
         let few = few_numbers saving.options.range saving.found last fill.within h.0.addresses h.0.kept in
         subst (λ c. IsOver saving.options before after c done.1) (sym counted) (subst (λ e. IsOver saving.options before after (counts_of saving (WasRead looks last stop)) e) (sym ended) (Shelved (record {
-          read = record { found = saving.found; taking = taking; taken_up = takes; looks = looks; last = last; stop = stop; read = h.0 };
+          stop = stop;
+          read = record { found = saving.found; taking = taking; taken_up = takes; looks = looks; last = last; read = h.0 };
           end = h.1;
           tape = tape_of saving.options (saving.found ++ last.values) range begins few (All-append (λ n. n < 65536) saving.found last.values fill.small h.0.kept.numbers);
           is_put = saved_steps taking folder saving.options.range.from saving.options.start (saving.found ++ last.values) before.shelf mid.told mid'.told after.shelf taken added.1 (closed folder added.0);

@@ -1,37 +1,26 @@
 -- What an output shows of differences, as they are found.
-use Rattle.std.proofs.Common.{◌≡◌, ℕ, zero, suc, ◌+◌, ◌<◌, ◌≤◌, true, false, cond, eqb, List, [], ◌∷◌, ◌++◌, length, take, get_or, Option, refl, arith, ap, sym, subst, ◌∙◌, append_assoc, append-nil}
-use Rattle.std.specs.Prelude.{Result, Ok, Err, OnErr}
+use Rattle.std.proofs.Common.{◌≡◌, ℕ, zero, suc, ◌≤◌, true, false, cond, eqb, List, [], ◌∷◌, ◌++◌, length, Option, Some, refl, arith, ap, sym, subst, ◌∙◌, append_assoc, append-nil}
+use Rattle.std.specs.Prelude.{drop}
 use Rattle.std.specs.Io.KnownBytes.{Appends}
-use Rattle.std.proofs.KnownBytes.{Appends-trans}
+use Rattle.std.proofs.KnownBytes.{Appends-nil, Appends-trans}
 use Rattle.std.proofs.lemmas.Bool.{eqb-true}
 use Rattle.std.proofs.lemmas.Grind.{flat_map-append}
-use Rattle.std.proofs.lemmas.List.{take_all, take-append-le}
 use Rattle.byte_io.specs.Output.{WritesPrefix}
 use Rattle.byte_io.specs.Text.{line}
 use Rattle.byte_io.proofs.Fronts.{front_behind, front_longer}
 use Rattle.tape_image.specs.Word.{WordValue, merged}
+use Rattle.reading_core.specs.declared.phase.End.{End}
+use Rattle.engine.specs.Keeping.{IsKeptBy, KeeperCalls, KeepsEach, keeping}
+use Rattle.engine.specs.Stopping.{keep_fault}
+use Rattle.engine.specs.declared.stop.Stop.{Stop as LeadStop}
+use Rattle.engine.specs.declared.stop.Stop.TheVariants.{Ended as Ends, LineFailed as LineFails, KeepFailed as KeepFails, TurnsOver as Over}
+use Rattle.looking_engine.specs.Leading.{stop_of}
+use Rattle.looking_engine.proofs.Numbers.{AreGiven}
 use Rattle.machine_look.specs.declared.difference.Difference.{Difference}
 use Rattle.machine_look.specs.Differences.{difference, differences}
-use Rattle.machine_look.specs.Shown.{ShowsPart, ShowsTo}
+use Rattle.machine_look.specs.Shown.{Shows, ShowsNext, ShowsPartOfNext, next_line}
 use Rattle.machine_look.specs.VerifyReport.{difference_lines, difference_text, lines_of}
-use Rattle.machine_look.proofs.Found.{next_difference, none_at_first}
-
--- ---- lines behind lines
-
-pub shows_more : (lines lines' more all : List ℕ) (a b c : Option (List ℕ)) → ShowsTo lines lines' a b → Appends b c more → all ≡ lines' ++ more → ShowsTo lines all a c
-shows_more lines lines' more all a b c so_far behind is = λ first had. subst (Appends first c) (sym is) (Appends-trans first b c lines' more (so_far first had) behind)
-
--- a front of what comes behind
-pub shows_front : (lines lines' more rest all : List ℕ) (a b c : Option (List ℕ)) → ShowsTo lines lines' a b → WritesPrefix b c more → all ≡ (lines' ++ more) ++ rest → ShowsPart lines all a c
-shows_front lines lines' more rest all a b c so_far front is =
-    λ first had. subst (WritesPrefix first c) (sym is) (front_longer first c (lines' ++ more) rest (front_behind first b c lines' more (so_far first had) front))
-
-pub on_fault : {T E P Q : Type 0} (r : Result T E) → (P → Q) → OnErr r P → OnErr r Q
-on_fault (Ok x) f h = tt
-on_fault (Err e) f h = f h
-
-pub fault_known : {T E : Type 0} (P : Type 0) (r : Result T E) (e : E) → r ≡ Err e → OnErr r P → P
-fault_known P r e is h = subst (λ x. OnErr x P) is h
+use Rattle.machine_look.proofs.Found.{none_at_first}
 
 -- ---- the lines of differences
 
@@ -50,32 +39,80 @@ at_most_one word now =
       | false ↦ omega arith
     ]
 
-pub next_lines : (words : List WordValue) (numbers : List ℕ) (i : ℕ) (d : WordValue) → i < length numbers → length numbers ≤ length words
-    → difference_lines words (take (i + 1) numbers) ≡ difference_lines words (take i numbers) ++ lines_of (difference (get_or words i d) (get_or numbers i 0))
-next_lines words numbers i d low few =
-    ap lines_of (next_difference words numbers i d low few)
-    ∙ flat_map-append (λ (d : Difference). line (difference_text d)) (differences words (take i numbers)) (difference (get_or words i d) (get_or numbers i 0))
-
 pub no_lines : (words : List WordValue) (numbers : List ℕ) → numbers ≡ [] → difference_lines words numbers ≡ []
 no_lines words numbers none = ap (difference_lines words) none ∙ ap lines_of (none_at_first words [])
 
--- what is found behind the first of the numbers
-rest_of : (words : List WordValue) (numbers : List ℕ) (k : ℕ) → (rest : List Difference) × (differences words numbers ≡ differences words (take k numbers) ++ rest)
-rest_of [] numbers k = ([], refl)
-rest_of (w ∷ words) [] zero = ([], refl)
-rest_of (w ∷ words) [] (suc k) = ([], refl)
-rest_of (w ∷ words) (n ∷ numbers) zero = (differences (w ∷ words) (n ∷ numbers), refl)
-rest_of (w ∷ words) (n ∷ numbers) (suc k) =
-    let r = rest_of words numbers k in
-    (r.0, ap (λ l. difference w n ++ l) r.1 ∙ sym (append_assoc (difference w n) (differences words (take k numbers)) r.0))
+-- ---- one behind another
 
-pub rest_lines : (words : List WordValue) (numbers : List ℕ) (k : ℕ) → (rest : List ℕ) × (difference_lines words numbers ≡ difference_lines words (take k numbers) ++ rest)
-rest_lines words numbers k =
-    let r = rest_of words numbers k in
-    (lines_of r.0, ap lines_of r.1 ∙ flat_map-append (λ (d : Difference). line (difference_text d)) (differences words (take k numbers)) r.0)
+differences_append : (words : List WordValue) (one two : List ℕ) → differences words (one ++ two) ≡ differences words one ++ differences (drop (length one) words) two
+differences_append [] [] two = refl
+differences_append [] (n ∷ one) two = refl
+differences_append (w ∷ words) [] two = refl
+differences_append (w ∷ words) (n ∷ one) two =
+    ap (λ l. difference w n ++ l) (differences_append words one two) ∙ sym (append_assoc (difference w n) (differences words one) (differences (drop (length one) words) two))
 
--- ---- what was read before a turn is the front of what was read behind it
+lines_append : (words : List WordValue) (one two : List ℕ) → difference_lines words (one ++ two) ≡ difference_lines words one ++ difference_lines (drop (length one) words) two
+lines_append words one two =
+    ap lines_of (differences_append words one two) ∙ flat_map-append (λ (d : Difference). line (difference_text d)) (differences words one) (differences (drop (length one) words) two)
 
-pub front_is : (old new before now more : List ℕ) → before ≡ old → now ≡ new → new ≡ old ++ more → take (length before) now ≡ old
-front_is old new before now more b n is =
-    ap (λ (l : List ℕ). take (length l) now) b ∙ ap (take (length old)) (n ∙ is) ∙ take-append-le (length old) old more (omega arith) ∙ take_all (length old) old (omega arith)
+next_is : (words : List WordValue) (number : ℕ) → next_line words number ≡ difference_lines words (number ∷ [])
+next_is [] number = refl
+next_is (w ∷ words) number = ap lines_of (sym (ap (λ l. difference w number ++ l) (none_at_first words []) ∙ append-nil (difference w number)))
+
+behind_one : (k : ℕ) (words : List WordValue) → drop k (drop 1 words) ≡ drop (suc k) words
+behind_one zero [] = refl
+behind_one (suc k) [] = refl
+behind_one k (w ∷ words) = refl
+
+-- ---- what a keeper shows
+
+-- the lines of these numbers are shown, and the words behind them are next
+pub record AreShown {Name : Type 0} (words : List WordValue) (numbers : List ℕ) (words' : List WordValue) (out out' : Option (List ℕ)) (name name' : Name) : Type 0 where
+  pub behind : words' ≡ drop (length numbers) words
+  pub shown : Appends out out' (difference_lines words numbers)
+  pub same : name' ≡ name
+
+-- what a keeper's calls make of its words, its output and the name of that
+pub record ShowsThem {K Name : Type 0} (calls : KeeperCalls K ℕ) (words : K → List WordValue) (out : K → Option (List ℕ)) (name : K → Name) : Type 0 where
+  pub keeps : (a b : K) (n : ℕ) → calls.keeps a n b → ShowsNext (words a) n (words b) (out a) (out b) (name a) (name b)
+  pub fails : (a b : K) (n : ℕ) → calls.fails a n b → ShowsPartOfNext (words a) n (out a) (out b) (name a) (name b)
+
+shown_each : {K Name : Type 0} (calls : KeeperCalls K ℕ) (words : K → List WordValue) (out : K → Option (List ℕ)) (name : K → Name) → ShowsThem calls words out name → (old : K) (numbers : List ℕ) (new : K) → KeepsEach calls.keeps old numbers new
+    → AreShown (words old) numbers (words new) (out old) (out new) (name old) (name new)
+shown_each {K} calls words out name are old [] new each =
+    let P : K → Type 0 = λ k. AreShown (words old) [] (words k) (out old) (out k) (name old) (name k) in
+    subst P (sym each) (record { behind = refl; shown = subst (Appends (out old) (out old)) (sym (no_lines (words old) [] refl)) (Appends-nil (out old)); same = refl })
+shown_each calls words out name are old (n ∷ numbers) new (mid, one, rest) =
+    let s = are.keeps old mid n one in
+    let r = shown_each calls words out name are mid numbers new rest in record {
+      behind = r.behind ∙ (ap (drop (length numbers)) s.behind ∙ behind_one (length numbers) (words old));
+      shown = subst (Appends (out old) (out new)) (ap (λ l. l ++ difference_lines (words mid) numbers) (next_is (words old) n)
+          ∙ (ap (λ w. difference_lines (words old) (n ∷ []) ++ difference_lines w numbers) s.behind ∙ sym (lines_append (words old) (n ∷ []) numbers)))
+          (Appends-trans (out old) (out mid) (out new) (next_line (words old) n) (difference_lines (words mid) numbers) s.shown r.shown);
+      same = r.same ∙ s.same;
+    }
+
+shown_all : {K Name : Type 0} (calls : KeeperCalls K ℕ) (words : K → List WordValue) (out : K → Option (List ℕ)) (name : K → Name) → ShowsThem calls words out name → (old new : K) (numbers given : List ℕ) → numbers ≡ given → KeepsEach calls.keeps old given new
+    → Appends (out old) (out new) (difference_lines (words old) numbers) × (name new ≡ name old)
+shown_all calls words out name are old new numbers given all each =
+    let r = shown_each calls words out name are old given new each in
+    (subst (λ list. Appends (out old) (out new) (difference_lines (words old) list)) (sym all) r.shown, r.same)
+
+pub shown_by : {K Name : Type 0} (calls : KeeperCalls K ℕ) (words : K → List WordValue) (out : K → Option (List ℕ)) (name : K → Name) → ShowsThem calls words out name → (stop : LeadStop End) (old new : K) (numbers given : List ℕ) → AreGiven stop numbers given
+    → IsKeptBy calls (keeping given (keep_fault (Some stop))) old new → Shows (stop_of stop) (out old) (out new) (difference_lines (words old) numbers) × (name new ≡ name old)
+shown_by calls words out name are (Ends end) old new numbers given all made = shown_all calls words out name are old new numbers given all made.kept_by
+shown_by calls words out name are Over old new numbers given all made = shown_all calls words out name are old new numbers given all made.kept_by
+shown_by calls words out name are (LineFails fault) old new numbers given all made = shown_all calls words out name are old new numbers given all made.kept_by
+shown_by calls words out name are (KeepFails fault) old new numbers given (rest, all) made =
+    let k = made.kept_by in
+    let r = shown_each calls words out name are old k.kept k.next k.each in
+    let f = are.fails k.next new k.last k.failing in
+    let lines : difference_lines (words old) k.kept ++ next_line (words k.next) k.last ≡ difference_lines (words old) given =
+    ap (λ l. difference_lines (words old) k.kept ++ l) (next_is (words k.next) k.last)
+    ∙ (ap (λ w. difference_lines (words old) k.kept ++ difference_lines w (k.last ∷ [])) r.behind
+    ∙ (sym (lines_append (words old) k.kept (k.last ∷ [])) ∙ ap (difference_lines (words old)) (sym k.items_are))) in
+    let front = front_behind (out old) (out k.next) (out new) (difference_lines (words old) k.kept) (next_line (words k.next) k.last) r.shown f.shown in (
+      subst (WritesPrefix (out old) (out new)) (sym (ap (difference_lines (words old)) all ∙ lines_append (words old) given rest))
+          (front_longer (out old) (out new) (difference_lines (words old) given) (difference_lines (drop (length given) (words old)) rest) (subst (WritesPrefix (out old) (out new)) lines front)),
+      f.same ∙ r.same,
+    )

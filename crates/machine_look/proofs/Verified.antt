@@ -58,7 +58,7 @@ all_stand words first last stop look are same machine now lost may honest =
     let addresses = look.addresses ∙ are in
     let all : length last.values ≡ length words =
     all_read last look.kept (ended_is last stop means.0 look) ∙ (ap length addresses ∙ length-map words (λ (w : WordValue). w.address)) in
-    let heard = is_true stop first last look.inquired.said machine now lost look.believed may honest in
+    let heard = is_true (Some stop) first last look.said machine now lost look.believed may honest in
     (heard.1.same, stand_where_read words last machine.memory now.memory _ _ addresses all means.1 heard.1)
   where
     ended_is : (last : Reader) (stop : LookStop) {lines : Change (Option (List LineTold))} → stop ≡ Ended Complete → IsLook (first ⇒ last) stop lines → ended last.phase ≡ Some Complete

@@ -36,11 +36,11 @@ pub record Saving : Type 0 where
   pub options : SaveOptions
   pub found : List ℕ
 
--- looks that came to their end, a reading behind them, and what stopped that
+-- looks that came to their end, a reading behind them, and what stopped that (None: a block could not be added)
 pub record Reading : Type 0 where
   pub looks : Reader
   pub last : Reader
-  pub stop : LookStop
+  pub stop : Option LookStop
 
 -- the addresses of a range, both ends included
 abbrev pub addresses_in : AddressRange → List ℕ
@@ -59,9 +59,9 @@ pub record AreOfFound (range : AddressRange) (found : List ℕ) (samples : List 
   pub spread : AreSamples (words_read (addresses_in range) found) (length found) samples
   pub asked : AreAddresses (addresses_of samples)
 
--- samples were looked at over a line, by a host of this patience, and it came to this
-pub record AreLookedAt (samples : List WordValue) (patience : ℕ) (looked : Looked) (line : Change (Option (List Item))) : Type 0 where
-  pub inquired : Inquired most_turns (inquiry (begun (addresses_of samples) [] patience) looked.reader (Some looked.stop)) line.before line.after
+-- samples were looked at over a line on which nothing had been said, by a host of this patience, and it came to this
+pub record AreLookedAt (samples : List WordValue) (patience : ℕ) (looked : Looked) (said : List Item) : Type 0 where
+  pub inquired : Inquired most_turns (inquiry (begun (addresses_of samples) [] patience) looked.reader (Some looked.stop)) (Some []) (Some said)
   pub end : TellsEnd looked.stop (ended looked.reader.phase)
   pub found : IsFound samples looked.reader.values looked.stop looked.finding
   pub bound : looked.reader.sent ≤ reading_bound (length samples) patience
@@ -86,32 +86,33 @@ pub record IsMemoryBehind (saving : Saving) (read : List ℕ) (samples : List Wo
 pub record IsHeldUp (saving : Saving) (console : Change ConsoleTold) (looked : Looked) : Type 0 where
   pub samples : List WordValue
   pub of_found : AreOfFound saving.options.range saving.found samples
-  pub line : Change (Option (List Item))
-  pub looks : AreLookedAt samples saving.options.patience looked line
+  pub said : List Item
+  pub looks : AreLookedAt samples saving.options.patience looked said
   pub not_all : looked.finding ≡ AllStand → ⊥
   pub asked : Gains console.before.asked console.after.asked (asked_once console.before.call)
-  pub given : IsGivenBack looked.stop line (console.before.lines ⇒ console.after.lines)
-  pub is_memory : WhereHonest looks.inquired.said (IsAsFound samples looked.finding)
+  pub given : IsGivenBack (Some looked.stop) said (console.before.lines ⇒ console.after.lines)
+  pub is_memory : WhereHonest said (IsAsFound samples looked.finding)
 
 -- looks at samples that all stood
 abbrev pub all_stood : Reader → Looked
 all_stood looks = record { reader = looks; stop = Ended Complete; finding = AllStand }
 
--- the samples stood, and an engine that had so many turns read the words behind what was found, with the patience that the looks left
-pub record IsRead (turns : ℕ) (saving : Saving) (console : Change ConsoleTold) (reading : Reading) : Type 0 where
+-- the samples stood, and the words behind what was found were read over the same line, with the patience that the looks left; looks and reading
+-- are all that was said on it
+pub record IsRead (saving : Saving) (console : Change ConsoleTold) (reading : Reading) : Type 0 where
   pub samples : List WordValue
   pub of_found : AreOfFound saving.options.range saving.found samples
-  pub line : Change (Option (List Item))
-  pub between : Option (List Item)
-  pub looked : AreLookedAt samples saving.options.patience (all_stood reading.looks) (line.before ⇒ between)
-  pub read : Inquired turns
-      (inquiry (begun (addresses_behind saving.options.range saving.found) [] (saving.options.patience - reading.looks.spent)) reading.last (Some reading.stop))
-      between line.after
+  pub looking : List Item
+  pub said : List Item
+  pub looked : AreLookedAt samples saving.options.patience (all_stood reading.looks) looking
+  pub read : Inquired most_turns
+      (inquiry (begun (addresses_behind saving.options.range saving.found) [] (saving.options.patience - reading.looks.spent)) reading.last reading.stop)
+      (Some looking) (Some said)
   pub asked : Gains console.before.asked console.after.asked (asked_once console.before.call)
-  pub given : IsGivenBack reading.stop line (console.before.lines ⇒ console.after.lines)
+  pub given : IsGivenBack reading.stop said (console.before.lines ⇒ console.after.lines)
   pub addresses : reading.last.addresses ≡ addresses_behind saving.options.range saving.found
   pub patience : reading.last.patience ≡ saving.options.patience - reading.looks.spent
   pub bound : reading.last.sent
       ≤ reading_bound (length (addresses_behind saving.options.range saving.found)) (saving.options.patience - reading.looks.spent)
   pub kept : IsReader reading.last
-  pub is_memory : WhereHonest (looked.inquired.said ++ read.said) (IsMemoryBehind saving reading.last.values samples)
+  pub is_memory : WhereHonest said (IsMemoryBehind saving reading.last.values samples)

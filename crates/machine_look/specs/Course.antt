@@ -1,16 +1,12 @@
 -- What looks and reading came to, and what is closed behind them.
-use Rattle.std.specs.Prelude.{◌≡◌, ℕ, ◌+◌, ◌*◌, ◌<◌, ◌≤◌, List, ◌++◌, length, Option, Some, None, ⊤}
+use Rattle.std.specs.Prelude.{◌≡◌, ℕ, ◌+◌, ◌*◌, ◌≤◌, List, ◌++◌, length, Option, Some, None, ⊤}
 use Rattle.tape_values.specs.Block.{top}
-use Rattle.host_devices.specs.Turns.{most_turns}
 use Rattle.reading_core.specs.Reader.{ended}
 use Rattle.looking_engine.specs.Stopping.{TellsEnd}
 use Rattle.request_values.specs.Change.{◌⇒◌}
-use Rattle.tape_shelf.specs.declared.shelf.ShelfFault.{ShelfFault}
-use Rattle.tape_shelf.specs.declared.shelf.ShelfFault.TheVariants.{Write}
-use Rattle.tape_shelf.specs.SavedSteps.{adds, closes, full, not_all_added}
+use Rattle.tape_shelf.specs.SavedSteps.{adds, closes, full}
 use Rattle.tape_shelf.specs.SavedTape.{last_text}
-use Rattle.tape_shelf.specs.Shelf.{ShelfStep}
-use Rattle.tape_shelf.specs.ShelfAt.{GoesOnTo, HasDoneThere, ShelfAt}
+use Rattle.tape_shelf.specs.ShelfAt.{HasDoneThere, ShelfAt}
 use Rattle.tape_shelf.specs.ShelfTold.{AreDone}
 use Rattle.machine_look.specs.declared.reading_blocks.Course.{Course}
 use Rattle.machine_look.specs.declared.reading_blocks.Course.TheVariants.{HeldUp, Read}
@@ -29,7 +25,7 @@ abbrev pub IsCourse : Saving → SaveAt → SaveAt → Course → Type 0
 IsCourse saving before after (HeldUp looked) =
     IsHeldUp saving (before.console ⇒ after.console) looked × (after.shelf.told ≡ before.shelf.told)
 IsCourse saving before after (Read looks last stop) =
-    IsRead most_turns saving (before.console ⇒ after.console) (record { looks = looks; last = last; stop = stop }) × TellsEnd stop (ended last.phase)
+    IsRead saving (before.console ⇒ after.console) (record { looks = looks; last = last; stop = Some stop }) × TellsEnd stop (ended last.phase)
     × ((folder : List ℕ) → before.shelf.is_opened_as folder → after.shelf.is_opened_as folder
     × AreDone folder (adds saving.options.range.from (saving.found ++ last.values) (full (saving.found ++ last.values))) before.shelf.told after.shelf.told)
 
@@ -64,14 +60,3 @@ abbrev pub HasRoomForCounts : SaveOptions → List ℕ → Course → Type 0
 HasRoomForCounts options found (HeldUp looked) = ⊤
 HasRoomForCounts options found (Read looks last stop) =
     (looks.spent + last.patience ≤ options.patience) × (options.range.from + 2 * (length found + length last.values) ≤ top)
-
--- the blocks of the numbers that stand in memory from an address on, behind what was done before
-pub record Adding : Type 0 where
-  pub behind : List ShelfStep
-  pub from : ℕ
-  pub values : List ℕ
-
--- one of them could not be written: those before it are on the shelf, and the numbers make more
-abbrev pub IsNotAllAdded : Adding → ShelfAt → ShelfAt → ShelfFault → Type 0
-IsNotAllAdded adding before after fault =
-    (fault ≡ Write) × ((n : ℕ) × (n < full adding.values) × GoesOnTo adding.behind (not_all_added adding.from adding.values n) before after)

@@ -1,3 +1,4 @@
+pub mod Adding
 pub mod Behind
 pub mod Course
 pub mod Differences

@@ -1,13 +1,11 @@
 -- How a look comes to nothing, and what was done before (this project's own).
-use Rattle.std.specs.Prelude.{◌≡◌, ◌⊎◌, ℕ, ◌<◌, ◌≤◌, List, [], ◌∷◌, ◌++◌, None}
+use Rattle.std.specs.Prelude.{◌≡◌, ◌⊎◌, ℕ, ◌<◌, List, [], ◌∷◌, ◌++◌, None}
 use Rattle.std.specs.Io.KnownBytes.{Keeps}
 use Rattle.tape_image.specs.Plan.{PlanValue}
 use Rattle.tape_image.specs.Word.{WordValue}
-use Rattle.host_devices.specs.Turns.{most_turns}
 use Rattle.console_lines.specs.Dialling.{IsAskedInVain}
 use Rattle.reading_core.specs.Addresses.{addresses_of}
 use Rattle.reading_core.specs.Reader.{Reader, begun, ended}
-use Rattle.looking_engine.specs.Stopping.{LookStop}
 use Rattle.request_values.specs.Change.{Change, ◌⇒◌}
 use Rattle.request_values.specs.declared.range.AddressRange.{AddressRange}
 use Rattle.machine_look.specs.declared.look_fault.LookFault.{LookFault}
@@ -77,8 +75,7 @@ IsReadFault saving before after Connect =
     (after.shelf.told ≡ before.shelf.told) × IsAskedInVain before.console.call before.console.asked after.console.asked
     × (after.console.lines ≡ before.console.lines)
 IsReadFault saving before after WriteTape =
-    (looks last : Reader) × (stop : LookStop) × (turns : ℕ) × (turns ≤ most_turns)
-    × IsRead turns saving (before.console ⇒ after.console) (record { looks = looks; last = last; stop = stop })
+    (looks last : Reader) × IsRead saving (before.console ⇒ after.console) (record { looks = looks; last = last; stop = None })
     × (n : ℕ) × (n < full (saving.found ++ last.values))
     × HasDoneThere (not_all_added saving.options.range.from (saving.found ++ last.values) n) before.shelf after.shelf
 IsReadFault saving before after other = ⊥

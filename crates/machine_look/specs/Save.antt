@@ -1,8 +1,7 @@
 -- What `save` does (this project's own).
-use Rattle.std.specs.Prelude.{◌≡◌, ℕ, ◌+◌, ◌<◌, ◌≤◌, List, [], ◌∷◌, ◌++◌, length, Option, None, IfSome}
+use Rattle.std.specs.Prelude.{◌≡◌, ℕ, ◌+◌, ◌<◌, ◌≤◌, List, [], ◌∷◌, ◌++◌, length, Option, Some, None, IfSome}
 use Rattle.std.specs.Io.KnownBytes.{Appends, Keeps}
 use Rattle.tape_values.specs.Tape.{plain_text}
-use Rattle.host_devices.specs.Turns.{most_turns}
 use Rattle.console_lines.specs.Console.{ConsoleTold}
 use Rattle.console_lines.specs.declared.reach.Reach.{Ghosts as Reach}
 use Rattle.host_devices.specs.Devices.{LineTold}
@@ -85,25 +84,25 @@ counts_read options found looks last = record {
 abbrev pub counts_held : SaveOptions → Reader → SaveCounts
 counts_held options looks = record { sent = looks.sent; spent = looks.spent; read = 0; words = words_in options.range }
 
--- a shelf was taken up, what was found there stood, and the words behind it were read
-pub record IsSaveRead (turns : ℕ) (options : SaveOptions) (before after : SaveTold) : Type 0 where
+-- a shelf was taken up, what was found there stood, and the words behind it were read, which stopped so (None: a block could not be added)
+pub record IsSaveRead (stop : Option LookStop) (options : SaveOptions) (before after : SaveTold) : Type 0 where
   pub found : List ℕ
   pub taking : List ShelfStep
   pub taken_up : TakesUp options.range before.shelf.left found taking
   pub looks : Reader
   pub last : Reader
-  pub stop : LookStop
-  pub read : IsRead turns (record { options = options; found = found }) (console_of before ⇒ console_of after)
+  pub read : IsRead (record { options = options; found = found }) (console_of before ⇒ console_of after)
       (record { looks = looks; last = last; stop = stop })
 
 -- the numbers that it has then
-abbrev pub numbers_of : {turns : ℕ} {options : SaveOptions} {before after : SaveTold} → IsSaveRead turns options before after → List ℕ
+abbrev pub numbers_of : {stop : Option LookStop} {options : SaveOptions} {before after : SaveTold} → IsSaveRead stop options before after → List ℕ
 numbers_of read = read.found ++ read.last.values
 
 -- what was found and what was read was put where the tape goes
 pub record IsShelved (options : SaveOptions) (before after : SaveTold) : Type 0 where
-  pub read : IsSaveRead most_turns options before after
-  pub end : TellsEnd read.stop (ended read.last.phase)
+  pub stop : LookStop
+  pub read : IsSaveRead (Some stop) options before after
+  pub end : TellsEnd stop (ended read.last.phase)
   pub tape : IsTapeOf options (numbers_of read)
   pub is_put : HasDone (read.taking ++ puts options.range.from (numbers_of read) options.start) before.shelf after.shelf
 
@@ -119,7 +118,7 @@ pub record IsHeld (options : SaveOptions) (before after : SaveTold) : Type 0 whe
 -- a save is over, with these counts and this end
 pub data IsOver (options : SaveOptions) (before after : SaveTold) : SaveCounts → SaveEnd → Type 0 where
   Shelved : (s : IsShelved options before after)
-      → IsOver options before after (counts_read options s.read.found s.read.looks s.read.last) (save_end s.read.stop)
+      → IsOver options before after (counts_read options s.read.found s.read.looks s.read.last) (save_end s.stop)
   HeldUp : (h : IsHeld options before after)
       → IsOver options before after (counts_held options h.looked.reader) (held_end h.looked.finding h.looked.stop)
 
@@ -139,7 +138,8 @@ pub record IsSavedUnreported (options : SaveOptions) (before after : SaveTold) :
 
 -- what was found and read could not have its place there, and nothing was reported
 pub record IsUnput (fault : ShelfFault) (options : SaveOptions) (before after : SaveTold) : Type 0 where
-  pub read : IsSaveRead most_turns options before after
+  pub stop : LookStop
+  pub read : IsSaveRead (Some stop) options before after
   pub refused : HasDone
       (read.taking ++ not_put options.range.from (numbers_of read) options.start fault)
       before.shelf after.shelf
@@ -147,9 +147,7 @@ pub record IsUnput (fault : ShelfFault) (options : SaveOptions) (before after : 
 
 -- a block could not be added: nothing more was read, and nothing reported, and the blocks before it had been added
 pub record IsUnadded (options : SaveOptions) (before after : SaveTold) : Type 0 where
-  pub turns : ℕ
-  pub few : turns ≤ most_turns
-  pub read : IsSaveRead turns options before after
+  pub read : IsSaveRead None options before after
   pub number : ℕ
   pub within : number < full (numbers_of read)
   pub refused : HasDone

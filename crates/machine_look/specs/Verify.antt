@@ -1,12 +1,11 @@
 -- What `verify` does (this project's own).
-use Rattle.std.specs.Prelude.{◌≡◌, ℕ, ◌≤◌, List, [], length}
+use Rattle.std.specs.Prelude.{◌≡◌, ℕ, List, [], length, Option, Some, None}
 use Rattle.std.specs.Io.KnownBytes.{Appends}
 use Rattle.tape_image.specs.Plan.{PlanValue}
 use Rattle.tape_image.specs.Word.{WordValue}
 use Rattle.odt_machine.specs.Machine.{Machine}
 use Rattle.line_world.specs.Safe.{FirstStand}
 use Rattle.byte_io.specs.Output.{WritesAllBut}
-use Rattle.host_devices.specs.Turns.{most_turns}
 use Rattle.reading_core.specs.Addresses.{addresses_of}
 use Rattle.reading_core.specs.Reader.{Reader, begun, ended}
 use Rattle.looking_engine.specs.Stopping.{LookStop}
@@ -16,7 +15,7 @@ use Rattle.machine_look.specs.declared.verify_end.VerifyEnd.TheVariants.{Same}
 use Rattle.machine_look.specs.Differences.{differences}
 use Rattle.console_lines.specs.Console.{ConsoleTold}
 use Rattle.machine_look.specs.Look.{AsksOnce, IsLook, IsLookOf, OverHonestLine}
-use Rattle.machine_look.specs.VerifyReport.{verify_end, verify_report}
+use Rattle.machine_look.specs.VerifyReport.{difference_lines, verify_end, verify_report}
 
 -- a memory is what it was, and every word stands in it
 abbrev pub IsSameWith : List WordValue → Machine → Machine → Type 0
@@ -36,13 +35,17 @@ pub record IsVerifyReported (plan : PlanValue) (patience : ℕ) (console : Chang
   pub verified : IsVerified plan patience console end
   pub reported : Appends console.before.out console.after.out (verify_report plan.words verified.last verified.stop)
 
--- a front of the report of what was read by then was written, and nothing else: words were looked at for so many turns, a reader behind another
+-- what is to be reported of a look: the differences, and behind the last of them how it ended
+abbrev pub report_of : List WordValue → Reader → Option LookStop → List ℕ
+report_of words last (Some stop) = verify_report words last stop
+report_of words last None = difference_lines words last.values
+
+-- a front of the report of what was read by then was written, and nothing else: words were looked at up to the end of the look, or to a difference
+-- that could not be shown
 pub record IsComparisonCutShort (words : List WordValue) (first : Reader) (console : Change ConsoleTold) : Type 0 where
-  pub turns : ℕ
-  pub few : turns ≤ most_turns
   pub last : Reader
-  pub stop : LookStop
-  pub look : IsLookOf turns (first ⇒ last) stop (console.before.lines ⇒ console.after.lines)
+  pub stop : Option LookStop
+  pub look : IsLookOf (first ⇒ last) stop (console.before.lines ⇒ console.after.lines)
   pub asked : AsksOnce (ended first.phase) console.before.call console.before.asked console.after.asked
   pub missing : List ℕ
-  pub reported : WritesAllBut console.before.out console.after.out (verify_report words last stop) missing
+  pub reported : WritesAllBut console.before.out console.after.out (report_of words last stop) missing

@@ -1,42 +1,33 @@
 //! Comparing what memory holds with the words of a plan, each difference shown as soon as it was read.
-ghost use Rattle.std.specs.Prelude.{◌≡◌, [], None, Some, IfErr, IfOk, OnErr, OnOk};
+ghost use Rattle.std.specs.Prelude.{◌≡◌, [], IfErr, IfOk, OnOk};
 ghost use Rattle.std.specs.Io.KnownBytes.{Appends};
 ghost use Rattle.console_lines.specs.Console.{console_told};
-ghost use Rattle.console_lines.specs.Dialling.{IsAskedInVain};
 ghost use Rattle.host_devices.specs.Devices.{line_told};
-ghost use Rattle.reading_core.specs.Addresses.{addresses_of};
+ghost use Rattle.host_devices.specs.Turns.{most_turns};
 ghost use Rattle.reading_core.specs.Invariant.{IsReader};
 ghost use Rattle.reading_core.specs.Reader.{ended};
 ghost use Rattle.looking_engine.specs.Inquired.{IsInquired, inquiry};
 ghost use Rattle.request_values.specs.Change.{◌⇒◌};
-ghost use Rattle.machine_look.specs.Look.{AsksOnce, IsInquiredWhile, IsLook};
+ghost use Rattle.machine_look.specs.Look.{AsksOnce, IsLook};
 ghost use Rattle.machine_look.specs.LookFault.{IsCompareFault};
-ghost use Rattle.machine_look.specs.Shown.{ShowsPart, ShowsTo};
+ghost use Rattle.machine_look.specs.Shown.{Shows};
 ghost use Rattle.machine_look.specs.VerifyReport.{difference_lines};
 
-use crate::difference::show_differences;
+use crate::differences::Differences;
 use crate::look_fault::LookFault;
-use byte_io::WriteFault;
 use console_lines::Reach;
+use engine::lead;
 use host_devices::{Line, MOST_TURNS, Onlooker};
-use looking_engine::{Stop, inquire};
+use looking_engine::{Reading, Stop, stop_from};
 use reading_core::{End, ReadingCore};
 use std::io::Write;
 use tape_image::Word;
-
-// What a comparison came to, and whether each difference that was read is shown.
-#[derive(Drop)]
-struct Compared {
-    core: ReadingCore,
-    stop: Stop<End>,
-    shown: Result<(), WriteFault>,
-}
 
 /// Reaches the console, where there are words to read, reads them, and writes a line for each that differs as
 /// soon as it was read.
 ///
 /// `Connect` comes where the console can't be reached, and nothing was sent; `WriteOutput` where a line can't be
-/// written whole, and then nothing more is read.
+/// written whole, and then nothing more is read or sent.
 pub(crate) fn compare_over<R: Reach, W: Write, O: Onlooker>(
     core: ReadingCore,
     words: &[Word],
@@ -44,8 +35,7 @@ pub(crate) fn compare_over<R: Reach, W: Write, O: Onlooker>(
     out: &mut W,
     onlooker: &O,
 ) -> Result<(ReadingCore, Stop<End>), LookFault>
-    requires of_words { core.addresses ≡ addresses_of words.now }
-    requires fresh { core.values ≡ [] }
+    requires { core.values ≡ [] }
     ensures look { IfOk result (λ looked. IsLook (core ⇒ looked.0) looked.1 (R.lines console.old ⇒ R.lines console.new)) }
     ensures asked { OnOk result (AsksOnce (ended core.phase) (R.call console.old) (R.asked console.old) (R.asked console.new)) }
     ensures shown { IfOk result (λ looked. Appends (W.contents out.old) (W.contents out.new) (difference_lines words.now looked.0.values)) }
@@ -58,72 +48,48 @@ pub(crate) fn compare_over<R: Reach, W: Write, O: Onlooker>(
     }
     let mut line = console.reach()?;
     onlooker.begins(0, core.addresses().len() as u32);
-    let Compared { core, stop, shown } = compare(core, words, &mut line, out, onlooker);
+    let (core, stop) = compare(core, words, &mut line, out, onlooker);
     onlooker.ends();
     console.let_go(line);
-    match shown {
-        Ok(()) => Ok((core, stop)),
-        Err(_) => Err(LookFault::WriteOutput),
+    match stop {
+        Some(stop) => Ok((core, stop)),
+        None => Err(LookFault::WriteOutput),
     }
 }
 
-// Lends the core to the line for at most 10,000,000 turns, as `inquire` does, and shows each difference behind the
-// turn in which its word was read. Where one can't be shown the turns are over. An onlooker is told of each step.
+// Lends the core to the line for at most 10,000,000 turns, and shows each difference as soon as its word was read;
+// no stop is answered where one can't be shown. An onlooker is told of each step.
 fn compare<L: Line, W: Write, O: Onlooker>(
-    mut core: ReadingCore,
-    words: &[Word],
-    line: &mut L,
-    out: &mut W,
-    onlooker: &O,
-) -> Compared
-    requires of_words { core.addresses ≡ addresses_of words.now }
-    requires fresh { core.values ≡ [] }
-    requires goes_on { ended core.phase ≡ None }
-    requires kept { IsReader core }
-    ensures inquired { IsInquiredWhile result.shown (inquiry core result.core (Some result.stop)) (line_told L.Line line.old) (line_told L.Line line.new) }
-    ensures shown { OnOk result.shown (ShowsTo [] (difference_lines words.now result.core.values) (W.contents out.old) (W.contents out.new)) }
-    ensures cut_short { OnErr result.shown (ShowsPart [] (difference_lines words.now result.core.values) (W.contents out.old) (W.contents out.new)) }
-{
-    for _ in 0..MOST_TURNS {
-        let Compared {
-            core: next,
-            stop,
-            shown,
-        } = turn(core, words, line, out, onlooker);
-        core = next;
-        if shown.is_err() {
-            return Compared { core, stop, shown };
-        }
-        match stop {
-            Stop::TurnsOver => {}
-            _ => return Compared { core, stop, shown },
-        }
-    }
-    Compared {
-        core,
-        stop: Stop::TurnsOver,
-        shown: Ok(()),
-    }
-}
-
-// One turn, and the differences that came of it.
-fn turn<L: Line, W: Write, O: Onlooker>(
     core: ReadingCore,
     words: &[Word],
     line: &mut L,
     out: &mut W,
     onlooker: &O,
-) -> Compared
-    requires of_words { core.addresses ≡ addresses_of words.now }
-    ensures inquired { IsInquired 1 (inquiry core result.core (Some result.stop)) (line_told L.Line line.old) (line_told L.Line line.new) }
-    ensures first { IsReader core }
-    ensures shown { OnOk result.shown (ShowsTo (difference_lines words.now core.values) (difference_lines words.now result.core.values)
-        (W.contents out.old) (W.contents out.new)) }
-    ensures cut_short { OnErr result.shown (ShowsPart (difference_lines words.now core.values) (difference_lines words.now result.core.values)
-        (W.contents out.old) (W.contents out.new)) }
+) -> (ReadingCore, Option<Stop<End>>)
+    requires fresh { core.values ≡ [] }
+    requires kept { IsReader core }
+    ensures inquired { IsInquired most_turns (inquiry core result.0 result.1) (line_told L.Line line.old) (line_told L.Line line.new) }
+    ensures shown { Shows result.1 (W.contents out.old) (W.contents out.new) (difference_lines words.now result.0.values) }
 {
-    let before = core.values().len();
-    let (core, stop) = inquire(core, line, 1, onlooker);
-    let shown = show_differences(words, core.values(), before, out, onlooker);
-    Compared { core, stop, shown }
+    let mut differences = Differences::new(words, out, onlooker);
+    read_and_show(core, line, &mut differences, onlooker)
+}
+
+// The same, where they are shown by this keeper.
+fn read_and_show<L: Line, W: Write, O: Onlooker>(
+    core: ReadingCore,
+    line: &mut L,
+    differences: &mut Differences<'_, W, O>,
+    onlooker: &O,
+) -> (ReadingCore, Option<Stop<End>>)
+    requires fresh { core.values ≡ [] }
+    requires kept { IsReader core }
+    ensures inquired { IsInquired most_turns (inquiry core result.0 result.1) (line_told L.Line line.old) (line_told L.Line line.new) }
+    ensures shown { Shows result.1 (W.contents differences.old.out.now) (W.contents differences.new.out.now)
+        (difference_lines differences.old.words.now result.0.values) }
+    ensures same_reference { differences.new.out.ghost_name ≡ differences.old.out.ghost_name }
+{
+    let mut host = Reading { core };
+    let stop = lead(&mut host, line, differences, MOST_TURNS, onlooker);
+    (host.core, stop_from(stop))
 }

@@ -1,10 +1,9 @@
 //! Where memory differs from a plan.
-ghost use Rattle.std.specs.Prelude.{◌≡◌, ◌≤◌, length, take, OnErr, OnOk};
+ghost use Rattle.std.specs.Prelude.{◌≡◌, ◌≤◌, length, OnErr, OnOk};
 ghost use Rattle.std.specs.Io.KnownBytes.{Appends};
 ghost use Rattle.byte_io.specs.Output.{WritesPrefix};
 ghost use Rattle.machine_look.specs.Differences.{difference, differences};
-ghost use Rattle.machine_look.specs.Shown.{ShowsPart, ShowsTo};
-ghost use Rattle.machine_look.specs.VerifyReport.{difference_lines, lines_of};
+ghost use Rattle.machine_look.specs.VerifyReport.{lines_of};
 
 use crate::verify_report::difference_line;
 use byte_io::{WriteFault, write_and_flush};
@@ -42,30 +41,9 @@ fn count_difference(word: Word, now: u16) -> usize
     usize::from(!stands(word, now))
 }
 
-/// Writes a line for each difference between the words of a plan and the numbers that were read at the first
-/// of their addresses, from the number at this place on. What an onlooker shows makes room for it.
-pub(crate) fn show_differences<W: Write, O: Onlooker>(
-    words: &[Word],
-    numbers: &[u16],
-    first: usize,
-    out: &mut W,
-    onlooker: &O,
-) -> Result<(), WriteFault>
-    requires few { length numbers.now ≤ length words.now }
-    requires behind { first ≤ length numbers.now }
-    ensures shown { OnOk result (ShowsTo (difference_lines words.now (take first numbers.now)) (difference_lines words.now numbers.now)
-        (W.contents out.old) (W.contents out.new)) }
-    ensures cut_short { OnErr result (ShowsPart (difference_lines words.now (take first numbers.now)) (difference_lines words.now numbers.now)
-        (W.contents out.old) (W.contents out.new)) }
-{
-    for place in first..numbers.len() {
-        show_difference(words[place], numbers[place], out, onlooker)?;
-    }
-    Ok(())
-}
-
-// Writes the line of the difference between a word and the number that was read at its address, if there is one.
-fn show_difference<W: Write, O: Onlooker>(
+/// Writes the line of the difference between a word and the number that was read at its address, if there is one.
+/// What an onlooker shows makes room for it.
+pub(crate) fn show_difference<W: Write, O: Onlooker>(
     word: Word,
     now: u16,
     out: &mut W,

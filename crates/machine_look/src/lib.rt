@@ -11,8 +11,11 @@
 #![tactic(auto)]
 
 mod behind;
+mod blocks;
 mod comparing;
 mod difference;
+mod differences;
+mod failures;
 mod hosts;
 mod look_fault;
 mod reading_blocks;

@@ -6,9 +6,11 @@ use Rattle.host_devices.specs.declared.item.Item.{Item}
 use Rattle.host_core.specs.Core.{Core, begun as begun_load}
 use Rattle.host_core.specs.declared.heard.Heard.{Heard}
 use Rattle.host_devices.specs.Dialogue.{dialogue as load_dialogue}
-use Rattle.load_engine.specs.declared.stop.Stop.{Stop as LoadStop}
-use Rattle.load_engine.specs.declared.stop.Stop.TheVariants as load
-use Rattle.load_engine.specs.Session.{IsSaid as IsSaidOfLoad}
+use Rattle.engine.specs.Session.{session_told}
+use Rattle.load_engine.specs.Driving.{LoadStop, driving}
+use Rattle.engine.specs.declared.stop.Stop.TheVariants as load
+use Rattle.load_engine.specs.Driven.{IsSaid as IsSaidOfLoad}
+use Rattle.load_engine.proofs.Sessions.{session_said}
 use Rattle.honest_line.specs.Honest.{IsHonest}
 use Rattle.machine_probe.specs.declared.memory_end.Limits.{Limits}
 use Rattle.machine_probe.specs.declared.pieces.Pieces.{Pieces}
@@ -130,18 +132,18 @@ load_begins : (core : Core) (heard : List Heard) → BeginsByListening (load_dia
 load_begins core [] = tt
 load_begins core (heard ∷ more) = tt
 
-told_load : (stop : LoadStop) (left : ℕ) (all said : List Item) → IsSaidOfLoad (Some stop) left all said → IsToldOf all said
-told_load (load.Ended end) left all said is = inl is
-told_load load.TurnsOver left all said is = inl is.0
-told_load (load.KeepFailed fault) left all said lacks = inr lacks
-told_load (load.LineFailed fault) left all said (inl whole) = inl whole.0
-told_load (load.LineFailed fault) left all said (inr lacks) = inr lacks
+told_load : (stop : LoadStop) (all said : List Item) → IsSaidOfLoad (Some stop) all said → IsToldOf all said
+told_load (load.Ended end) all said is = inl is
+told_load load.TurnsOver all said is = inl is
+told_load (load.KeepFailed fault) all said lacks = inr lacks
+told_load (load.LineFailed fault) all said (inl whole) = inl whole
+told_load (load.LineFailed fault) all said (inr lacks) = inr lacks
 
 deposit_begins : (options : ProbeOptions) (old : ℕ) (is_back : Bool) (parts : List (List Item)) → (p : PutsBack options old is_back parts) → BeginsByListening p.said
 deposit_begins options old is_back parts p =
     let s = p.session in
     let core : Core = begun_load p.plan 0 false options.patience in
-    told_begins (load_dialogue core s.heard) p.said (subst (IsToldOf (load_dialogue core s.heard)) (sym s.on_line) (told_load p.stop _ (load_dialogue core s.heard) s.said s.items)) (load_begins core s.heard)
+    told_begins (load_dialogue core s.heard) p.said (subst (IsToldOf (load_dialogue core s.heard)) (sym s.on_line) (told_load p.stop (load_dialogue core s.heard) s.said (session_said (turns_of options.patience) (driving core p.last (Some p.stop)) (session_told (Some []) (Some [])) (session_told (Some p.said) (Some p.kept)) s))) (load_begins core s.heard)
 
 -- ---- the passes of the search
 

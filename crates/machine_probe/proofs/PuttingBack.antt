@@ -17,10 +17,11 @@ use Rattle.host_devices.specs.Dialogue.{dialogue}
 use Rattle.honest_line.specs.Trust.{IsTrusted, IsTrustworthy, MayBegin}
 use Rattle.honest_line.proofs.Trusted.{trustworthy}
 use Rattle.looking_law.specs.Belief.{IsReadyMachine}
-use Rattle.load_engine.specs.declared.stop.Stop.{Stop}
-use Rattle.load_engine.specs.declared.stop.Stop.TheVariants.{Ended, LineFailed, KeepFailed, TurnsOver}
-use Rattle.load_engine.specs.Driving.{driving}
-use Rattle.load_engine.specs.Session.{Session, SessionTold, TellsEnd, session_told}
+use Rattle.load_engine.specs.Driving.{LoadSession, LoadStop as Stop, driving}
+use Rattle.load_engine.proofs.Sessions.{core_is, session_said}
+use Rattle.engine.specs.declared.stop.Stop.TheVariants.{Ended, LineFailed, KeepFailed, TurnsOver}
+use Rattle.engine.specs.Session.{SessionTold, session_told}
+use Rattle.engine.specs.Stopping.{TellsEnd}
 use Rattle.machine_probe.specs.declared.putting_back.Deposit.{Deposit}
 use Rattle.machine_probe.specs.declared.probe_options.ProbeOptions.{ProbeOptions}
 use Rattle.machine_probe.specs.PuttingBack.{HoldsAgain, IsDeposit, IsPlanOfWord, PutsBack, is_loaded}
@@ -83,11 +84,11 @@ holds_again address old patience plan last heard said of host led_to said_is sam
 
 -- ---- what was driven
 
-again_of : (stop : Stop) (address old patience turns : ℕ) (plan : PlanValue) (last : Core) (before after : SessionTold) →
-    IsPlanOfWord address old plan → IsHost (begun plan 0 false patience) → IsHost last → last.plan ≡ plan → TellsEnd stop last →
-    (session : Session turns (driving (begun plan 0 false patience) last (Some stop)) before after) → is_loaded stop ≡ true → HoldsAgain address old session.said
+again_of : (stop : Stop) (address old patience turns : ℕ) (plan : PlanValue) (last : Core) (before after : SessionTold Kept) →
+    IsPlanOfWord address old plan → IsHost (begun plan 0 false patience) → IsHost last → last.plan ≡ plan → TellsEnd stop (ended last.phase) →
+    (session : LoadSession turns (driving (begun plan 0 false patience) last (Some stop)) before after) → is_loaded stop ≡ true → HoldsAgain address old session.said
 again_of (Ended Loaded) address old patience turns plan last before after of first host same end session is =
-    holds_again address old patience plan last session.heard session.said of first session.core session.items same (loaded_at last.phase (basis_of last) end host.fits).0
+    holds_again address old patience plan last session.heard session.said of first (core_is turns (driving (begun plan 0 false patience) last (Some (Ended Loaded))) before after session) (session_said turns (driving (begun plan 0 false patience) last (Some (Ended Loaded))) before after session) same (loaded_at last.phase (basis_of last) end host.fits).0
 again_of (Ended Started) address old patience turns plan last before after of first host same end session is = absurd (cc is)
 again_of (Ended Uncertain) address old patience turns plan last before after of first host same end session is = absurd (cc is)
 again_of (Ended MaybeStarted) address old patience turns plan last before after of first host same end session is = absurd (cc is)
@@ -99,25 +100,25 @@ again_of (KeepFailed fault) address old patience turns plan last before after of
 again_of TurnsOver address old patience turns plan last before after of first host same end session is = absurd (cc is)
 
 -- the same session, over a line that tells from there on
-told_alone : (turns : ℕ) (stop : Stop) (core last : Core) (before after : SessionTold) → (session : Session turns (driving core last (Some stop)) before after) →
-    Session turns (driving core last (Some stop)) (session_told (Some []) before.kept) (session_told (Some session.said) after.kept)
+told_alone : (turns : ℕ) (stop : Stop) (core last : Core) (before after : SessionTold Kept) → (session : LoadSession turns (driving core last (Some stop)) before after) →
+    LoadSession turns (driving core last (Some stop)) (session_told (Some []) before.kept) (session_told (Some session.said) after.kept)
 told_alone turns stop core last before after session = record {
   heard = session.heard;
   said = session.said;
+  given = session.given;
   kept = session.kept;
-  core = session.core;
+  host = session.host;
   goes_on = session.goes_on;
   within = session.within;
-  items = session.items;
+  done = session.done;
   news = session.news;
-  mark_first = session.mark_first;
   on_line = refl;
   at_keeper = session.at_keeper;
 }
 
 put_by : (options : ProbeOptions) (old : ℕ) (plan : PlanValue) (last : Core) (stop : Stop) (line line' : Option (List Item)) (kept : List Kept) →
-    IsPlanOfWord options.address old plan → IsHost (begun plan 0 false options.patience) → IsHost last → last.plan ≡ plan → TellsEnd stop last →
-    Session (turns_of options.patience) (driving (begun plan 0 false options.patience) last (Some stop)) (session_told line (Some [])) (session_told line' (Some kept)) → OnLine (PutsBack options old (is_loaded stop)) line line'
+    IsPlanOfWord options.address old plan → IsHost (begun plan 0 false options.patience) → IsHost last → last.plan ≡ plan → TellsEnd stop (ended last.phase) →
+    LoadSession (turns_of options.patience) (driving (begun plan 0 false options.patience) last (Some stop)) (session_told line (Some [])) (session_told line' (Some kept)) → OnLine (PutsBack options old (is_loaded stop)) line line'
 put_by options old plan last stop line line' kept of first host same end session =
     one (PutsBack options old (is_loaded stop)) line line' session.said (record {
       said = session.said;
@@ -134,12 +135,12 @@ put_by options old plan last stop line line' kept of first host same end session
     }) session.on_line
 
 pub put_back_by : (options : ProbeOptions) (deposit : Deposit) (turns : ℕ) (last : Core) (stop : Stop) (is_back : Bool) (line line' : Option (List Item)) (kept : List Kept) →
-    IsHost last → last.plan ≡ deposit.core.plan → TellsEnd stop last → is_back ≡ is_loaded stop → turns ≡ turns_of options.patience →
-    Session turns (driving deposit.core last (Some stop)) (session_told line (Some deposit.keeper.kept)) (session_told line' (Some kept)) →
+    IsHost last → last.plan ≡ deposit.core.plan → TellsEnd stop (ended last.phase) → is_back ≡ is_loaded stop → turns ≡ turns_of options.patience →
+    LoadSession turns (driving deposit.core last (Some stop)) (session_told line (Some deposit.keeper.kept)) (session_told line' (Some kept)) →
     (old : ℕ) → IsDeposit options old deposit → OnLine (PutsBack options old is_back) line line'
 put_back_by options deposit turns last stop is_back line line' kept host same end is limit session old of =
     subst (λ back. OnLine (PutsBack options old back) line line') (sym is)
     (put_by options old deposit.core.plan last stop line line' kept of.plan (subst IsHost of.begun_is of.host) host same end
-    (subst (λ ks. Session (turns_of options.patience) (driving (begun deposit.core.plan 0 false options.patience) last (Some stop)) (session_told line (Some ks)) (session_told line' (Some kept))) of.empty
-    (subst (λ (core : Core). Session (turns_of options.patience) (driving core last (Some stop)) (session_told line (Some deposit.keeper.kept)) (session_told line' (Some kept))) of.begun_is
-    (subst (λ (n : ℕ). Session n (driving deposit.core last (Some stop)) (session_told line (Some deposit.keeper.kept)) (session_told line' (Some kept))) limit session))))
+    (subst (λ ks. LoadSession (turns_of options.patience) (driving (begun deposit.core.plan 0 false options.patience) last (Some stop)) (session_told line (Some ks)) (session_told line' (Some kept))) of.empty
+    (subst (λ (core : Core). LoadSession (turns_of options.patience) (driving core last (Some stop)) (session_told line (Some deposit.keeper.kept)) (session_told line' (Some kept))) of.begun_is
+    (subst (λ (n : ℕ). LoadSession n (driving deposit.core last (Some stop)) (session_told line (Some deposit.keeper.kept)) (session_told line' (Some kept))) limit session))))

@@ -58,7 +58,7 @@ same_patience limits from pieces stop last said pass = let s = pass.inquired in 
 believed : (limits : Limits) (from : ℕ) (pieces : Pieces) (stop : LookStop) (last : Reader) (said : List Item) → IsReader (first limits.patience from pieces) → IsPass (pass_over limits from pieces) stop last said →
     IsBelievableAt stop (first limits.patience from pieces) last said
 believed limits from pieces stop last said reads pass =
-    inquired_believable limits.turns stop (first limits.patience from pieces) last (Some []) (Some said) reads pass.inquired said ([], refl, refl)
+    inquired_believable limits.turns (Some stop) (first limits.patience from pieces) last (Some []) (Some said) reads pass.inquired said ([], refl, refl)
 
 -- a pass over an honest line that told an end
 true_at : (limits : Limits) (from : ℕ) (pieces : Pieces) (end : End) (last : Reader) (said : List Item) (machine now : Machine) (lost : ℕ) → IsReader (first limits.patience from pieces) → IsPass (pass_over limits from pieces) (Ended end) last said →

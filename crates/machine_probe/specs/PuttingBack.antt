@@ -4,16 +4,16 @@ use Rattle.tape_image.specs.Word.{whole_word}
 use Rattle.tape_image.specs.Plan.{PlanValue}
 use Rattle.odt_machine.specs.Machine.{Machine, is_word, word_at}
 use Rattle.host_core.specs.declared.phase.End.TheVariants.{Loaded}
-use Rattle.host_core.specs.Core.{Core, begun}
+use Rattle.host_core.specs.Core.{Core, begun, ended}
 use Rattle.host_core.specs.Host.{IsHost}
 use Rattle.host_devices.specs.declared.item.Item.{Item}
 use Rattle.host_devices.specs.declared.item.Kept.{Kept}
 use Rattle.honest_line.specs.Honest.{IsHonest}
 use Rattle.looking_law.specs.Belief.{IsReadyMachine}
-use Rattle.load_engine.specs.declared.stop.Stop.{Stop}
-use Rattle.load_engine.specs.declared.stop.Stop.TheVariants.{Ended}
-use Rattle.load_engine.specs.Driving.{driving}
-use Rattle.load_engine.specs.Session.{Session, TellsEnd, session_told}
+use Rattle.load_engine.specs.Driving.{LoadSession, LoadStop as Stop, driving}
+use Rattle.engine.specs.declared.stop.Stop.TheVariants.{Ended}
+use Rattle.engine.specs.Session.{session_told}
+use Rattle.engine.specs.Stopping.{TellsEnd}
 use Rattle.machine_probe.specs.declared.probe_options.ProbeOptions.{ProbeOptions}
 use Rattle.machine_probe.specs.declared.putting_back.Deposit.{Deposit}
 use Rattle.machine_probe.specs.Turns.{turns_of}
@@ -50,8 +50,8 @@ pub record PutsBack (options : ProbeOptions) (old : ℕ) (is_back : Bool) (parts
   pub last : Core
   pub stop : Stop
   pub kept : List Kept
-  pub session : Session (turns_of options.patience) (driving (begun plan 0 false options.patience) last (Some stop))
+  pub session : LoadSession (turns_of options.patience) (driving (begun plan 0 false options.patience) last (Some stop))
       (session_told (Some []) (Some [])) (session_told (Some said) (Some kept))
-  pub end : TellsEnd stop last
+  pub end : TellsEnd stop (ended last.phase)
   pub is_back_is : is_back ≡ is_loaded stop
   pub again : is_back ≡ true → HoldsAgain options.address old said

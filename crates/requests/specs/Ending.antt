@@ -1,8 +1,8 @@
 -- What a load, a look or a probe of a real machine comes to: the exit status, or the failure that names what was at fault.
 use Rattle.std.specs.Prelude.{◌≡◌, ℕ, Bool, if◌then◌else◌, List, Result, Ok, Err}
 use Rattle.host_devices.specs.declared.fault.LineFault.{LineFault}
-use Rattle.load_engine.specs.declared.stop.Stop.{Stop}
-use Rattle.load_engine.specs.declared.stop.Stop.TheVariants as stop
+use Rattle.load_engine.specs.Driving.{LoadStop as Stop}
+use Rattle.engine.specs.declared.stop.Stop.TheVariants as stop
 use Rattle.machine_load.specs.declared.fault.LoadFault.TheVariants as load
 use Rattle.machine_load.specs.declared.load_end.LoadEnd.{LoadEnd}
 use Rattle.machine_load.specs.declared.load_end.LoadEnd.TheVariants as load_end

@@ -3,7 +3,7 @@ use Rattle.std.specs.Prelude.{◌≡◌, ℕ, List, Option}
 use Rattle.tape_image.specs.Word.{WordValue}
 use Rattle.odt_machine.specs.Machine.{Machine}
 use Rattle.host_devices.specs.declared.item.Item.{Item}
-use Rattle.load_engine.specs.Session.{HasGained}
+use Rattle.engine.specs.Session.{HasGained}
 use Rattle.looking_law.specs.Belief.{IsReadyMachine}
 use Rattle.looking_engine.specs.Honest.{IsHonest}
 use Rattle.sample_looks.specs.declared.finding.Finding.{Finding}

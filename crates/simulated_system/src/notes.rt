@@ -49,7 +49,7 @@ pub struct StepNotes<'n> {
     pub steps: RefCell<Vec<FileStep>>,
     failing: Failing,
 
-    /// The name of the record's folder.
+    /// The name of the record's folder, beside `.`, which is taken for it, too.
     folder: &'n str,
 }
 
@@ -79,7 +79,7 @@ impl<'n> StepNotes<'n> {
 
     // What opening a file of this name is.
     fn opening(&self, path: &str) -> FileStep {
-        if path == self.folder {
+        if path == "." || path == self.folder {
             FileStep::OpenFolder
         } else if is_beside(path) {
             FileStep::OpenBeside

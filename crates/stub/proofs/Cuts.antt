@@ -1,128 +1,65 @@
--- Chunks.
-use Rattle.std.proofs.Common.{◌≡◌, ◌≢◌, ℕ, zero, suc, ◌+◌, ◌-◌, ◌*◌, ◌/◌, ◌%◌, ◌<◌, ◌≤◌, ◌⊎◌, Bool, true, false, if◌then◌else◌, List, [], ◌∷◌, ◌++◌, inl, inr, refl, arith, ap}
-use Rattle.std.specs.Prelude.{nat_lt}
-use Rattle.std.proofs.lemmas.Bool.Decides.{nat_tests}
+-- The addresses of stretches.
+use Rattle.std.proofs.Common.{◌≡◌, ◌≢◌, ℕ, zero, suc, ◌+◌, ◌-◌, ◌<◌, ◌≤◌, ◌⊎◌, List, [], ◌∷◌, ◌++◌, inl, inr, arith, ap}
 use Rattle.exchange_core.specs.declared.stretch.Stretch.{Stretch}
-use Rattle.exchange_core.specs.Stretch.{piece_end, cut, pieces}
+use Rattle.exchange_core.specs.Stretch.{places_from, places}
 use Rattle.stub.specs.Place.{StretchesFit}
 use Rattle.stub.specs.Law.{IsOutside}
+use Rattle.stub.proofs.Points.{PlacesFit}
 
--- a chunk that begins at an address, and what is cut behind it
-pub record Cut (n a hi : ℕ) : Type 0 where
-  pub fuel : ℕ
-  pub is : cut n a hi ≡ record { from = a; to = piece_end a hi } ∷ cut fuel (piece_end a hi) hi
-  pub enough : hi ≤ piece_end a hi + fuel
-
-pub cut_some : (n a hi : ℕ) → a < hi → hi ≤ a + n → Cut n a hi
-cut_some zero a hi less enough = absurd (omega arith)
-cut_some (suc n) a hi less enough = record {
-  fuel = n;
-  is = ap (λ b. if b then record { from = a; to = piece_end a hi } ∷ cut n (piece_end a hi) hi else []) (below a hi less);
-  enough = still a hi n less enough;
-}
+-- the first address of what is left, and where nothing is left there is none
+pub first_place : (a hi : ℕ) → a < hi → places_from (hi - a) a ≡ a ∷ places_from (hi - (a + 1)) (a + 1)
+first_place a hi less = ap (λ n. places_from n a) (count a hi less)
   where
-    below : (a hi : ℕ) → a < hi → nat_lt a hi ≡ true
-    below a hi less = grind (arith, nat_tests)
+    count : (a hi : ℕ) → a < hi → hi - a ≡ suc (hi - (a + 1))
+    count a hi less = omega arith
 
-    still : (a hi n : ℕ) → a < hi → hi ≤ a + suc n → hi ≤ piece_end a hi + n
-    still a hi n less enough = omega arith
-
-pub cut_none : (n a hi : ℕ) → hi ≤ a → cut n a hi ≡ []
-cut_none zero a hi past = refl
-cut_none (suc n) a hi past = ap (λ b. if b then record { from = a; to = piece_end a hi } ∷ cut n (piece_end a hi) hi else []) (above a hi past)
+pub no_place : (a hi : ℕ) → hi ≤ a → places_from (hi - a) a ≡ []
+no_place a hi past = ap (λ n. places_from n a) (count a hi past)
   where
-    above : (a hi : ℕ) → hi ≤ a → nat_lt a hi ≡ false
-    above a hi past = grind (arith, nat_tests)
+    count : (a hi : ℕ) → hi ≤ a → hi - a ≡ 0
+    count a hi past = omega arith
 
--- ---- where a chunk ends
+-- ---- what holds of stretches holds of their addresses
 
-pub end_past : (a hi : ℕ) → a < hi → a < piece_end a hi
-end_past a hi less = omega arith
-
-pub end_below : (a hi : ℕ) → piece_end a hi ≤ hi
-end_below a hi = omega arith
-
--- the next address has the same end, unless it is the end
-pub end_same : (a hi e : ℕ) → e ≡ piece_end a hi → a + 1 < e → e ≡ piece_end (a + 1) hi
-end_same a hi e is less = omega arith
-
--- the end is the stretch's end or a multiple of 16
-pub end_is : (a hi e : ℕ) → e ≡ piece_end a hi → (e ≡ hi) ⊎ (e % 16 ≡ 0)
-end_is a hi e is = elim (either hi (16 * (a / 16 + 1))) [
-  | inl low ↦ inl (first a hi e is low)
-  | inr low ↦ inr (second a hi e is low)
-]
+from_fits : (place until top : ℕ) (n a lo hi : ℕ) (more : List ℕ) → lo ≤ a → a + n ≤ hi → hi ≤ top → (hi ≤ place) ⊎ (until ≤ lo) → PlacesFit place until top more → PlacesFit place until top (places_from n a ++ more)
+from_fits place until top zero a lo hi more from to below apart fit = fit
+from_fits place until top (suc n) a lo hi more from to below apart fit =
+    (record { below = omega (arith, to, below); apart = apart_too apart }, from_fits place until top n (a + 1) lo hi more (omega (arith, from)) (omega (arith, to)) below apart fit)
   where
-    either : (x y : ℕ) → (x ≤ y) ⊎ (y ≤ x)
-    either x y = grind arith
+    apart_too : (hi ≤ place) ⊎ (until ≤ lo) → (a < place) ⊎ (until ≤ a)
+    apart_too (inl low) = inl (omega (arith, low, to))
+    apart_too (inr high) = inr (omega (arith, high, from))
 
-    first : (a hi e : ℕ) → e ≡ piece_end a hi → hi ≤ 16 * (a / 16 + 1) → e ≡ hi
-    first a hi e is low = omega arith
-
-    second : (a hi e : ℕ) → e ≡ piece_end a hi → 16 * (a / 16 + 1) ≤ hi → e % 16 ≡ 0
-    second a hi e is low = omega arith
-
--- what lies inside is neither
-pub inside_not : (a hi e : ℕ) → e ≡ piece_end a hi → a + 1 < e → (a + 1 < hi) × ((a + 1) % 16 ≢ 0)
-inside_not a hi e is less = (omega arith, multiple a hi e is less)
+pub places_fit : (place until top : ℕ) (stretches : List Stretch) → StretchesFit place until top stretches → PlacesFit place until top (places stretches)
+places_fit place until top [] fit = tt
+places_fit place until top (stretch ∷ stretches) fit =
+    from_fits place until top (stretch.to - stretch.from) stretch.from stretch.from stretch.to (places stretches) (omega arith) (all stretch.from stretch.to fit.0.rising) fit.0.below fit.0.apart
+    (places_fit place until top stretches fit.1)
   where
-    multiple : (a hi e : ℕ) → e ≡ piece_end a hi → a + 1 < e → (a + 1) % 16 ≢ 0
-    multiple a hi e is less zero_is = omega arith
+    all : (lo hi : ℕ) → lo < hi → lo + (hi - lo) ≤ hi
+    all lo hi less = omega arith
 
--- ---- what holds of stretches holds of their chunks
+-- none of these addresses is b
+abbrev pub HasNot : List ℕ → ℕ → Type 0
+HasNot [] b = Unit {0}
+HasNot (a ∷ those) b = (b ≢ a) × HasNot those b
 
-cut_fits : (place end top : ℕ) (n a lo hi : ℕ) (more : List Stretch) → lo ≤ a → hi ≤ top → (hi ≤ place) ⊎ (end ≤ lo) → StretchesFit place end top more → StretchesFit place end top (cut n a hi ++ more)
-cut_fits place end top zero a lo hi more from below apart fit = fit
-cut_fits place end top (suc n) a lo hi more from below apart fit = by_test (λ e. cut_fits place end top n (piece_end a hi) lo hi more e below apart fit) (nat_lt a hi) refl
+from_outside : (b n a lo hi : ℕ) (more : List ℕ) → lo ≤ a → a + n ≤ hi → (b < lo) ⊎ (hi ≤ b) → HasNot more b → HasNot (places_from n a ++ more) b
+from_outside b zero a lo hi more from to apart rest = rest
+from_outside b (suc n) a lo hi more from to apart rest = (other apart, from_outside b n (a + 1) lo hi more (omega (arith, from)) (omega (arith, to)) apart rest)
   where
-    less_is : (a hi : ℕ) → nat_lt a hi ≡ true → a < hi
-    less_is a hi e = grind (arith, nat_tests)
+    other : (b < lo) ⊎ (hi ≤ b) → b ≢ a
+    other (inl low) same = omega (arith, low, from, same)
+    other (inr high) same = omega (arith, high, to, same)
 
-    apart_too : (hi' : ℕ) → hi' ≤ hi → (hi ≤ place) ⊎ (end ≤ lo) → (hi' ≤ place) ⊎ (end ≤ a)
-    apart_too hi' less (inl low) = inl (omega arith)
-    apart_too hi' less (inr high) = inr (omega arith)
-
-    by_test : (lo ≤ piece_end a hi → StretchesFit place end top (cut n (piece_end a hi) hi ++ more)) → (test : Bool) → nat_lt a hi ≡ test → StretchesFit place end top ((if test then record { from = a; to = piece_end a hi } ∷ cut n (piece_end a hi) hi else []) ++ more)
-    by_test rest true e =
-        let less : a < hi = less_is a hi e in
-        let past : a < piece_end a hi = end_past a hi less in (
-          record { rising = past; below = under (piece_end a hi) (end_below a hi); apart = apart_too (piece_end a hi) (end_below a hi) apart },
-          rest (beyond (piece_end a hi) past),
-        )
-      where
-        under : (e : ℕ) → e ≤ hi → e ≤ top
-        under e less = omega arith
-
-        beyond : (e : ℕ) → a < e → lo ≤ e
-        beyond e less = omega arith
-    by_test rest false e = fit
-
-pub chunks_fit : (place end top : ℕ) (stretches : List Stretch) → StretchesFit place end top stretches → StretchesFit place end top (pieces stretches)
-chunks_fit place end top [] fit = tt
-chunks_fit place end top (stretch ∷ stretches) fit = cut_fits place end top (stretch.to - stretch.from) stretch.from stretch.from stretch.to (pieces stretches) (omega arith) fit.0.below fit.0.apart (chunks_fit place end top stretches fit.1)
-
-cut_outside : (b n a lo hi : ℕ) (more : List Stretch) → lo ≤ a → (b < lo) ⊎ (hi ≤ b) → IsOutside more b → IsOutside (cut n a hi ++ more) b
-cut_outside b zero a lo hi more from apart rest = rest
-cut_outside b (suc n) a lo hi more from apart rest = by_test (λ e. cut_outside b n (piece_end a hi) lo hi more e apart rest) (nat_lt a hi) refl
+pub places_outside : (place until top b : ℕ) (stretches : List Stretch) → StretchesFit place until top stretches → IsOutside stretches b → HasNot (places stretches) b
+places_outside place until top b [] fit outside = tt
+places_outside place until top b (stretch ∷ stretches) fit outside =
+    from_outside b (stretch.to - stretch.from) stretch.from stretch.from stretch.to (places stretches) (omega arith) (all stretch.from stretch.to fit.0.rising) outside.0
+    (places_outside place until top b stretches fit.1 outside.1)
   where
-    less_is : (a hi : ℕ) → nat_lt a hi ≡ true → a < hi
-    less_is a hi e = grind (arith, nat_tests)
-
-    apart_too : (hi' : ℕ) → hi' ≤ hi → (b < lo) ⊎ (hi ≤ b) → (b < a) ⊎ (hi' ≤ b)
-    apart_too hi' less (inl low) = inl (omega arith)
-    apart_too hi' less (inr high) = inr (omega arith)
-
-    by_test : (lo ≤ piece_end a hi → IsOutside (cut n (piece_end a hi) hi ++ more) b) → (test : Bool) → nat_lt a hi ≡ test → IsOutside ((if test then record { from = a; to = piece_end a hi } ∷ cut n (piece_end a hi) hi else []) ++ more) b
-    by_test more_of true e =
-        (apart_too (piece_end a hi) (end_below a hi) apart, more_of (beyond (piece_end a hi) (end_past a hi (less_is a hi e))))
-      where
-        beyond : (e : ℕ) → a < e → lo ≤ e
-        beyond e less = omega arith
-    by_test more_of false e = rest
-
-pub chunks_outside : (b : ℕ) (stretches : List Stretch) → IsOutside stretches b → IsOutside (pieces stretches) b
-chunks_outside b [] outside = tt
-chunks_outside b (stretch ∷ stretches) outside = cut_outside b (stretch.to - stretch.from) stretch.from stretch.from stretch.to (pieces stretches) (omega arith) outside.0 (chunks_outside b stretches outside.1)
+    all : (lo hi : ℕ) → lo < hi → lo + (hi - lo) ≤ hi
+    all lo hi less = omega arith
 
 -- ---- the last of some stretches
 

@@ -10,10 +10,10 @@ use Rattle.stub.specs.Place.{StretchesFit, stub_end}
 use Rattle.stub.specs.Law.{waiting}
 use Rattle.processor.specs.Console.{arrived, left}
 use Rattle.processor.specs.Events.{Event, Instruct, Arrive, Leave, happens, ran}
-use Rattle.stub.proofs.Points.{Point, Listened, Fetch, HighWaited, HighSend, LowWaited, LowSend, Facts, Base, Lasts}
+use Rattle.stub.proofs.Points.{Point, ListenedQ, Listened, Fetch, OutWaited, Turn, Turned, ReadHigh, Half1, Half2, Half3, Half4, HighBr, ReadLow, Flip, Bits, Up, Send, Facts, Base, Lasts}
 use Rattle.stub.proofs.Moves.{instruct}
 
-module _ (place : ℕ) (stretches : List Stretch) (before waited : List ℕ) (room : place + 130 < 57344) (small : length before ≤ 28672) (fit : StretchesFit place (stub_end place stretches) (top_of before) stretches) where
+module _ (place : ℕ) (stretches : List Stretch) (before waited : List ℕ) (room : place + 126 < 57344) (small : length before ≤ 28672) (fit : StretchesFit place (stub_end place stretches) (top_of before) stretches) where
   -- another console, with the same notes of what was fetched, and the same out of the machine's hands
   abbrev at_console : (m : Machine) (c : Console) → Base place stretches before waited m → c.fetched ≡ m.console.fetched → c.gone ++ waiting c ≡ m.console.gone ++ waiting m.console → Base place stretches before waited (record m { console = c })
   at_console m c base fetched out = record {
@@ -34,16 +34,27 @@ module _ (place : ℕ) (stretches : List Stretch) (before waited : List ℕ) (ro
   }
 
   pub arrive_facts : (p : Point) (f : Filling) (late more : List ℕ) (m : Machine) (c : ℕ) → Facts place stretches (top_of before) p f late more m → Facts place stretches (top_of before) p f late more (record m { console = arrived m.console c })
-  arrive_facts Listened f late more m c h = (h.0, h.1, h.2, λ _. refl)
+  arrive_facts ListenedQ f late more m c h = (h.0, λ _. refl)
+  arrive_facts Listened f late more m c h = (h.0, h.1, h.2, h.3, λ _. refl)
   arrive_facts Fetch f late more m c h = (h.0, h.1, h.2, refl)
   arrive_facts _ f late more m c h = h
 
   pub leave_facts : (p : Point) (f : Filling) (late more : List ℕ) (m : Machine) → Facts place stretches (top_of before) p f late more m →
       Facts place stretches (top_of before) p f late more (record m { console = record m.console { ready = true; gone = m.console.gone ++ m.console.leaving ∷ [] } })
-  leave_facts HighWaited f late more m h = (h.0, λ _. refl)
-  leave_facts HighSend f late more m h = (h.0, refl)
-  leave_facts LowWaited f late more m h = (h.0, λ _. refl)
-  leave_facts LowSend f late more m h = (h.0, refl)
+  leave_facts OutWaited f late more m h = (h.0, h.1, λ _. refl)
+  leave_facts Turn f late more m h = (h.0, h.1, refl)
+  leave_facts Turned f late more m h = (refl, h.1, h.2)
+  leave_facts ReadHigh f late more m h = (refl, h.1, h.2, h.3)
+  leave_facts Half1 f late more m h = (refl, h.1, h.2, h.3, h.4)
+  leave_facts Half2 f late more m h = (refl, h.1, h.2, h.3, h.4)
+  leave_facts Half3 f late more m h = (refl, h.1, h.2, h.3, h.4)
+  leave_facts Half4 f late more m h = (refl, h.1, h.2, h.3, h.4)
+  leave_facts HighBr f late more m h = (refl, h.1, h.2, h.3, h.4)
+  leave_facts ReadLow f late more m h = (refl, h.1, h.2, h.3)
+  leave_facts Flip f late more m h = (refl, h.1, h.2, h.3)
+  leave_facts Bits f late more m h = (refl, h.1, h.2, h.3)
+  leave_facts Up f late more m h = (refl, h.1, h.2, h.3)
+  leave_facts Send f late more m h = (refl, h.1, h.2, h.3)
   leave_facts _ f late more m h = h
 
   abbrev pub arrives : (m : Machine) (c : ℕ) → Lasts place stretches before waited m → Lasts place stretches before waited (record m { console = arrived m.console c })

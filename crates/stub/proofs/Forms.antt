@@ -69,30 +69,30 @@ pub next_r0 : (m : Machine) (v : ℕ) → m.state ≡ Runs → Has m.memory m.pc
     step m ≡ record m { r0 = v; r5 = behind m.r5; pc = behind m.pc; codes = told v false m.codes.c }
 next_r0 m v stretches has there = rw (stepped m 0o012500 stretches has, there.0, there.1) refl
 
+-- mov #n,sp
+pub mov_sp : (m : Machine) (n : ℕ) → m.state ≡ Runs → Has m.memory m.pc 0o012706 → Has m.memory (behind m.pc) n →
+    step m ≡ record m { sp = n; pc = behind (behind m.pc); codes = told n false m.codes.c }
+mov_sp m n stretches has next = rw (stepped m 0o012706 stretches has, next.0, next.1) refl
+
 -- mov r0,r2
 pub mov_r0_r2 : (m : Machine) → m.state ≡ Runs → Has m.memory m.pc 0o010002 →
     step m ≡ record m { r2 = m.r0; pc = behind m.pc; codes = told m.r0 false m.codes.c }
 mov_r0_r2 m stretches has = rw (stepped m 0o010002 stretches has) refl
 
--- mov r3,r4
-pub mov_r3_r4 : (m : Machine) → m.state ≡ Runs → Has m.memory m.pc 0o010304 →
-    step m ≡ record m { r4 = m.r3; pc = behind m.pc; codes = told m.r3 false m.codes.c }
-mov_r3_r4 m stretches has = rw (stepped m 0o010304 stretches has) refl
+-- mov r0,r1
+pub mov_r0_r1 : (m : Machine) → m.state ≡ Runs → Has m.memory m.pc 0o010001 →
+    step m ≡ record m { r1 = m.r0; pc = behind m.pc; codes = told m.r0 false m.codes.c }
+mov_r0_r1 m stretches has = rw (stepped m 0o010001 stretches has) refl
 
--- com r3
-pub com_r3 : (m : Machine) → m.state ≡ Runs → Has m.memory m.pc 0o005103 →
-    step m ≡ record m { r3 = 65535 - m.r3; pc = behind m.pc; codes = told (65535 - m.r3) false true }
-com_r3 m stretches has = rw (stepped m 0o005103 stretches has) refl
+-- com r4
+pub com_r4 : (m : Machine) → m.state ≡ Runs → Has m.memory m.pc 0o005104 →
+    step m ≡ record m { r4 = 65535 - m.r4; pc = behind m.pc; codes = told (65535 - m.r4) false true }
+com_r4 m stretches has = rw (stepped m 0o005104 stretches has) refl
 
--- bit #n,r0
-pub bit_r0 : (m : Machine) (n : ℕ) → m.state ≡ Runs → Has m.memory m.pc 0o032700 → Has m.memory (behind m.pc) n →
-    step m ≡ record m { pc = behind (behind m.pc); codes = told (bit_and m.r0 n) false m.codes.c }
-bit_r0 m n stretches has next = rw (stepped m 0o032700 stretches has, next.0, next.1) refl
-
--- bic #n,r3
-pub bic_r3 : (m : Machine) (n : ℕ) → m.state ≡ Runs → Has m.memory m.pc 0o042703 → Has m.memory (behind m.pc) n →
-    step m ≡ record m { r3 = bit_and m.r3 (65535 - n); pc = behind (behind m.pc); codes = told (bit_and m.r3 (65535 - n)) false m.codes.c }
-bic_r3 m n stretches has next = rw (stepped m 0o042703 stretches has, next.0, next.1) refl
+-- com sp
+pub com_sp : (m : Machine) → m.state ≡ Runs → Has m.memory m.pc 0o005106 →
+    step m ≡ record m { sp = 65535 - m.sp; pc = behind m.pc; codes = told (65535 - m.sp) false true }
+com_sp m stretches has = rw (stepped m 0o005106 stretches has) refl
 
 -- bic #n,r4
 pub bic_r4 : (m : Machine) (n : ℕ) → m.state ≡ Runs → Has m.memory m.pc 0o042704 → Has m.memory (behind m.pc) n →
@@ -112,15 +112,6 @@ pub add_r4 : (m : Machine) (n : ℕ) → m.state ≡ Runs → Has m.memory m.pc 
       codes = told ((m.r4 + n) % 65536) (not (differ (negative Word m.r4) (negative Word n)) && differ (negative Word m.r4) (negative Word ((m.r4 + n) % 65536))) (nat_le 65536 (m.r4 + n));
     }
 add_r4 m n stretches has next = rw (stepped m 0o062704 stretches has, next.0, next.1) refl
-
--- add #n,r3
-pub add_r3 : (m : Machine) (n : ℕ) → m.state ≡ Runs → Has m.memory m.pc 0o062703 → Has m.memory (behind m.pc) n →
-    step m ≡ record m {
-      r3 = (m.r3 + n) % 65536;
-      pc = behind (behind m.pc);
-      codes = told ((m.r3 + n) % 65536) (not (differ (negative Word m.r3) (negative Word n)) && differ (negative Word m.r3) (negative Word ((m.r3 + n) % 65536))) (nat_le 65536 (m.r3 + n));
-    }
-add_r3 m n stretches has next = rw (stepped m 0o062703 stretches has, next.0, next.1) refl
 
 -- cmp r4,#n
 pub cmp_r4 : (m : Machine) (n : ℕ) → m.state ≡ Runs → Has m.memory m.pc 0o020427 → Has m.memory (behind m.pc) n →
@@ -166,15 +157,20 @@ add_r4_r3 m stretches has = rw (stepped m 0o060403 stretches has) refl
 abbrev pub told_byte : ℕ → Bool → Codes
 told_byte value c = record { n = negative Byte value; z = value == 0; v = false; c = c }
 
--- movb (r2)+,r3
-pub next_r3 : (m : Machine) → m.state ≡ Runs → Has m.memory m.pc 0o112203 → nat_lt m.r2 (top_of m.memory) ≡ true →
-    step m ≡ record m { r3 = extended (byte_of m.memory m.r2); r2 = (m.r2 + 1) % 65536; pc = behind m.pc; codes = told_byte (byte_of m.memory m.r2) m.codes.c }
-next_r3 m stretches has low = rw (stepped m 0o112203 stretches has, low) refl
-
 -- movb r3,(r0)+
 pub stores : (m : Machine) → m.state ≡ Runs → Has m.memory m.pc 0o110320 → nat_lt m.r0 (top_of m.memory) ≡ true →
     step m ≡ record m { r0 = (m.r0 + 1) % 65536; pc = behind m.pc; memory = with_byte m.memory m.r0 (m.r3 % 256); codes = told_byte (m.r3 % 256) m.codes.c }
 stores m stretches has low = rw (stepped m 0o110320 stretches has, low) refl
+
+-- movb (r2),r4
+pub reads : (m : Machine) → m.state ≡ Runs → Has m.memory m.pc 0o111204 → nat_lt m.r2 (top_of m.memory) ≡ true →
+    step m ≡ record m { r4 = extended (byte_of m.memory m.r2); pc = behind m.pc; codes = told_byte (byte_of m.memory m.r2) m.codes.c }
+reads m stretches has low = rw (stepped m 0o111204 stretches has, low) refl
+
+-- movb (r2)+,r4
+pub reads_on : (m : Machine) → m.state ≡ Runs → Has m.memory m.pc 0o112204 → nat_lt m.r2 (top_of m.memory) ≡ true →
+    step m ≡ record m { r4 = extended (byte_of m.memory m.r2); r2 = (m.r2 + 1) % 65536; pc = behind m.pc; codes = told_byte (byte_of m.memory m.r2) m.codes.c }
+reads_on m stretches has low = rw (stepped m 0o112204 stretches has, low) refl
 
 -- ---- the console
 
@@ -207,15 +203,6 @@ pub gives_r4 : (m : Machine) → m.state ≡ Runs → Has m.memory m.pc 0o110437
     }
 gives_r4 m stretches has next short = rw (stepped m 0o110437 stretches has, next.0, next.1, no_word m.memory 0o177566 short (omega arith)) refl
 
--- movb r3,@#177566
-pub gives_r3 : (m : Machine) → m.state ≡ Runs → Has m.memory m.pc 0o110337 → Has m.memory (behind m.pc) 0o177566 → length m.memory ≤ 28672 →
-    step m ≡ record m {
-      pc = behind (behind m.pc);
-      codes = told_byte (m.r3 % 256) m.codes.c;
-      console = record m.console { ready = false; leaving = m.r3 % 256 % 256 };
-    }
-gives_r3 m stretches has next short = rw (stepped m 0o110337 stretches has, next.0, next.1, no_word m.memory 0o177566 short (omega arith)) refl
-
 -- ---- branches: so many words on where they go, else to the instruction behind
 
 abbrev pub at : Machine → ℕ → Machine
@@ -225,64 +212,71 @@ at m a = record m { pc = a }
 abbrev pub target : ℕ → ℕ → ℕ
 target a distance = (behind a + 2 * extended distance) % 65536
 
-pub br : (m : Machine) → m.state ≡ Runs → Has m.memory m.pc 0o000704 → step m ≡ at m (target m.pc 0o304)
-br m stretches has = rw (stepped m 0o000704 stretches has) refl
+pub br_byte : (m : Machine) → m.state ≡ Runs → Has m.memory m.pc 0o000750 → step m ≡ at m (target m.pc 0o350)
+br_byte m stretches has = rw (stepped m 0o000750 stretches has) refl
 
--- beq stop
-pub beq_stop_goes : (m : Machine) → m.state ≡ Runs → Has m.memory m.pc 0o001472 → m.codes.z ≡ true → step m ≡ at m (target m.pc 0o072)
-beq_stop_goes m stretches has z = rw (stepped m 0o001472 stretches has, z) refl
+pub br_out : (m : Machine) → m.state ≡ Runs → Has m.memory m.pc 0o000401 → step m ≡ at m (target m.pc 0o1)
+br_out m stretches has = rw (stepped m 0o000401 stretches has) refl
 
-pub beq_stop_stays : (m : Machine) → m.state ≡ Runs → Has m.memory m.pc 0o001472 → m.codes.z ≡ false → step m ≡ at m (behind m.pc)
-beq_stop_stays m stretches has z = rw (stepped m 0o001472 stretches has, z) refl
+pub br_loop : (m : Machine) → m.state ≡ Runs → Has m.memory m.pc 0o000721 → step m ≡ at m (target m.pc 0o321)
+br_loop m stretches has = rw (stepped m 0o000721 stretches has) refl
 
--- beq back
-pub beq_back_goes : (m : Machine) → m.state ≡ Runs → Has m.memory m.pc 0o001403 → m.codes.z ≡ true → step m ≡ at m (target m.pc 0o003)
-beq_back_goes m stretches has z = rw (stepped m 0o001403 stretches has, z) refl
+pub br_next : (m : Machine) → m.state ≡ Runs → Has m.memory m.pc 0o000710 → step m ≡ at m (target m.pc 0o310)
+br_next m stretches has = rw (stepped m 0o000710 stretches has) refl
 
-pub beq_back_stays : (m : Machine) → m.state ≡ Runs → Has m.memory m.pc 0o001403 → m.codes.z ≡ false → step m ≡ at m (behind m.pc)
-beq_back_stays m stretches has z = rw (stepped m 0o001403 stretches has, z) refl
+pub beq_stop_goes : (m : Machine) → m.state ≡ Runs → Has m.memory m.pc 0o001466 → m.codes.z ≡ true → step m ≡ at m (target m.pc 0o66)
+beq_stop_goes m stretches has f = rw (stepped m 0o001466 stretches has, f) refl
 
--- bne byte, behind bit
-pub bne_bit_goes : (m : Machine) → m.state ≡ Runs → Has m.memory m.pc 0o001346 → m.codes.z ≡ false → step m ≡ at m (target m.pc 0o346)
-bne_bit_goes m stretches has z = rw (stepped m 0o001346 stretches has, z) refl
+pub beq_stop_stays : (m : Machine) → m.state ≡ Runs → Has m.memory m.pc 0o001466 → m.codes.z ≡ false → step m ≡ at m (behind m.pc)
+beq_stop_stays m stretches has f = rw (stepped m 0o001466 stretches has, f) refl
 
-pub bne_bit_stays : (m : Machine) → m.state ≡ Runs → Has m.memory m.pc 0o001346 → m.codes.z ≡ true → step m ≡ at m (behind m.pc)
-bne_bit_stays m stretches has z = rw (stepped m 0o001346 stretches has, z) refl
+pub beq_idle_goes : (m : Machine) → m.state ≡ Runs → Has m.memory m.pc 0o001427 → m.codes.z ≡ true → step m ≡ at m (target m.pc 0o27)
+beq_idle_goes m stretches has f = rw (stepped m 0o001427 stretches has, f) refl
 
--- bne back
-pub bne_back_goes : (m : Machine) → m.state ≡ Runs → Has m.memory m.pc 0o001345 → m.codes.z ≡ false → step m ≡ at m (target m.pc 0o345)
-bne_back_goes m stretches has z = rw (stepped m 0o001345 stretches has, z) refl
+pub beq_idle_stays : (m : Machine) → m.state ≡ Runs → Has m.memory m.pc 0o001427 → m.codes.z ≡ false → step m ≡ at m (behind m.pc)
+beq_idle_stays m stretches has f = rw (stepped m 0o001427 stretches has, f) refl
 
-pub bne_back_stays : (m : Machine) → m.state ≡ Runs → Has m.memory m.pc 0o001345 → m.codes.z ≡ true → step m ≡ at m (behind m.pc)
-bne_back_stays m stretches has z = rw (stepped m 0o001345 stretches has, z) refl
+pub beq_empty_goes : (m : Machine) → m.state ≡ Runs → Has m.memory m.pc 0o001424 → m.codes.z ≡ true → step m ≡ at m (target m.pc 0o24)
+beq_empty_goes m stretches has f = rw (stepped m 0o001424 stretches has, f) refl
 
--- bne byte, behind a chunk
-pub bne_byte_goes : (m : Machine) → m.state ≡ Runs → Has m.memory m.pc 0o001311 → m.codes.z ≡ false → step m ≡ at m (target m.pc 0o311)
-bne_byte_goes m stretches has z = rw (stepped m 0o001311 stretches has, z) refl
+pub beq_empty_stays : (m : Machine) → m.state ≡ Runs → Has m.memory m.pc 0o001424 → m.codes.z ≡ false → step m ≡ at m (behind m.pc)
+beq_empty_stays m stretches has f = rw (stepped m 0o001424 stretches has, f) refl
 
-pub bne_byte_stays : (m : Machine) → m.state ≡ Runs → Has m.memory m.pc 0o001311 → m.codes.z ≡ true → step m ≡ at m (behind m.pc)
-bne_byte_stays m stretches has z = rw (stepped m 0o001311 stretches has, z) refl
+pub bne_loop_goes : (m : Machine) → m.state ≡ Runs → Has m.memory m.pc 0o001317 → m.codes.z ≡ false → step m ≡ at m (target m.pc 0o317)
+bne_loop_goes m stretches has f = rw (stepped m 0o001317 stretches has, f) refl
 
--- bpl get, bpl high, bpl low: to the instruction before
-pub bpl_self_goes : (m : Machine) → m.state ≡ Runs → Has m.memory m.pc 0o100375 → m.codes.n ≡ false → step m ≡ at m (target m.pc 0o375)
-bpl_self_goes m stretches has n = rw (stepped m 0o100375 stretches has, n) refl
+pub bne_loop_stays : (m : Machine) → m.state ≡ Runs → Has m.memory m.pc 0o001317 → m.codes.z ≡ true → step m ≡ at m (behind m.pc)
+bne_loop_stays m stretches has f = rw (stepped m 0o001317 stretches has, f) refl
 
-pub bpl_self_stays : (m : Machine) → m.state ≡ Runs → Has m.memory m.pc 0o100375 → m.codes.n ≡ true → step m ≡ at m (behind m.pc)
-bpl_self_stays m stretches has n = rw (stepped m 0o100375 stretches has, n) refl
+pub bpl_idle_goes : (m : Machine) → m.state ≡ Runs → Has m.memory m.pc 0o100024 → m.codes.n ≡ false → step m ≡ at m (target m.pc 0o24)
+bpl_idle_goes m stretches has f = rw (stepped m 0o100024 stretches has, f) refl
 
--- bpl get, behind a nibble
-pub bpl_get_goes : (m : Machine) → m.state ≡ Runs → Has m.memory m.pc 0o100356 → m.codes.n ≡ false → step m ≡ at m (target m.pc 0o356)
-bpl_get_goes m stretches has n = rw (stepped m 0o100356 stretches has, n) refl
+pub bpl_idle_stays : (m : Machine) → m.state ≡ Runs → Has m.memory m.pc 0o100024 → m.codes.n ≡ true → step m ≡ at m (behind m.pc)
+bpl_idle_stays m stretches has f = rw (stepped m 0o100024 stretches has, f) refl
 
-pub bpl_get_stays : (m : Machine) → m.state ≡ Runs → Has m.memory m.pc 0o100356 → m.codes.n ≡ true → step m ≡ at m (behind m.pc)
-bpl_get_stays m stretches has n = rw (stepped m 0o100356 stretches has, n) refl
+pub bpl_more_goes : (m : Machine) → m.state ≡ Runs → Has m.memory m.pc 0o100354 → m.codes.n ≡ false → step m ≡ at m (target m.pc 0o354)
+bpl_more_goes m stretches has f = rw (stepped m 0o100354 stretches has, f) refl
 
--- bhi stop
-pub bhi_stays_below : (m : Machine) → m.state ≡ Runs → Has m.memory m.pc 0o101052 → m.codes.c ≡ true → step m ≡ at m (behind m.pc)
-bhi_stays_below m stretches has c = rw (stepped m 0o101052 stretches has, c) refl
+pub bpl_more_stays : (m : Machine) → m.state ≡ Runs → Has m.memory m.pc 0o100354 → m.codes.n ≡ true → step m ≡ at m (behind m.pc)
+bpl_more_stays m stretches has f = rw (stepped m 0o100354 stretches has, f) refl
 
-pub bhi_stays_at : (m : Machine) → m.state ≡ Runs → Has m.memory m.pc 0o101052 → m.codes.c ≡ false → m.codes.z ≡ true → step m ≡ at m (behind m.pc)
-bhi_stays_at m stretches has c z = rw (stepped m 0o101052 stretches has, c, z) refl
+pub bpl_loop_goes : (m : Machine) → m.state ≡ Runs → Has m.memory m.pc 0o100342 → m.codes.n ≡ false → step m ≡ at m (target m.pc 0o342)
+bpl_loop_goes m stretches has f = rw (stepped m 0o100342 stretches has, f) refl
 
-pub bhi_goes : (m : Machine) → m.state ≡ Runs → Has m.memory m.pc 0o101052 → m.codes.c ≡ false → m.codes.z ≡ false → step m ≡ at m (target m.pc 0o052)
-bhi_goes m stretches has c z = rw (stepped m 0o101052 stretches has, c, z) refl
+pub bpl_loop_stays : (m : Machine) → m.state ≡ Runs → Has m.memory m.pc 0o100342 → m.codes.n ≡ true → step m ≡ at m (behind m.pc)
+bpl_loop_stays m stretches has f = rw (stepped m 0o100342 stretches has, f) refl
+
+pub bpl_low_goes : (m : Machine) → m.state ≡ Runs → Has m.memory m.pc 0o100006 → m.codes.n ≡ false → step m ≡ at m (target m.pc 0o6)
+bpl_low_goes m stretches has f = rw (stepped m 0o100006 stretches has, f) refl
+
+pub bpl_low_stays : (m : Machine) → m.state ≡ Runs → Has m.memory m.pc 0o100006 → m.codes.n ≡ true → step m ≡ at m (behind m.pc)
+bpl_low_stays m stretches has f = rw (stepped m 0o100006 stretches has, f) refl
+
+pub bhi_stays_below : (m : Machine) → m.state ≡ Runs → Has m.memory m.pc 0o101010 → m.codes.c ≡ true → step m ≡ at m (behind m.pc)
+bhi_stays_below m stretches has c = rw (stepped m 0o101010 stretches has, c) refl
+
+pub bhi_stays_at : (m : Machine) → m.state ≡ Runs → Has m.memory m.pc 0o101010 → m.codes.c ≡ false → m.codes.z ≡ true → step m ≡ at m (behind m.pc)
+bhi_stays_at m stretches has c z = rw (stepped m 0o101010 stretches has, c, z) refl
+
+pub bhi_goes : (m : Machine) → m.state ≡ Runs → Has m.memory m.pc 0o101010 → m.codes.c ≡ false → m.codes.z ≡ false → step m ≡ at m (target m.pc 0o10)
+bhi_goes m stretches has c z = rw (stepped m 0o101010 stretches has, c, z) refl

@@ -79,7 +79,7 @@ byte_other memory a v b wide small apart = elim (same_or (b / 2) (a / 2)) [
 
 -- ---- the stub's words
 
-pub length_code : (place : ℕ) → length (code place) ≡ 65
+pub length_code : (place : ℕ) → length (code place) ≡ 63
 length_code place = refl
 
 -- the table behind some of its stretches

@@ -1,5 +1,5 @@
 -- The arithmetic of the stub.
-use Rattle.std.proofs.Common.{◌≡◌, ◌≢◌, ℕ, ◌+◌, ◌-◌, ◌*◌, ◌/◌, ◌%◌, ◌<◌, ◌≤◌, Bool, true, false, if◌then◌else◌, Option, Some, None, refl, arith, sym, ◌∙◌}
+use Rattle.std.proofs.Common.{◌≡◌, ℕ, ◌+◌, ◌-◌, ◌*◌, ◌/◌, ◌%◌, ◌<◌, ◌≤◌, Bool, true, false, if◌then◌else◌, Option, Some, None, refl, arith, ◌∙◌}
 use Rattle.std.specs.Prelude.{nat_lt, nat_le, ◌==◌, bit_and}
 use Rattle.std.proofs.lemmas.Bool.Decides.{nat_tests}
 use Rattle.std.proofs.lemmas.Nat.{and_mask}
@@ -32,14 +32,15 @@ low_turned v small = grind (arith, nat_tests)
 pub low_bits : (v : ℕ) → v < 256 → bit_and (65535 - extended v) 15 ≡ 15 - v % 16
 low_bits v small = and_mask (65535 - extended v) 4 ∙ low_turned v small
 
-high_plain : (v : ℕ) → v < 128 → halved (halved (halved (halved (65535 - v)))) % 16 ≡ 15 - v / 16
-high_plain v small = omega arith
+-- the high nibble's complement, where the byte is turned behind it
+high_plain_out : (v : ℕ) → v < 128 → (65535 - halved (halved (halved (halved v)))) % 16 ≡ 15 - v / 16
+high_plain_out v small = omega arith
 
-high_minus : (v : ℕ) → 128 ≤ v → v < 256 → halved (halved (halved (halved (65535 - (v + 65280))))) % 16 ≡ 15 - v / 16
-high_minus v big small = omega arith
+high_minus_out : (v : ℕ) → 128 ≤ v → v < 256 → (65535 - halved (halved (halved (halved (v + 65280))))) % 16 ≡ 15 - v / 16
+high_minus_out v big small = omega arith
 
-high_of : (v : ℕ) → v < 256 → halved (halved (halved (halved (65535 - extended v)))) % 16 ≡ 15 - v / 16
-high_of v small = on_test (λ b. halved (halved (halved (halved (65535 - (if b then v + 65280 else v))))) % 16 ≡ 15 - v / 16) (nat_le 128 v) (λ e. high_minus v (big v e) small) (λ e. high_plain v (low v e))
+high_out_of : (v : ℕ) → v < 256 → (65535 - halved (halved (halved (halved (extended v))))) % 16 ≡ 15 - v / 16
+high_out_of v small = on_test (λ b. (65535 - halved (halved (halved (halved (if b then v + 65280 else v))))) % 16 ≡ 15 - v / 16) (nat_le 128 v) (λ e. high_minus_out v (big v e) small) (λ e. high_plain_out v (low v e))
   where
     big : (v : ℕ) → nat_le 128 v ≡ true → 128 ≤ v
     big v e = grind (arith, nat_tests)
@@ -47,24 +48,8 @@ high_of v small = on_test (λ b. halved (halved (halved (halved (65535 - (if b t
     low : (v : ℕ) → nat_le 128 v ≡ false → v < 128
     low v e = grind (arith, nat_tests)
 
-pub high_bits : (v : ℕ) → v < 256 → bit_and (halved (halved (halved (halved (65535 - extended v))))) 15 ≡ 15 - v / 16
-high_bits v small = and_mask (halved (halved (halved (halved (65535 - extended v))))) 4 ∙ high_of v small
-
--- a multiple of 16
-sixteenth : (a : ℕ) → bit_and a 15 ≡ a % 16
-sixteenth a = and_mask a 4
-
-pub is_multiple : (a : ℕ) → a % 16 ≡ 0 → (bit_and a 15 == 0) ≡ true
-is_multiple a is = zero_so (bit_and a 15) (sixteenth a ∙ is)
-  where
-    zero_so : (n : ℕ) → n ≡ 0 → (n == 0) ≡ true
-    zero_so n is = grind (arith, nat_tests)
-
-pub no_multiple : (a : ℕ) → a % 16 ≢ 0 → (bit_and a 15 == 0) ≡ false
-no_multiple a isnt = some_so (bit_and a 15) (λ e. isnt (sym (sixteenth a) ∙ e))
-  where
-    some_so : (n : ℕ) → n ≢ 0 → (n == 0) ≡ false
-    some_so n isnt = grind (arith, nat_tests)
+pub high_out : (v : ℕ) → v < 256 → bit_and (65535 - halved (halved (halved (halved (extended v))))) 15 ≡ 15 - v / 16
+high_out v small = and_mask (65535 - halved (halved (halved (halved (extended v))))) 4 ∙ high_out_of v small
 
 -- ---- a character is judged
 

@@ -10,30 +10,30 @@ use Rattle.stub.specs.Place.{StretchesFit, stub_end}
 use Rattle.stub.specs.Law.{waiting, filled}
 use Rattle.processor.specs.Events.{ran}
 use Rattle.stub.specs.Pace.{Acts, ActsWithin, IsAtRest, RestsWithin, most, StubsKeepUp, StubsRest}
-use Rattle.stub.proofs.Points.{Point, Listen, Listened, Listens, Advances, Facts, HighWaited, LowWaited, dist, Going, Lasts, Turns, Nearer}
+use Rattle.stub.proofs.Points.{Point, AskQ, AskedQ, ListenQ, ListenedQ, IdleQ, IdleTestedQ, EmptyQ, EmptyTestedQ, Listened, OutWaited, Listens, Advances, Facts, dist, Going, Lasts, Turns, Nearer}
 use Rattle.stub.proofs.Moves.{instruct}
 use Rattle.stub.proofs.Events.{lasts_ran}
 use Rattle.stub.proofs.Whole.{roomy, opening}
 
 pub some : (p : Point) (n : Bool) → 1 ≤ dist p n
+some ListenedQ true = lit≤ tt
+some ListenedQ false = lit≤ tt
 some Listened true = lit≤ tt
 some Listened false = lit≤ tt
-some HighWaited true = lit≤ tt
-some HighWaited false = lit≤ tt
-some LowWaited true = lit≤ tt
-some LowWaited false = lit≤ tt
+some OutWaited true = lit≤ tt
+some OutWaited false = lit≤ tt
 some _ n = lit≤ tt
 
-pub few : (p : Point) (n : Bool) → dist p n ≤ 27
+pub few : (p : Point) (n : Bool) → dist p n ≤ 33
+few ListenedQ true = lit≤ tt
+few ListenedQ false = lit≤ tt
 few Listened true = lit≤ tt
 few Listened false = lit≤ tt
-few HighWaited true = lit≤ tt
-few HighWaited false = lit≤ tt
-few LowWaited true = lit≤ tt
-few LowWaited false = lit≤ tt
+few OutWaited true = lit≤ tt
+few OutWaited false = lit≤ tt
 few _ n = lit≤ tt
 
-module _ (place : ℕ) (stretches : List Stretch) (before waited : List ℕ) (room : place + 130 < 57344) (small : length before ≤ 28672) (fit : StretchesFit place (stub_end place stretches) (top_of before) stretches) where
+module _ (place : ℕ) (stretches : List Stretch) (before waited : List ℕ) (room : place + 126 < 57344) (small : length before ≤ 28672) (fit : StretchesFit place (stub_end place stretches) (top_of before) stretches) where
   going : (m : Machine) → Lasts place stretches before waited m → m.state ≡ Runs → Going place stretches before waited m
   going m (inl k) running = k
   going m (inr k) running = absurd (apart m.state k.halted running)
@@ -72,17 +72,29 @@ keep_up place stretches m events is running done ready =
 -- ---- rest
 
 pub listens_or : (p : Point) → Listens p ⊎ (Listens p → ⊥)
-listens_or Listen = inl tt
-listens_or Listened = inl tt
+listens_or AskQ = inl tt
+listens_or AskedQ = inl tt
+listens_or ListenQ = inl tt
+listens_or ListenedQ = inl tt
+listens_or IdleQ = inl tt
+listens_or IdleTestedQ = inl tt
+listens_or EmptyQ = inl tt
+listens_or EmptyTestedQ = inl tt
 listens_or _ = inr (λ l. l)
 
 -- where it waits for a character nothing is late, and nothing is left to send
 pub quiet_of : (place : ℕ) (stretches : List Stretch) (top : ℕ) (p : Point) (f : Filling) (late more : List ℕ) (m : Machine) → Listens p → Facts place stretches top p f late more m → (late ≡ []) × (more ≡ [])
-quiet_of place stretches top Listen f late more m l h = h.0
-quiet_of place stretches top Listened f late more m l h = h.0
+quiet_of place stretches top AskQ f late more m l h = h.quiet
+quiet_of place stretches top AskedQ f late more m l h = h.0.quiet
+quiet_of place stretches top ListenQ f late more m l h = h.quiet
+quiet_of place stretches top ListenedQ f late more m l h = h.0.quiet
+quiet_of place stretches top IdleQ f late more m l h = h.quiet
+quiet_of place stretches top IdleTestedQ f late more m l h = h.0.quiet
+quiet_of place stretches top EmptyQ f late more m l h = h.quiet
+quiet_of place stretches top EmptyTestedQ f late more m l h = h.0.quiet
 quiet_of place stretches top _ f late more m l h = absurd l
 
-module _ (place : ℕ) (stretches : List Stretch) (first : Machine) (room : place + 130 < 57344) (small : length first.memory ≤ 28672) (fit : StretchesFit place (stub_end place stretches) (top_of first.memory) stretches) where
+module _ (place : ℕ) (stretches : List Stretch) (first : Machine) (room : place + 126 < 57344) (small : length first.memory ≤ 28672) (fit : StretchesFit place (stub_end place stretches) (top_of first.memory) stretches) where
   at_rest : (m : Machine) (k : Going place stretches first.memory (waiting first.console) m) → Listens k.point → m.console.ready ≡ true → IsAtRest stretches first m
   at_rest m k l ready =
       let base = k.base in

@@ -12,14 +12,14 @@ use Rattle.processor.specs.Console.{arrived, left}
 use Rattle.stub.specs.Place.{StretchesFit, stub_end}
 use Rattle.stub.specs.Law.{waiting, seven}
 use Rattle.stub.specs.Seen.{Bench, Happening, Moves, Idle, Silent, MovesTimes, Instructs, Arrives, Goes, LosesDown, LosesUp, Sends, Hears, Happens, Ran, Link, Matches, Follows, held, Shows, opened, StubsAreSeenSo}
-use Rattle.stub.proofs.Points.{Base, Lasts, base_of, Stays, Took, Turns, Point, dist, Listens, Advances, Nearer, Waits, Facts, Listen, Listened, Going}
+use Rattle.stub.proofs.Points.{Base, Lasts, base_of, Stays, Took, Turns, Point, dist, Listens, Advances, Nearer, Waits, Facts, AskQ, AskedQ, ListenQ, ListenedQ, IdleQ, IdleTestedQ, EmptyQ, EmptyTestedQ, Going}
 use Rattle.stub.proofs.Moves.{instruct}
 use Rattle.stub.proofs.Quick.{some, few, listens_or, quiet_of}
 use Rattle.stub.specs.Pace.{most}
 use Rattle.stub.proofs.Events.{arrives, leaves}
 use Rattle.stub.proofs.Whole.{roomy, opening}
 
-module _ (place : ℕ) (stretches : List Stretch) (before waited : List ℕ) (room : place + 130 < 57344) (small : length before ≤ 28672) (fit : StretchesFit place (stub_end place stretches) (top_of before) stretches) where
+module _ (place : ℕ) (stretches : List Stretch) (before waited : List ℕ) (room : place + 126 < 57344) (small : length before ≤ 28672) (fit : StretchesFit place (stub_end place stretches) (top_of before) stretches) where
   -- a link that is what a bench looks like, by what is known of the machine
   pub record Seen (bench : Bench) (link : Link) : Type 0 where
     pub lasts : Lasts place stretches before waited bench.machine
@@ -52,7 +52,7 @@ module _ (place : ℕ) (stretches : List Stretch) (before waited : List ℕ) (ro
   turned x y link base lasts same_down same_up same_lost stub down up lost (inr way) = record {
     link = record { stub = taken link.stub (seven way.character); down = held x.machine.console ++ x.down; up = link.up ++ way.text; lost = link.lost };
     matches = inr (inl record {
-      chunk = way.chunk;
+      address = way.address;
       later = way.rest;
       under = ap (λ (f : Filling). f.left) stub ∙ way.under;
       character = way.character;
@@ -197,7 +197,7 @@ module _ (place : ℕ) (stretches : List Stretch) (before waited : List ℕ) (ro
   led x y link base new stub down up lost (inr way) = record {
     next = record { stub = taken link.stub (seven way.character); down = held x.machine.console ++ x.down; up = link.up ++ way.text; lost = link.lost };
     moves = inr (inl record {
-      chunk = way.chunk;
+      address = way.address;
       later = way.rest;
       under = ap (λ (f : Filling). f.left) stub ∙ way.under;
       character = way.character;
@@ -300,10 +300,16 @@ module _ (place : ℕ) (stretches : List Stretch) (before waited : List ℕ) (ro
           }
       on_lasts (inr s) way ahead listening go = absurd (halted_not (step x.machine).state running s.halted)
 
-  -- where it waits for a character it has a chunk to fill
-  under_of : (p : Point) (f : Filling) (late more : List ℕ) (m : Machine) → Listens p → Facts place stretches (top_of before) p f late more m → (chunk : Stretch) × (rest : List Stretch) × (f.left ≡ chunk ∷ rest)
-  under_of Listen f late more m l h = (h.1.chunk, h.1.rest, h.1.left)
-  under_of Listened f late more m l h = (h.1.chunk, h.1.rest, h.1.left)
+  -- where it waits for a character it has a byte to fill
+  under_of : (p : Point) (f : Filling) (late more : List ℕ) (m : Machine) → Listens p → Facts place stretches (top_of before) p f late more m → (address : ℕ) × (rest : List ℕ) × (f.left ≡ address ∷ rest)
+  under_of AskQ f late more m l h = (m.r0, h.side.0.rest, h.side.0.left)
+  under_of AskedQ f late more m l h = (m.r0, h.0.side.0.rest, h.0.side.0.left)
+  under_of ListenQ f late more m l h = (m.r0, h.side.0.rest, h.side.0.left)
+  under_of ListenedQ f late more m l h = (m.r0, h.0.side.0.rest, h.0.side.0.left)
+  under_of IdleQ f late more m l h = (m.r0, h.side.0.rest, h.side.0.left)
+  under_of IdleTestedQ f late more m l h = (m.r0, h.0.side.0.rest, h.0.side.0.left)
+  under_of EmptyQ f late more m l h = (m.r0, h.side.0.rest, h.side.0.left)
+  under_of EmptyTestedQ f late more m l h = (m.r0, h.0.side.0.rest, h.0.side.0.left)
   under_of _ f late more m l h = absurd l
 
   silence : (x : Bench) (link : Link) (now : Machine) (lasts : Lasts place stretches before waited x.machine) → link.stub ≡ (base_of place stretches before waited lasts).stub → link.down ≡ ((base_of place stretches before waited lasts).late ++ held x.machine.console) ++ x.down →
@@ -322,7 +328,7 @@ module _ (place : ℕ) (stretches : List Stretch) (before waited : List ℕ) (ro
           moves = q.moves;
           down = q.down ∙ empty_down k.base.late now.console.done now.console.came x.down quiet.0 q.done no_down;
           up = q.up ∙ empty_up x.up now.console.ready now.console.leaving k.base.more no_up q.ready quiet.1;
-          chunk = under.0;
+          address = under.0;
           later = under.1;
           under = ap (λ (f : Filling). f.left) q.stub ∙ under.2;
         };

@@ -7,5 +7,5 @@ pub table_size : (stretches : List Stretch) → length (table stretches) ≡ 2 *
 table_size [] = refl
 table_size (stretch ∷ stretches) = let rest = table_size stretches in omega arith
 
-pub stub_size : (count place : ℕ) (stretches : List Stretch) → length stretches ≡ count → length (stub_words place stretches) ≡ 65 + 2 * count + 1
+pub stub_size : (count place : ℕ) (stretches : List Stretch) → length stretches ≡ count → length (stub_words place stretches) ≡ 63 + 2 * count + 1
 stub_size count place stretches are = let rest = table_size stretches in omega (arith, length-append (code place) (table stretches))

@@ -6,21 +6,20 @@ use Rattle.odt_machine.specs.Machine.{is_word}
 use Rattle.processor.specs.Machine.{Machine, State, Runs, Halted}
 use Rattle.exchange_core.specs.declared.stretch.Stretch.{Stretch}
 use Rattle.stub.specs.Words.{code, code_bytes, table}
-use Rattle.exchange_core.specs.Stretch.{pieces}
 use Rattle.stub.specs.Filling.{Filling, begun}
 use Rattle.stub.specs.Place.{stub_end}
 use Rattle.stub.specs.Law.{IsStarted, Does, StubsDoAsTold, waiting}
 use Rattle.processor.specs.Events.{ran}
-use Rattle.stub.proofs.Cuts.{chunks_fit}
+use Rattle.stub.proofs.Cuts.{places_fit}
 use Rattle.stub.proofs.Points.{Point, Start, offset, Masked, Base, Lasts}
 use Rattle.stub.proofs.Events.{lasts_ran}
 use Rattle.stub.proofs.Outside.{outside_stays}
 
 -- the code ends below the I/O page, since the table behind it is in memory
-pub roomy : (place : ℕ) (stretches : List Stretch) (m : Machine) → IsStarted place stretches m → place + 130 < 57344
-roomy place stretches m is = low m.memory (place + 130) (is.stands.words 65 (there stretches)).0 is.size
+pub roomy : (place : ℕ) (stretches : List Stretch) (m : Machine) → IsStarted place stretches m → place + 126 < 57344
+roomy place stretches m is = low m.memory (place + 126) (is.stands.words 63 (there stretches)).0 is.size
   where
-    there : (stretches : List Stretch) → 65 < length (code place ++ table stretches)
+    there : (stretches : List Stretch) → 63 < length (code place ++ table stretches)
     there [] = omega arith
     there (stretch ∷ stretches) = omega arith
 
@@ -40,7 +39,7 @@ opening place stretches m is = inl record {
     late = [];
     few = omega arith;
     more = [];
-    stub = begun m.memory (pieces stretches);
+    stub = begun m.memory stretches;
     stub_is = refl;
     fetched = is.fetched;
     sent = append-nil (waiting m.console) ∙ sym (append-nil (m.console.gone ++ waiting m.console) ∙ ap (λ gone. gone ++ waiting m.console) is.gone);
@@ -48,14 +47,14 @@ opening place stretches m is = inl record {
     words = is.stands.words;
     size = refl;
     wide = is.wide;
-    fit = chunks_fit place (stub_end place stretches) (top_of m.memory) stretches is.stands.fit;
+    fit = places_fit place (stub_end place stretches) (top_of m.memory) stretches is.stands.fit;
     high = tt;
   };
   running = is.running;
   point = Start;
   pc = from_place place m.pc is.pc;
   masked = tt;
-  facts = ((refl, refl), record { high = refl; next = refl }, record { later = stretches; left = refl; row = record { front = []; all = refl; at = at_table (place + code_bytes) } });
+  facts = ((refl, refl), refl, record { later = stretches; left = refl; row = record { front = []; all = refl; at = at_table (place + code_bytes) } });
 }
 
 -- what lasts is what was to be shown

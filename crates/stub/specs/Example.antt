@@ -1,4 +1,4 @@
--- One run of the stub, worked out by hand: it lies at 000000, and its one stretch is the bytes at 000256, 000257 and 000260, in two chunks.
+-- One run of the stub, worked out by hand: it lies at 000000, and its one stretch is the bytes at 000236, 000237 and 000240.
 use Rattle.std.specs.Prelude.{◌≡◌, ℕ, zero, suc, true, false, List, [], ◌∷◌, ◌++◌, replicate, Some}
 use Rattle.tape_image.specs.Memory.{byte_of}
 use Rattle.processor.specs.Machine.{Machine, Runs, Halted}
@@ -7,9 +7,9 @@ use Rattle.exchange_core.specs.declared.stretch.Stretch.{Stretch}
 use Rattle.stub.specs.Words.{stub_words}
 use Rattle.stub.specs.Decoder.{stub_at}
 
--- the bytes at 000256, 000257 and 000260
+-- the bytes at 000236, 000237 and 000240
 abbrev pub three_bytes : List Stretch
-three_bytes = record { from = 0o256; to = 0o261 } ∷ []
+three_bytes = record { from = 0o236; to = 0o241 } ∷ []
 
 -- the machine at the stub's start; all bits of what lies behind the stub are set
 abbrev pub started : Machine
@@ -39,9 +39,10 @@ abbrev pub heard : ℕ → List Event
 heard zero = []
 heard (suc n) = Leave ∷ replicate 30 Instruct ++ heard n
 
--- `e` (with bit 7 set), `j`, `o` and a grave accent for the bytes 132 and 360 of the first chunk, and `c` and a grave accent for the byte 060 of the second
+-- `e` (with bit 7 set), `j`, `o` and a grave accent for the bytes 132 and 360, and `c` and a grave accent for the byte 060; the `o` comes while the stub
+-- waits for the transmitter
 abbrev pub events : List Event
-events = replicate 11 Instruct ++ typed (0o345 ∷ 0o152 ∷ 0o157 ∷ 0o140 ∷ []) ++ heard 4 ++ typed (0o143 ∷ 0o140 ∷ []) ++ heard 2
+events = replicate 11 Instruct ++ typed (0o345 ∷ 0o152 ∷ 0o157 ∷ []) ++ heard 1 ++ typed (0o140 ∷ []) ++ heard 3 ++ typed (0o143 ∷ 0o140 ∷ []) ++ heard 2
 
 abbrev pub ended : Machine
 ended = ran started events
@@ -51,6 +52,6 @@ ended = ran started events
 abbrev pub AStubRuns : Type 0
 AStubRuns =
     (stub_at started.memory 0 ≡ Some three_bytes)
-    × (byte_of ended.memory 0o256 ≡ 0o132) × (byte_of ended.memory 0o257 ≡ 0o360) × (byte_of ended.memory 0o260 ≡ 0o060)
-    × (byte_of ended.memory 0o255 ≡ 0o377) × (byte_of ended.memory 0o261 ≡ 0o377)
-    × (ended.console.gone ≡ 0o152 ∷ 0o145 ∷ 0o140 ∷ 0o157 ∷ 0o154 ∷ 0o157 ∷ []) × (ended.state ≡ Halted) × (ended.pc ≡ 0o202)
+    × (byte_of ended.memory 0o236 ≡ 0o132) × (byte_of ended.memory 0o237 ≡ 0o360) × (byte_of ended.memory 0o240 ≡ 0o060)
+    × (byte_of ended.memory 0o235 ≡ 0o377) × (byte_of ended.memory 0o241 ≡ 0o377)
+    × (ended.console.gone ≡ 0o152 ∷ 0o145 ∷ 0o140 ∷ 0o157 ∷ 0o154 ∷ 0o157 ∷ []) × (ended.state ≡ Halted) × (ended.pc ≡ 0o176)

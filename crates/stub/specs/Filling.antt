@@ -1,57 +1,45 @@
--- The stub as the host knows it: it takes characters, and answers a whole chunk at once.
-use Rattle.std.specs.Prelude.{ℕ, zero, suc, ◌+◌, ◌-◌, ◌*◌, ◌/◌, ◌%◌, ◌==◌, if◌then◌else◌, List, [], ◌∷◌, ◌++◌, Option, Some, None}
+-- The stub as the host knows it: it takes characters, and answers each byte as memory holds it then.
+use Rattle.std.specs.Prelude.{ℕ, ◌+◌, ◌-◌, ◌*◌, ◌/◌, ◌%◌, if◌then◌else◌, List, [], ◌∷◌, ◌++◌, Option, Some, None}
 use Rattle.tape_image.specs.Memory.{byte_of}
 use Rattle.processor.specs.Access.{with_byte}
 use Rattle.exchange_core.specs.declared.stretch.Stretch.{Stretch}
 use Rattle.exchange_core.specs.Chunk.{is_nibble}
+use Rattle.exchange_core.specs.Stretch.{places}
 
--- memory; the chunks that are left, the one under way first (where none is left, it has halted); where the next byte belongs; the high nibble of that
--- byte, where it has come; and all that was answered
+-- memory; where the bytes belong that are still to come, in their order (where none is left, it has halted); the high nibble of the next one, where it
+-- has come; and all that was answered
 pub record Filling : Type 0 where
   pub memory : List ℕ
-  pub left : List Stretch
-  pub next : ℕ
+  pub left : List ℕ
   pub high : Option ℕ
   pub answers : List ℕ
 
--- where the first of these chunks begins
-abbrev pub first_byte : List Stretch → ℕ
-first_byte [] = 0
-first_byte (chunk ∷ chunks) = chunk.from
-
--- it has just been started, with these chunks to fill
+-- it has just been started, with these stretches to fill
 abbrev pub begun : List ℕ → List Stretch → Filling
-begun memory chunks = record { memory = memory; left = chunks; next = first_byte chunks; high = None; answers = [] }
+begun memory stretches = record { memory = memory; left = places stretches; high = None; answers = [] }
 
 -- the character in which a nibble is answered: that of its complement
 abbrev pub answered : ℕ → ℕ
 answered n = 0o157 - n
 
--- so many bytes of memory from an address on, each as two characters
-abbrev pub spelled : List ℕ → ℕ → ℕ → List ℕ
-spelled memory a zero = []
-spelled memory a (suc n) = answered (byte_of memory a / 16) ∷ answered (byte_of memory a % 16) ∷ spelled memory (a + 1) n
+-- a byte of memory, as two characters
+abbrev pub spelled : List ℕ → ℕ → List ℕ
+spelled memory a = answered (byte_of memory a / 16) ∷ answered (byte_of memory a % 16) ∷ []
 
--- a chunk as memory holds it
-abbrev pub chunk_text : List ℕ → Stretch → List ℕ
-chunk_text memory chunk = spelled memory chunk.from (chunk.to - chunk.from)
-
--- a byte has come and is in memory: the next one, or the chunk is answered, and the next chunk begins
-abbrev pub stored_next : Filling → List ℕ → Stretch → List Stretch → Filling
-stored_next f memory chunk chunks =
-    if f.next + 1 == chunk.to
-    then record { memory = memory; left = chunks; next = first_byte chunks; high = None; answers = f.answers ++ chunk_text memory chunk }
-    else record { memory = memory; left = chunk ∷ chunks; next = f.next + 1; high = None; answers = f.answers }
-
--- a nibble has come: the high one of a byte, or the low one
-abbrev pub with_nibble : Filling → Option ℕ → ℕ → Stretch → List Stretch → Filling
-with_nibble f None n chunk chunks = record f { high = Some n }
-with_nibble f (Some high) n chunk chunks = stored_next f (with_byte f.memory f.next (16 * high + n)) chunk chunks
+-- a nibble has come: the high one of a byte, or the low one; then the byte is in memory, and is answered
+abbrev pub with_nibble : Filling → Option ℕ → ℕ → ℕ → List ℕ → Filling
+with_nibble f None n a left = record f { high = Some n }
+with_nibble f (Some high) n a left = record {
+  memory = with_byte f.memory a (16 * high + n);
+  left = left;
+  high = None;
+  answers = f.answers ++ spelled (with_byte f.memory a (16 * high + n)) a;
+}
 
 -- a character has come: a nibble, or it halts
-abbrev pub takes : Filling → List Stretch → ℕ → Filling
+abbrev pub takes : Filling → List ℕ → ℕ → Filling
 takes f [] c = f
-takes f (chunk ∷ chunks) c = if is_nibble c then with_nibble f f.high (c - 0o140) chunk chunks else record f { left = [] }
+takes f (a ∷ left) c = if is_nibble c then with_nibble f f.high (c - 0o140) a left else record f { left = [] }
 
 abbrev pub taken : Filling → ℕ → Filling
 taken f c = takes f f.left c

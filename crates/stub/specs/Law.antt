@@ -6,7 +6,6 @@ use Rattle.processor.specs.Console.{Console}
 use Rattle.processor.specs.Machine.{Machine, Runs, Halted}
 use Rattle.processor.specs.Events.{Event, ran}
 use Rattle.exchange_core.specs.declared.stretch.Stretch.{Stretch}
-use Rattle.exchange_core.specs.Stretch.{pieces}
 use Rattle.stub.specs.Filling.{Filling, begun, after}
 use Rattle.stub.specs.Place.{StubStands}
 
@@ -31,7 +30,7 @@ seven c = c % 128
 
 -- what the stub has come to that began with this memory and took these characters
 abbrev pub filled : List ℕ → List Stretch → List ℕ → Filling
-filled memory stretches characters = after (begun memory (pieces stretches)) (map seven characters)
+filled memory stretches characters = after (begun memory stretches) (map seven characters)
 
 -- no stretch has a byte at the address
 abbrev pub IsOutside : List Stretch → ℕ → Type 0

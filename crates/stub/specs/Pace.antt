@@ -8,7 +8,7 @@ use Rattle.stub.specs.Law.{IsStarted, filled, waiting}
 
 -- the most instructions
 abbrev pub most : ℕ
-most = 27
+most = 33
 
 -- behind an instruction the machine has halted, or the receiver is free again, or the transmitter has a character
 abbrev pub Acts : Machine → Type 0

@@ -5,7 +5,6 @@ use Rattle.processor.specs.Console.{Console, arrived, left}
 use Rattle.processor.specs.Machine.{Machine, Runs, Halted}
 use Rattle.processor.specs.Execution.{step}
 use Rattle.exchange_core.specs.declared.stretch.Stretch.{Stretch}
-use Rattle.exchange_core.specs.Stretch.{pieces}
 use Rattle.stub.specs.Filling.{Filling, begun, taken}
 use Rattle.stub.specs.Pace.{most}
 use Rattle.stub.specs.Law.{IsStarted, waiting, seven}
@@ -41,7 +40,7 @@ Idle zero m now = now ≡ m
 Idle (suc n) m now = ((step m).console ≡ m.console) × ((step m).state ≡ Runs) × Idle n (step m) now
 
 -- what each does. A character has eight bits; one that arrives over one that was not fetched makes that one lost. The host hears that nothing comes
--- only where nothing is on the line, no character waits in the receiver, the transmitter is free, and 27 instructions have passed by which nothing
+-- only where nothing is on the line, no character waits in the receiver, the transmitter is free, and 33 instructions have passed by which nothing
 -- came of it
 abbrev pub Happens : Bench → Happening → Bench → Type 0
 Happens x Instructs y = y ≡ record x { machine = step x.machine }
@@ -71,11 +70,11 @@ pub record Link : Type 0 where
   pub up : List ℕ
   pub lost : ℕ
 
--- it has a chunk to fill, and takes the first character under way, and what it answers is under way at once
+-- it has a byte to fill, and takes the first character under way, and what it answers is under way at once
 pub record Takes (x y : Link) : Type 0 where
-  pub chunk : Stretch
-  pub later : List Stretch
-  pub under : x.stub.left ≡ chunk ∷ later
+  pub address : ℕ
+  pub later : List ℕ
+  pub under : x.stub.left ≡ address ∷ later
   pub character : ℕ
   pub rest : List ℕ
   pub first : x.down ≡ character ∷ rest
@@ -99,15 +98,15 @@ abbrev pub MovesTimes : ℕ → Link → Link → Type 0
 MovesTimes zero x y = y ≡ x
 MovesTimes (suc n) x y = (z : Link) × Moves x z × MovesTimes n z y
 
--- some, and then nothing is under way, and the stub has a chunk to fill
+-- some, and then nothing is under way, and the stub has a byte to fill
 pub record Settles (x y : Link) : Type 0 where
   pub times : ℕ
   pub moves : MovesTimes times x y
   pub down : y.down ≡ []
   pub up : y.up ≡ []
-  pub chunk : Stretch
-  pub later : List Stretch
-  pub under : y.stub.left ≡ chunk ∷ later
+  pub address : ℕ
+  pub later : List ℕ
+  pub under : y.stub.left ≡ address ∷ later
 
 -- what the link does while that happens at the bench: the host sends and hears the same, for a silence nothing is under way, and for
 -- anything else there is at most one move
@@ -144,7 +143,7 @@ pub record Shows (bench : Bench) (link : Link) : Type 0 where
 -- the link at the beginning: what the machine holds is under way
 abbrev pub opened : List Stretch → Bench → Link
 opened stretches x =
-    record { stub = begun x.machine.memory (pieces stretches); down = held x.machine.console ++ x.down; up = x.up ++ waiting x.machine.console; lost = x.lost }
+    record { stub = begun x.machine.memory stretches; down = held x.machine.console ++ x.down; up = x.up ++ waiting x.machine.console; lost = x.lost }
 
 -- whatever happens at the bench, the host sends and hears as it would at the link, and the link ends as the bench looks
 abbrev pub StubsAreSeenSo : Type 0

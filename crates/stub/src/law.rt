@@ -17,13 +17,13 @@ pub fn stubs_are_seen_so()
     ensures { StubsAreSeenSo }
 {}
 
-/// The stub fetches a character that waits, or gives one to the transmitter, within 27 instructions,
+/// The stub fetches a character that waits, or gives one to the transmitter, within 33 instructions,
 /// or has halted by then. This function does nothing: its contract is the law.
 pub fn stubs_keep_up()
     ensures { StubsKeepUp }
 {}
 
-/// Where no character waits and the transmitter is free, the machine is at rest within 27
+/// Where no character waits and the transmitter is free, the machine is at rest within 33
 /// instructions, unless it halts or gives a character to the transmitter before. This function does
 /// nothing: its contract is the law.
 pub fn stubs_rest()

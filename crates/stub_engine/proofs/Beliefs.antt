@@ -2,8 +2,9 @@
 use Rattle.std.proofs.Common.{ℕ, ◌-◌, List, [], length, Option, Some, None, inl, inr, sym, subst, ◌∙◌, append-nil}
 use Rattle.tape_image.specs.Plan.{PlanValue}
 use Rattle.host_devices.specs.declared.item.Item.{Item}
-use Rattle.load_engine.proofs.Sessions.{gained_is}
+use Rattle.engine.proofs.Sessions.{gained_is}
 use Rattle.exchange_core.specs.declared.chunk.Chunk.{Chunk}
+use Rattle.exchange_core.specs.declared.duplex.Duplex.{Duplex}
 use Rattle.exchange_core.specs.declared.exchange.Exchange.{Exchange}
 use Rattle.exchange_core.specs.Chunk.{AreChunks}
 use Rattle.exchange_core.specs.Exchange.{begun}
@@ -25,9 +26,9 @@ lacks (Some (LineFailed fault)) left all said (inl deaf) = ([], sym deaf.0 ∙ s
 lacks (Some (LineFailed fault)) left all said (inr less) = less
 lacks (Some (KeepFailed fault)) left all said s = s.0
 
-pub believable : (plan : PlanValue) (chunks : List Chunk) (turns : ℕ) (stop : Option Stop) (from : ℕ) (e : Exchange) (line line' : Option (List Item)) → AreChunks plan from chunks → Exchanged turns (exchanging plan chunks (begun from, e) stop) line line' → IsBelievableOver (exchanging plan chunks (begun from, e) stop) line line'
-believable plan chunks turns stop from e line line' are s said gained program x y may passes =
-    let short = lacks stop (turns - length s.heard) (dialogue plan.image chunks (begun from) s.heard) s.said s.items in
+pub believable : (plan : PlanValue) (chunks : List Chunk) (turns : ℕ) (stop : Option Stop) (from : ℕ) (duplex : Duplex) (e : Exchange) (line line' : Option (List Item)) → AreChunks plan from chunks → Exchanged turns (exchanging plan chunks (begun from duplex, e) stop) line line' → IsBelievableOver (exchanging plan chunks (begun from duplex, e) stop) line line'
+believable plan chunks turns stop from duplex e line line' are s said gained program x y may passes =
+    let short = lacks stop (turns - length s.heard) (dialogue plan.image chunks (begun from duplex) s.heard) s.said s.items in
     subst (λ e. IsExchanged program plan chunks x.station.machine.memory e y) (sym s.exchange)
-    (exchanges_are_true program x y (record { plan = plan; from = from; chunks = chunks; heard = s.heard; items = s.said; unsent = short.0 })
+    (exchanges_are_true program x y (record { plan = plan; from = from; duplex = duplex; chunks = chunks; heard = s.heard; items = s.said; unsent = short.0 })
     (record { chunks = are; begins = may; stopped = short.1; passes = subst (λ list. Passes program x list y) (gained_is line line' said s.said gained s.on_line) passes }))

@@ -5,12 +5,12 @@ use Rattle.tape_image.specs.Word.{WordValue}
 use Rattle.host_core.specs.Core.{Core, begun}
 use Rattle.host_devices.specs.declared.fault.KeepFault.{KeepFault}
 use Rattle.host_devices.specs.declared.item.Kept.{Kept}
-use Rattle.host_devices.specs.Devices.{Devices, KeeperCalls, LineTold, devices}
+use Rattle.host_devices.specs.Devices.{Devices, LineTold, devices}
+use Rattle.engine.specs.Keeping.{KeeperCalls, keeping}
 use Rattle.host_devices.specs.Failures.{CountsFault, IsLastFault}
 use Rattle.host_devices.specs.Turns.{most_turns}
-use Rattle.load_engine.specs.declared.stop.Stop.{Stop as LoadStop}
-use Rattle.load_engine.specs.Keeping.{keeping}
-use Rattle.load_engine.specs.Session.{session_told}
+use Rattle.load_engine.specs.Driving.{LoadStop}
+use Rattle.engine.specs.Session.{session_told}
 use Rattle.exchange_core.specs.declared.chunk.Chunk.{Chunk}
 use Rattle.exchange_core.specs.declared.exchange.Exchange.{Exchange}
 use Rattle.exchange_core.specs.Exchange.{begun as exchange_begun}
@@ -26,7 +26,7 @@ use Rattle.stub_engine.specs.Failing.{keep_fault, line_fault}
 use Rattle.stub_engine.specs.Keeping.{IsKeptBy, IsToldBy, words_kept}
 use Rattle.stub_engine.specs.Parts.{bringing, failure_of, why_left, why_unstarted}
 use Rattle.stub_engine.specs.Planning.{IsPlannedFor, IsUnplanned}
-use Rattle.stub_engine.specs.Tallies.{with_counts, with_words}
+use Rattle.stub_engine.specs.Tallies.{duplex_behind, with_counts, with_words}
 use Rattle.stub_engine.proofs.Joins.{brought_join}
 use Rattle.stub_engine.proofs.Keepings.{kept_none, told_begins, told_then}
 use Rattle.stub_engine.proofs.Parts.{comes, exchanged, none_brought, one_more, unstarted}
@@ -36,7 +36,7 @@ use Rattle.stub_engine.proofs.Stops.{is_some, keep_left, keep_unstarted, line_le
 pub told_nothing : (fault : Option KeepFault) (kept : Option (List Kept)) (words : List WordValue) (from to : ℕ) → fault ≡ None → to ≤ from → IsToldBy (keeping (words_kept words from to) fault) kept kept
 told_nothing fault kept words from to none le = subst (λ fault. IsToldBy (keeping (words_kept words from to) fault) kept kept) (sym none) (told_begins kept words from to le)
 
-pub kept_nothing : {K : Type 0} (calls : KeeperCalls K) (fault : Option KeepFault) (keep : K) (words : List WordValue) (from to : ℕ) → fault ≡ None → to ≤ from → IsKeptBy calls (keeping (words_kept words from to) fault) keep keep
+pub kept_nothing : {K : Type 0} (calls : KeeperCalls K Kept) (fault : Option KeepFault) (keep : K) (words : List WordValue) (from to : ℕ) → fault ≡ None → to ≤ from → IsKeptBy calls (keeping (words_kept words from to) fault) keep keep
 kept_nothing {K} calls fault keep words from to none le = subst (λ fault. IsKeptBy calls (keeping (words_kept words from to) fault) keep keep) (sym none) (kept_none calls keep words from to le)
 
 -- no stub was planned
@@ -81,10 +81,10 @@ not_started tape patience old new stub chunks answer why before after kept plann
 
 -- a stub started, and an exchange followed
 pub started : (tape : PlanValue) (patience : ℕ) (old new : Tally) (stub : PlanValue) (chunks : List Chunk) (answer : Core × LoadStop) (state : Exchange) (left : ExchangeStop) (why : Option Stop) (before between after : LineTold) (kept kept' : Option (List Kept)) → IsPlannedFor tape old.verified stub chunks → patience < 2 ^ 32 → old.in_vain < 3
-    → why_unstarted answer.1 ≡ None → why ≡ why_left left → IsBringerDriven (begun stub 0 false patience) answer before between → IsLed most_turns (exchanging tape chunks (exchange_begun old.verified, state) (Some left)) (devices between kept) (devices after kept')
+    → why_unstarted answer.1 ≡ None → why ≡ why_left left → IsBringerDriven (begun stub 0 false patience) answer before between → IsLed most_turns (exchanging tape chunks (exchange_begun old.verified (duplex_behind old.in_vain), state) (Some left)) (devices between kept) (devices after kept')
     → answer.0.sent ≤ 98784878599 → new ≡ with_words (with_counts (with_counts old answer.0.sent answer.0.spent) state.sent 0) state.verified → IsNextStub (bringing tape patience (old, new) why) (devices before kept) (devices after kept')
 started tape patience old new stub chunks answer state left why before between after kept kept' planned patient few follows is b led sent tally =
-    let far = comes tape old.verified stub chunks left state (devices between kept) (devices after kept') planned led.all in
+    let far = comes tape old.verified (duplex_behind old.in_vain) stub chunks left state (devices between kept) (devices after kept') planned led.all in
     let here : between.failures ≡ before.failures = started_counts answer.1 before.failures between.failures follows b.driven.counted in
     subst (λ why. IsNextStub (bringing tape patience (old, new) why) (devices before kept) (devices after kept')) (sym is)
     (subst (λ new. IsNextStub (bringing tape patience (old, new) (why_left left)) (devices before kept) (devices after kept')) (sym tally) (record {

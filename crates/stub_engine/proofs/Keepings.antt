@@ -6,12 +6,11 @@ use Rattle.tape_image.specs.Word.{WordValue}
 use Rattle.host_devices.specs.declared.fault.KeepFault.{KeepFault}
 use Rattle.host_devices.specs.declared.item.Kept.{Kept}
 use Rattle.host_devices.specs.declared.item.Kept.TheVariants.{Word}
-use Rattle.host_devices.specs.Devices.{KeeperCalls}
+use Rattle.engine.specs.Keeping.{AllOrFront, KeeperCalls, KeepsAllButLast, KeepsEach, keeping}
 use Rattle.host_devices.specs.Failures.{CountsFault}
 use Rattle.host_devices.proofs.Told.{gains_join, gains_kept, gains_none}
 use Rattle.host_devices.specs.Told.{Gains, SaysNothing}
-use Rattle.load_engine.specs.Keeping.{AllOrFront, KeepsEach, KeepsAllButLast, keeping}
-use Rattle.load_engine.proofs.Keepings.{each_join}
+use Rattle.engine.proofs.Keepings.{each_join}
 use Rattle.stub_engine.specs.Keeping.{GainsFront, IsKeptBy, IsToldBy, KeepsFront, words_kept}
 
 take_behind : {A : Type 0} (items more : List A) (k : ℕ) → take (length items + k) (items ++ more) ≡ items ++ take k more
@@ -20,7 +19,7 @@ take_behind {A} (item ∷ items) more k =
     let one : length (item ∷ items) + k ≡ suc (length items + k) = omega arith in
     ap (λ n. take n (item ∷ (items ++ more))) one ∙ ap (λ rest. item ∷ rest) (take_behind items more k)
 
-front_join : {K : Type 0} (calls : KeeperCalls K) (old next new : K) (items more : List Kept) → KeepsEach calls.keeps old items next → KeepsFront calls more next new → KeepsFront calls (items ++ more) old new
+front_join : {K : Type 0} (calls : KeeperCalls K Kept) (old next new : K) (items more : List Kept) → KeepsEach calls.keeps old items next → KeepsFront calls more next new → KeepsFront calls (items ++ more) old new
 front_join {K} calls old next new items more each (k, less, by) =
     let P : List Kept → Type 0 = λ list. KeepsAllButLast calls old list new in
     let sum : length items + (k + 1) ≡ length items + k + 1 = omega arith in (
@@ -36,7 +35,7 @@ front_join {K} calls old next new items more each (k, less, by) =
       }),
     )
 
-kept_join : {K : Type 0} (calls : KeeperCalls K) (fault : Option KeepFault) (old next new : K) (items more : List Kept) → KeepsEach calls.keeps old items next → AllOrFront fault (KeepsEach calls.keeps next more new) (KeepsFront calls more next new)
+kept_join : {K : Type 0} (calls : KeeperCalls K Kept) (fault : Option KeepFault) (old next new : K) (items more : List Kept) → KeepsEach calls.keeps old items next → AllOrFront fault (KeepsEach calls.keeps next more new) (KeepsFront calls more next new)
     → AllOrFront fault (KeepsEach calls.keeps old (items ++ more) new) (KeepsFront calls (items ++ more) old new)
 kept_join {K} calls None old next new items more each by = each_join calls.keeps old next new items more each by
 kept_join {K} calls (Some fault) old next new items more each by = front_join calls old next new items more each by
@@ -72,7 +71,7 @@ each_more {K} keeps old mid new words from k d le less each one =
     subst P (sym (words_join words from k (k + 1) le (omega arith) ∙ ap (λ rest. words_kept words from k ++ rest) (one_kept words k d less)))
     (each_join keeps old mid new (words_kept words from k) (Word (get_or words k d) ∷ []) each (new, one, refl))
 
-pub front_stops : {K : Type 0} (calls : KeeperCalls K) (old mid new : K) (words : List WordValue) (from k to : ℕ) (d : WordValue) → from ≤ k → k < to → to ≤ length words → KeepsEach calls.keeps old (words_kept words from k) mid → calls.fails mid (Word (get_or words k d)) new →
+pub front_stops : {K : Type 0} (calls : KeeperCalls K Kept) (old mid new : K) (words : List WordValue) (from k to : ℕ) (d : WordValue) → from ≤ k → k < to → to ≤ length words → KeepsEach calls.keeps old (words_kept words from k) mid → calls.fails mid (Word (get_or words k d)) new →
     KeepsFront calls (words_kept words from to) old new
 front_stops {K} calls old mid new words from k to d le less within each one =
     let P : List Kept → Type 0 = λ items. KeepsFront calls items old new in
@@ -84,7 +83,7 @@ front_stops {K} calls old mid new words from k to d le less within each one =
 
 -- ---- two stretches
 
-pub kept_then : {K : Type 0} (calls : KeeperCalls K) (fault : Option KeepFault) (old next new : K) (words : List WordValue) (a b c : ℕ) → a ≤ b → b ≤ c → IsKeptBy calls (keeping (words_kept words a b) None) old next → IsKeptBy calls (keeping (words_kept words b c) fault) next new →
+pub kept_then : {K : Type 0} (calls : KeeperCalls K Kept) (fault : Option KeepFault) (old next new : K) (words : List WordValue) (a b c : ℕ) → a ≤ b → b ≤ c → IsKeptBy calls (keeping (words_kept words a b) None) old next → IsKeptBy calls (keeping (words_kept words b c) fault) next new →
     IsKeptBy calls (keeping (words_kept words a c) fault) old new
 kept_then {K} calls fault old next new words a b c one two first by =
     let P : List Kept → Type 0 = λ items. AllOrFront fault (KeepsEach calls.keeps old items new) (KeepsFront calls items old new) in record {
@@ -94,7 +93,7 @@ kept_then {K} calls fault old next new words a b c one two first by =
     }
 
 -- nothing was given to it
-pub kept_none : {K : Type 0} (calls : KeeperCalls K) (keep : K) (words : List WordValue) (from to : ℕ) → to ≤ from → IsKeptBy calls (keeping (words_kept words from to) None) keep keep
+pub kept_none : {K : Type 0} (calls : KeeperCalls K Kept) (keep : K) (words : List WordValue) (from to : ℕ) → to ≤ from → IsKeptBy calls (keeping (words_kept words from to) None) keep keep
 kept_none {K} calls keep words from to le = record { counted = refl; named = tt; each = each_begins calls.keeps keep words from to le }
 
 -- ---- what the keeper tells
@@ -107,9 +106,6 @@ told_join (Some fault) a b c items more gains (k, less, front) =
 pub told_then : (fault : Option KeepFault) (a b c : Option (List Kept)) (words : List WordValue) (i j k : ℕ) → i ≤ j → j ≤ k → Gains a b (words_kept words i j) → IsToldBy (keeping (words_kept words j k) fault) b c → IsToldBy (keeping (words_kept words i k) fault) a c
 told_then fault a b c words i j k one two gains by =
     subst (λ items. AllOrFront fault (Gains a c items) (GainsFront a c items)) (sym (words_join words i j k one two)) (told_join fault a b c (words_kept words i j) (words_kept words j k) gains by)
-
-pub told_none : (a b : Option (List Kept)) (words : List WordValue) (i j : ℕ) → j ≤ i → SaysNothing a b → Gains a b (words_kept words i j)
-told_none a b words i j le nothing = subst (Gains a b) (sym (none_kept words i j le)) (gains_kept a b nothing)
 
 pub told_begins : (a : Option (List Kept)) (words : List WordValue) (i j : ℕ) → j ≤ i → Gains a a (words_kept words i j)
 told_begins a words i j le = subst (Gains a a) (sym (none_kept words i j le)) (gains_none a)

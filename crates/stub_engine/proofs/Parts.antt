@@ -11,15 +11,19 @@ use Rattle.host_core.specs.declared.phase.Phase.TheVariants.{Settle, Sync, Addre
 use Rattle.host_core.specs.Core.{Core, begun, ended}
 use Rattle.host_core.specs.Laws.{led}
 use Rattle.host_devices.specs.declared.item.Item.{Item}
+use Rattle.host_devices.specs.declared.item.Kept.{Kept}
 use Rattle.host_devices.specs.Devices.{Devices}
 use Rattle.host_devices.specs.Dialogue.{dialogue}
 use Rattle.host_devices.specs.Turns.{most_turns}
 use Rattle.host_devices.proofs.Told.{gains_join, gains_none}
-use Rattle.load_engine.specs.declared.stop.Stop.{Stop as LoadStop}
-use Rattle.load_engine.specs.declared.stop.Stop.TheVariants.{Ended as LoadEnded, LineFailed as LoadLineFailed, KeepFailed as LoadKeepFailed, TurnsOver as LoadTurnsOver}
-use Rattle.load_engine.specs.Driving.{driving}
-use Rattle.load_engine.specs.Session.{IsSaid as IsLoadSaid, Session, SessionTold, TellsEnd}
+use Rattle.load_engine.specs.Driving.{LoadSession, LoadStop, driving}
+use Rattle.engine.specs.declared.stop.Stop.TheVariants.{Ended as LoadEnded, LineFailed as LoadLineFailed, KeepFailed as LoadKeepFailed, TurnsOver as LoadTurnsOver}
+use Rattle.engine.specs.Session.{SessionTold}
+use Rattle.engine.specs.Stopping.{TellsEnd}
+use Rattle.load_engine.specs.Driven.{IsSaid as IsLoadSaid}
+use Rattle.load_engine.proofs.Sessions.{core_is, session_said}
 use Rattle.exchange_core.specs.declared.chunk.Chunk.{Chunk}
+use Rattle.exchange_core.specs.declared.duplex.Duplex.{Duplex}
 use Rattle.exchange_core.specs.declared.exchange.Exchange.{Exchange}
 use Rattle.exchange_core.specs.Chunk.{AreChunks, words_behind}
 use Rattle.exchange_core.specs.Exchange.{begun as exchange_begun, led as exchange_led}
@@ -36,7 +40,7 @@ use Rattle.stub_engine.specs.declared.stop.Stop.{Stop}
 use Rattle.stub_engine.specs.declared.tally.Tally.{Tally}
 use Rattle.stub_engine.specs.Parts.{AreBroughtIn, IsWorth, bringing, TellsEnd as EndsSo, failure_of, why_ended, why_left, why_unstarted}
 use Rattle.stub_engine.specs.Planning.{IsPlannedFor}
-use Rattle.stub_engine.specs.Tallies.{IsOneMore, with_counts, with_words}
+use Rattle.stub_engine.specs.Tallies.{IsOneMore, duplex_behind, with_counts, with_words}
 use Rattle.stub_engine.proofs.Stops.{is_some}
 
 same_if : {A : Type 0} (test : Bool) (a : A) → (if test then a else a) ≡ a
@@ -66,8 +70,8 @@ none_brought tape patience stop tally line ends = record {
 for_stub : (tape : PlanValue) (from : ℕ) (stub : PlanValue) (chunks : List Chunk) → IsPlannedFor tape from stub chunks → IsStubFor stub_program tape from stub chunks
 for_stub tape from stub chunks p = planned_stubs tape from p.window chunks p.stretches stub p.planned
 
-is_worth : (tape : PlanValue) (from n : ℕ) (part : StubPart) → IsPlannedFor tape from part.stub part.chunks → n < 3 → IsWorth part.patience from n part
-is_worth tape from n part p few = record { patient = refl; few = few; words = (let all = p.planned.chunks_are.all in let worth = p.worth in omega (arith, all, worth)) }
+is_worth : (tape : PlanValue) (from n : ℕ) (part : StubPart) → IsPlannedFor tape from part.stub part.chunks → n < 3 → part.duplex ≡ duplex_behind n → IsWorth part.patience from n part
+is_worth tape from n part p few duplex = record { patient = refl; few = few; duplex = duplex; words = (let all = p.planned.chunks_are.all in let worth = p.worth in omega (arith, all, worth)) }
 
 -- ---- what was said, up to what was not sent
 
@@ -80,12 +84,12 @@ record IsFront (failure : Option ExchangeStop) (all said : List Item) : Type 0 w
 full : (failure : Option ExchangeStop) (all said : List Item) → said ≡ all → IsFront failure all said
 full failure all said s = record { unsent = []; is = sym s ∙ sym (append-nil said); whole = λ none. refl }
 
-brought_front : (stop : LoadStop) (left : ℕ) (all said : List Item) → IsLoadSaid (Some stop) left all said → IsFront (failure_of (why_unstarted stop)) all said
-brought_front (LoadEnded end) left all said s = full (failure_of (why_ended end)) all said s
-brought_front LoadTurnsOver left all said s = full None all said s.0
-brought_front (LoadLineFailed fault) left all said (inl deaf) = full (Some (LineFailed fault)) all said deaf.0
-brought_front (LoadLineFailed fault) left all said (inr less) = record { unsent = less.0 ∷ []; is = less.1; whole = λ none. absurd (is_some _ none) }
-brought_front (LoadKeepFailed fault) left all said s = record { unsent = s.0 ∷ []; is = s.1; whole = λ none. absurd (is_some _ none) }
+brought_front : (stop : LoadStop) (all said : List Item) → IsLoadSaid (Some stop) all said → IsFront (failure_of (why_unstarted stop)) all said
+brought_front (LoadEnded end) all said s = full (failure_of (why_ended end)) all said s
+brought_front LoadTurnsOver all said s = full None all said s
+brought_front (LoadLineFailed fault) all said (inl deaf) = full (Some (LineFailed fault)) all said deaf
+brought_front (LoadLineFailed fault) all said (inr less) = record { unsent = less.0 ∷ []; is = less.1; whole = λ none. absurd (is_some _ none) }
+brought_front (LoadKeepFailed fault) all said s = record { unsent = s.0 ∷ []; is = s.1; whole = λ none. absurd (is_some _ none) }
 
 exchange_front : (stop : ExchangeStop) (left : ℕ) (all said : List Item) → IsSaid (Some stop) left all said → IsFront (failure_of (why_left stop)) all said
 exchange_front (Ended end) left all said s = full None all said s
@@ -96,7 +100,7 @@ exchange_front (KeepFailed fault) left all said s = record { unsent = s.0.0; is 
 
 -- ---- a stub that did not start
 
-ends_so : (stop : LoadStop) (part : StubPart) → TellsEnd stop (led (bringer part) part.brought) → EndsSo (why_unstarted stop) (part ∷ [])
+ends_so : (stop : LoadStop) (part : StubPart) → TellsEnd stop (ended (led (bringer part) part.brought).phase) → EndsSo (why_unstarted stop) (part ∷ [])
 ends_so (LoadEnded Started) part tells = tt
 ends_so (LoadEnded Loaded) part tells = record { before = []; last = part; parts_are = refl; end_is = tells }
 ends_so (LoadEnded Uncertain) part tells = record { before = []; last = part; parts_are = refl; end_is = tells }
@@ -140,52 +144,56 @@ is_end (Return why place) other e = absurd (cc e)
 is_end (Start place) other e = absurd (cc e)
 is_end Go other e = absurd (cc e)
 
-seen : (stop : LoadStop) (core : Core) → why_unstarted stop ≡ None → TellsEnd stop core → is_started core.phase ≡ true
+seen : (stop : LoadStop) (core : Core) → why_unstarted stop ≡ None → TellsEnd stop (ended core.phase) → is_started core.phase ≡ true
 seen stop core follows tells =
-    let end : ended core.phase ≡ Some Started = subst (λ stop. TellsEnd stop core) (only_started stop follows) tells in
+    let end : ended core.phase ≡ Some Started = subst (λ (stop : LoadStop). TellsEnd stop (ended core.phase)) (only_started stop follows) tells in
     ap is_started (is_end core.phase Started end)
 
 sum_of : (old a b z : ℕ) → a ≡ b → z ≡ 0 → old + a ≡ old + (b + z + 0)
 sum_of old a b z e none = omega (arith, e, none)
 
-pub unstarted : (tape : PlanValue) (patience : ℕ) (stop : LoadStop) (old : Tally) (stub : PlanValue) (chunks : List Chunk) (core : Core) (before after : SessionTold) → IsPlannedFor tape old.verified stub chunks → patience < 2 ^ 32 → old.in_vain < 3 → TellsEnd stop core →
-    Session most_turns (driving (begun stub 0 false patience) core (Some stop)) before after → AreBroughtIn (bringing tape patience (old, with_words (with_counts old core.sent core.spent) old.verified) (why_unstarted stop)) before.said after.said
+pub unstarted : (tape : PlanValue) (patience : ℕ) (stop : LoadStop) (old : Tally) (stub : PlanValue) (chunks : List Chunk) (core : Core) (before after : SessionTold Kept) → IsPlannedFor tape old.verified stub chunks → patience < 2 ^ 32 → old.in_vain < 3 → TellsEnd stop (ended core.phase) →
+    LoadSession most_turns (driving (begun stub 0 false patience) core (Some stop)) before after → AreBroughtIn (bringing tape patience (old, with_words (with_counts old core.sent core.spent) old.verified) (why_unstarted stop)) before.said after.said
 unstarted tape patience stop old stub chunks core before after planned patient few tells s =
-    let part : StubPart = record { stub = stub; chunks = chunks; patience = patience; brought = s.heard; exchanged = [] } in
-    let front = brought_front stop (most_turns - length s.heard) (dialogue (begun stub 0 false patience) s.heard) s.said s.items in
+    let part : StubPart = record { stub = stub; chunks = chunks; patience = patience; duplex = duplex_behind old.in_vain; brought = s.heard; exchanged = [] } in
+    let turns = driving (begun stub 0 false patience) core (Some stop) in
+    let at = core_is most_turns turns before after s in
+    let front = brought_front stop (dialogue (begun stub 0 false patience) s.heard) s.said (session_said most_turns turns before after s) in
     let after : verified_after tape old.verified part ≡ old.verified = same_if (starts part) old.verified in
     let silent : exchange_said tape old.verified part ≡ [] = same_if (starts part) [] in record {
       parts = part ∷ [];
       are_parts = (for_stub tape old.verified stub chunks planned, patient, tt);
-      worth = (is_worth tape old.verified old.in_vain part planned few, tt);
+      worth = (is_worth tape old.verified old.in_vain part planned few refl, tt);
       followed = (inl refl, tt);
-      all_start = λ none. (ap (λ (c : Core). is_started c.phase) (sym s.core) ∙ seen stop core none tells, tt);
-      ends = ends_so stop part (subst (TellsEnd stop) s.core tells);
+      all_start = λ none. (ap (λ (c : Core). is_started c.phase) (sym at) ∙ seen stop core none tells, tt);
+      ends = ends_so stop part (subst (λ (c : Core). TellsEnd stop (ended c.phase)) at tells);
       said = s.said;
       unsent = front.unsent;
       items = ap (λ rest. dialogue (begun stub 0 false patience) s.heard ++ (rest ++ [])) silent ∙ (append-nil (dialogue (begun stub 0 false patience) s.heard) ∙ front.is);
       all_sent = front.whole;
       on_line = s.on_line;
       verified = sym after;
-      sent = sum_of old.sent core.sent (led (begun stub 0 false patience) s.heard).sent _ (ap (λ (c : Core). c.sent) s.core) (same_if (starts part) 0);
-      spent = ap (λ n. old.spent + n) (ap (λ (c : Core). c.spent) s.core ∙ (let none : (n : ℕ) → n ≡ n + 0 = λ n. omega arith in none (led (begun stub 0 false patience) s.heard).spent));
+      sent = sum_of old.sent core.sent (led (begun stub 0 false patience) s.heard).sent _ (ap (λ (c : Core). c.sent) at) (same_if (starts part) 0);
+      spent = ap (λ n. old.spent + n) (ap (λ (c : Core). c.spent) at ∙ (let none : (n : ℕ) → n ≡ n + 0 = λ n. omega arith in none (led (begun stub 0 false patience) s.heard).spent));
       in_vain = ap (λ n. if n == old.verified then old.in_vain + 1 else 0) (sym after);
     }
 
 -- ---- a stub that started
 
-pub exchanged : (tape : PlanValue) (patience : ℕ) (stop : LoadStop) (left : ExchangeStop) (old : Tally) (stub : PlanValue) (chunks : List Chunk) (core : Core) (state : Exchange) (before between : SessionTold) (line : Option (List Item)) →
-    IsPlannedFor tape old.verified stub chunks → patience < 2 ^ 32 → old.in_vain < 3 → why_unstarted stop ≡ None → TellsEnd stop core → Session most_turns (driving (begun stub 0 false patience) core (Some stop)) before between →
-    Exchanged most_turns (exchanging tape chunks (exchange_begun old.verified, state) (Some left)) between.said line →
+pub exchanged : (tape : PlanValue) (patience : ℕ) (stop : LoadStop) (left : ExchangeStop) (old : Tally) (stub : PlanValue) (chunks : List Chunk) (core : Core) (state : Exchange) (before between : SessionTold Kept) (line : Option (List Item)) →
+    IsPlannedFor tape old.verified stub chunks → patience < 2 ^ 32 → old.in_vain < 3 → why_unstarted stop ≡ None → TellsEnd stop (ended core.phase) → LoadSession most_turns (driving (begun stub 0 false patience) core (Some stop)) before between →
+    Exchanged most_turns (exchanging tape chunks (exchange_begun old.verified (duplex_behind old.in_vain), state) (Some left)) between.said line →
     AreBroughtIn (bringing tape patience (old, with_words (with_counts (with_counts old core.sent core.spent) state.sent 0) state.verified) (why_left left)) before.said line
 exchanged tape patience stop left old stub chunks core state before between line planned patient few follows tells s x =
-    let part : StubPart = record { stub = stub; chunks = chunks; patience = patience; brought = s.heard; exchanged = x.heard } in
+    let part : StubPart = record { stub = stub; chunks = chunks; patience = patience; duplex = duplex_behind old.in_vain; brought = s.heard; exchanged = x.heard } in
     let first : Core = led (begun stub 0 false patience) s.heard in
-    let now : Exchange = exchange_led tape.image chunks (exchange_begun old.verified) x.heard in
+    let now : Exchange = exchange_led tape.image chunks (exchange_begun old.verified (duplex_behind old.in_vain)) x.heard in
     let talk : List Item = dialogue (begun stub 0 false patience) s.heard in
-    let more : List Item = exchange_dialogue tape.image chunks (exchange_begun old.verified) x.heard in
-    let started : starts part ≡ true = ap (λ (c : Core). is_started c.phase) (sym s.core) ∙ seen stop core follows tells in
-    let typed = brought_front stop (most_turns - length s.heard) talk s.said s.items in
+    let more : List Item = exchange_dialogue tape.image chunks (exchange_begun old.verified (duplex_behind old.in_vain)) x.heard in
+    let turns = driving (begun stub 0 false patience) core (Some stop) in
+    let at = core_is most_turns turns before between s in
+    let started : starts part ≡ true = ap (λ (c : Core). is_started c.phase) (sym at) ∙ seen stop core follows tells in
+    let typed = brought_front stop talk s.said (session_said most_turns turns before between s) in
     let all : talk ≡ s.said = typed.is ∙ (ap (λ keys. s.said ++ said_all keys) (typed.whole (ap failure_of follows)) ∙ append-nil s.said) in
     let front = exchange_front left (most_turns - length x.heard) more x.said x.items in
     let after : state.verified ≡ verified_after tape old.verified part = ap (λ (e : Exchange). e.verified) x.exchange ∙ ap (λ test. if test then now.verified else old.verified) (sym started) in
@@ -193,7 +201,7 @@ exchanged tape patience stop left old stub chunks core state before between line
     let keys : state.sent ≡ (if starts part then now.sent else 0) = ap (λ (e : Exchange). e.sent) x.exchange ∙ ap (λ test. if test then now.sent else 0) (sym started) in record {
       parts = part ∷ [];
       are_parts = (for_stub tape old.verified stub chunks planned, patient, tt);
-      worth = (is_worth tape old.verified old.in_vain part planned few, tt);
+      worth = (is_worth tape old.verified old.in_vain part planned few refl, tt);
       followed = (inl refl, tt);
       all_start = λ none. (started, tt);
       ends = left_ends left (part ∷ []);
@@ -205,8 +213,8 @@ exchanged tape patience stop left old stub chunks core state before between line
       all_sent = front.whole;
       on_line = gains_join before.said between.said line s.said x.said s.on_line x.on_line;
       verified = after;
-      sent = sums old.sent core.sent first.sent state.sent (if starts part then now.sent else 0) (ap (λ (c : Core). c.sent) s.core) keys;
-      spent = counts old.spent core.spent first.spent (ap (λ (c : Core). c.spent) s.core);
+      sent = sums old.sent core.sent first.sent state.sent (if starts part then now.sent else 0) (ap (λ (c : Core). c.sent) at) keys;
+      spent = counts old.spent core.spent first.spent (ap (λ (c : Core). c.spent) at);
       in_vain = ap (λ n. if n == old.verified then old.in_vain + 1 else 0) after;
     }
   where
@@ -236,8 +244,8 @@ pub record Comes (tape : PlanValue) (v : ℕ) (state : Exchange) : Type 0 where
   pub within : state.verified ≤ length tape.words
   pub few : state.verified ≤ most_words
 
-pub comes : (tape : PlanValue) (v : ℕ) (stub : PlanValue) (chunks : List Chunk) (stop : ExchangeStop) (state : Exchange) (before after : Devices) → IsPlannedFor tape v stub chunks → AreTurns most_turns (exchanging tape chunks (exchange_begun v, state) (Some stop)) before after → Comes tape v state
-comes tape v stub chunks stop state before after p t =
+pub comes : (tape : PlanValue) (v : ℕ) (duplex : Duplex) (stub : PlanValue) (chunks : List Chunk) (stop : ExchangeStop) (state : Exchange) (before after : Devices) → IsPlannedFor tape v stub chunks → AreTurns most_turns (exchanging tape chunks (exchange_begun v duplex, state) (Some stop)) before after → Comes tape v state
+comes tape v duplex stub chunks stop state before after p t =
     let are : AreChunks tape v chunks = p.planned.chunks_are.are in
     let words : state.verified ≡ words_behind v chunks state.done = t.kept.words ∙ ap (λ n. words_behind n chunks state.done) t.from_same in
     let high = words_within tape v chunks are state.done t.kept.within in

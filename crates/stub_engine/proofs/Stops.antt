@@ -4,9 +4,9 @@ use Rattle.host_core.specs.declared.phase.End.{End}
 use Rattle.host_core.specs.declared.phase.End.TheVariants.{Loaded, Started, Uncertain, MaybeStarted, GaveUp, NoWord, WontHold}
 use Rattle.host_devices.specs.Failures.{CountsFault}
 use Rattle.tape_image.specs.Plan.{PlanValue}
-use Rattle.load_engine.specs.declared.stop.Stop.{Stop as LoadStop}
-use Rattle.load_engine.specs.declared.stop.Stop.TheVariants.{Ended as LoadEnded, LineFailed as LoadLineFailed, KeepFailed as LoadKeepFailed, TurnsOver as LoadTurnsOver}
-use Rattle.load_engine.specs.Failing.{line_fault as load_line_fault, keep_fault as load_keep_fault}
+use Rattle.load_engine.specs.Driving.{LoadStop}
+use Rattle.engine.specs.declared.stop.Stop.TheVariants.{Ended as LoadEnded, LineFailed as LoadLineFailed, KeepFailed as LoadKeepFailed, TurnsOver as LoadTurnsOver}
+use Rattle.engine.specs.Stopping.{line_fault as load_line_fault, keep_fault as load_keep_fault}
 use Rattle.stub_engine.specs.declared.exchange_stop.ExchangeStop.{ExchangeStop}
 use Rattle.stub_engine.specs.declared.exchange_stop.ExchangeStop.TheVariants.{Ended, LineFailed, KeepFailed, TurnsOver}
 use Rattle.stub_engine.specs.declared.stop.Stop.{Stop}

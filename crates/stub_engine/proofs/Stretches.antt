@@ -12,11 +12,12 @@ use Rattle.host_devices.specs.Failures.{CountsFault}
 use Rattle.host_devices.specs.Told.{Gains, SaysNothing}
 use Rattle.host_devices.proofs.Told.{gains_kept, gains_join, gains_none}
 use Rattle.exchange_core.specs.declared.chunk.Chunk.{Chunk}
+use Rattle.exchange_core.specs.declared.duplex.Duplex.{Duplex}
 use Rattle.exchange_core.specs.declared.exchange.Exchange.{Exchange}
 use Rattle.exchange_core.specs.declared.phase.End.{End}
 use Rattle.exchange_core.specs.Chunk.{AreChunks}
 use Rattle.exchange_core.specs.Exchange.{IsExchange, advance, begun, ended, led}
-use Rattle.exchange_core.proofs.Steps.{are_small, bound_kept}
+use Rattle.exchange_core.proofs.Steps.{are_small, bound_kept, step_grows}
 use Rattle.exchange_law.specs.Law.{dialogue, said_all}
 use Rattle.stub_engine.specs.declared.exchange_stop.ExchangeStop.{ExchangeStop as Stop}
 use Rattle.stub_engine.specs.declared.exchange_stop.ExchangeStop.TheVariants.{Ended, LineFailed, KeepFailed, TurnsOver}
@@ -118,8 +119,8 @@ exchanged_over plan chunks turns a b line line' s =
 -- ---- the same over devices
 
 -- an exchange at its beginning
-pub begun_kept : (from : ℕ) (chunks : List Chunk) → IsExchange chunks (begun from)
-begun_kept from chunks = record { within = omega arith; words = refl; fits = refl; paid = omega arith }
+pub begun_kept : (from : ℕ) (duplex : Duplex) (chunks : List Chunk) → IsExchange chunks (begun from duplex)
+begun_kept from duplex chunks = record { within = omega arith; words = refl; fits = refl; paid = omega arith }
 
 -- no turn at all
 pub turns_none : (plan : PlanValue) (chunks : List Chunk) (e : Exchange) (devices : Devices) → IsExchange chunks e → AreTurns 0 (exchanging plan chunks (e, e) None) devices devices
@@ -180,26 +181,26 @@ turns_over plan chunks most a b before after s = record {
 
 -- ---- the engine's answer
 
-module _ (plan : PlanValue) (chunks : List Chunk) (from : ℕ) (e : Exchange) (before after : Devices) (are : AreChunks plan from chunks) where
-  led_by : (most : ℕ) (stop : Stop) → AreTurns most (exchanging plan chunks (begun from, e) (Some stop)) before after → TellsEnd (Some stop) e → IsLed most (exchanging plan chunks (begun from, e) (Some stop)) before after
+module _ (plan : PlanValue) (chunks : List Chunk) (from : ℕ) (duplex : Duplex) (e : Exchange) (before after : Devices) (are : AreChunks plan from chunks) where
+  led_by : (most : ℕ) (stop : Stop) → AreTurns most (exchanging plan chunks (begun from duplex, e) (Some stop)) before after → TellsEnd (Some stop) e → IsLed most (exchanging plan chunks (begun from duplex, e) (Some stop)) before after
   led_by most stop turns tells = record {
     all = turns;
     end = tells;
-    honest = believable plan chunks most (Some stop) from e before.line.said after.line.said are turns.session;
+    honest = believable plan chunks most (Some stop) from duplex e before.line.said after.line.said are turns.session;
     bound = bound_kept chunks e (are_small plan from chunks are) turns.kept;
   }
 
-  pub led_to_end : (end : End) (most all : ℕ) → most ≤ all → ended e.phase ≡ Some end → AreTurns most (exchanging plan chunks (begun from, e) None) before after → IsLed all (exchanging plan chunks (begun from, e) (Some (Ended end))) before after
-  led_to_end end most all le tells turns = led_by all (Ended end) (turns_ended plan chunks end most all (begun from) e before after le turns) tells
+  pub led_to_end : (end : End) (most all : ℕ) → most ≤ all → ended e.phase ≡ Some end → AreTurns most (exchanging plan chunks (begun from duplex, e) None) before after → IsLed all (exchanging plan chunks (begun from duplex, e) (Some (Ended end))) before after
+  led_to_end end most all le tells turns = led_by all (Ended end) (turns_ended plan chunks end most all (begun from duplex) e before after le turns) tells
 
-  pub led_over : (most all : ℕ) → most ≡ all → ended e.phase ≡ None → AreTurns most (exchanging plan chunks (begun from, e) None) before after → IsLed all (exchanging plan chunks (begun from, e) (Some TurnsOver)) before after
+  pub led_over : (most all : ℕ) → most ≡ all → ended e.phase ≡ None → AreTurns most (exchanging plan chunks (begun from duplex, e) None) before after → IsLed all (exchanging plan chunks (begun from duplex, e) (Some TurnsOver)) before after
   led_over most all same tells turns =
-      led_by all TurnsOver (subst (λ n. AreTurns n (exchanging plan chunks (begun from, e) (Some TurnsOver)) before after) same (turns_over plan chunks most (begun from) e before after turns)) tells
+      led_by all TurnsOver (subst (λ n. AreTurns n (exchanging plan chunks (begun from duplex, e) (Some TurnsOver)) before after) same (turns_over plan chunks most (begun from duplex) e before after turns)) tells
 
-  pub led_to_failure : (stop : Stop) (most all : ℕ) (mid : Exchange) (middle : Devices) → most + 1 ≤ all → AreTurns most (exchanging plan chunks (begun from, mid) None) before middle → IsTurn (exchanging plan chunks (mid, e) (Some stop)) middle after →
-      IsLed all (exchanging plan chunks (begun from, e) (Some stop)) before after
+  pub led_to_failure : (stop : Stop) (most all : ℕ) (mid : Exchange) (middle : Devices) → most + 1 ≤ all → AreTurns most (exchanging plan chunks (begun from duplex, mid) None) before middle → IsTurn (exchanging plan chunks (mid, e) (Some stop)) middle after →
+      IsLed all (exchanging plan chunks (begun from duplex, e) (Some stop)) before after
   led_to_failure stop most all mid middle le turns turn =
-      led_by all stop (turns_wider plan chunks stop (most + 1) all (begun from) e before after le turn.only_fails (turns_join plan chunks most 1 (Some stop) (begun from) mid e before middle after turns turn.is_one)) (failed_tells stop turn.only_fails)
+      led_by all stop (turns_wider plan chunks stop (most + 1) all (begun from duplex) e before after le turn.only_fails (turns_join plan chunks most 1 (Some stop) (begun from duplex) mid e before middle after turns turn.is_one)) (failed_tells stop turn.only_fails)
     where
       failed_tells : (stop : Stop) → OnlyFails (Some stop) → TellsEnd (Some stop) e
       failed_tells (LineFailed fault) f = tt
@@ -208,6 +209,10 @@ module _ (plan : PlanValue) (chunks : List Chunk) (from : ℕ) (e : Exchange) (b
       failed_tells TurnsOver f = absurd f
 
 -- ---- one turn
+
+-- it verifies words and forgets none
+pub turn_grows : (plan : PlanValue) (chunks : List Chunk) (old new : Exchange) (heard : Heard) → new ≡ (advance plan.image chunks old heard).next → AreChunks plan old.from chunks → IsExchange chunks old → old.verified ≤ new.verified
+turn_grows plan chunks old new heard is are kept = subst (λ (e : Exchange). old.verified ≤ e.verified) (sym is) (step_grows plan chunks old heard are kept)
 
 pub turn_deaf : (plan : PlanValue) (chunks : List Chunk) (fault : LineFault) (e : Exchange) (line line' : Option (List Item)) → SaysNothing line line' → Exchanged 1 (exchanging plan chunks (e, e) (Some (LineFailed fault))) line line'
 turn_deaf plan chunks fault e line line' k =

@@ -1,7 +1,7 @@
 -- What may be believed of the engine's answer over a line at whose end a stub runs.
 use Rattle.std.specs.Prelude.{List, Option}
 use Rattle.host_devices.specs.declared.item.Item.{Item}
-use Rattle.load_engine.specs.Session.{HasGained}
+use Rattle.engine.specs.Session.{HasGained}
 use Rattle.exchange_law.specs.Law.{IsExchanged, MayExchange}
 use Rattle.exchange_law.specs.Line.{Link, Passes}
 use Rattle.exchange_law.specs.Station.{Program}

@@ -5,11 +5,11 @@ use Rattle.host_core.specs.Core.{Core}
 use Rattle.host_devices.specs.Devices.{Devices, LineTold, devices}
 use Rattle.host_devices.specs.Failures.{CountsFault, IsLastFault}
 use Rattle.host_devices.specs.Turns.{most_turns}
-use Rattle.load_engine.specs.declared.stop.Stop.{Stop as LoadStop}
+use Rattle.load_engine.specs.Driving.{LoadStop, driving}
 use Rattle.load_engine.specs.Driven.{IsDriven}
-use Rattle.load_engine.specs.Driving.{driving}
-use Rattle.load_engine.specs.Failing.{keep_fault as load_keep_fault}
-use Rattle.load_engine.specs.Keeping.{Keeping, keeping}
+use Rattle.engine.specs.Stopping.{keep_fault as load_keep_fault}
+use Rattle.host_devices.specs.declared.item.Kept.{Kept}
+use Rattle.engine.specs.Keeping.{Keeping, keeping}
 use Rattle.stub_engine.specs.declared.stop.Stop.{Stop}
 use Rattle.stub_engine.specs.declared.stop.Stop.TheVariants.{InVain}
 use Rattle.stub_engine.specs.declared.tally.Tally.{Tally}
@@ -24,7 +24,7 @@ pub record IsBringerDriven (first : Core) (answer : Core × LoadStop) (before af
   pub no_keeper : load_keep_fault (Some answer.1) ≡ None
 
 -- what stubs give a keeper: the words that became verified
-abbrev pub stubs_give : Bringing → Keeping
+abbrev pub stubs_give : Bringing → Keeping Kept
 stubs_give stubs = keeping (words_kept stubs.plan.words stubs.old.verified stubs.new.verified) (keep_fault (failure_of stubs.stop))
 
 -- three in a row in vain is said only where it is so

@@ -7,7 +7,8 @@ use Rattle.host_devices.specs.declared.item.Item.TheVariants.{Heard as Came}
 use Rattle.host_devices.specs.Devices.{Devices}
 use Rattle.host_devices.specs.Failures.{CountsFault, IsLastFault}
 use Rattle.host_devices.specs.Told.{Gains}
-use Rattle.load_engine.specs.Keeping.{Keeping, keeping}
+use Rattle.host_devices.specs.declared.item.Kept.{Kept}
+use Rattle.engine.specs.Keeping.{Keeping, keeping}
 use Rattle.exchange_core.specs.declared.chunk.Chunk.{Chunk}
 use Rattle.exchange_core.specs.declared.exchange.Exchange.{Exchange}
 use Rattle.exchange_core.specs.Exchange.{IsExchange, advance, ended, exchange_bound, led}
@@ -58,7 +59,7 @@ pub record Exchanged (most : ℕ) (turns : Exchanging) (line line' : Option (Lis
   pub on_line : Gains line line' said
 
 -- what they give a keeper: the words that became verified
-abbrev pub turns_give : Exchanging → Keeping
+abbrev pub turns_give : Exchanging → Keeping Kept
 turns_give turns = keeping (words_kept turns.plan.words turns.old.verified turns.new.verified) (keep_fault turns.stop)
 
 -- at most so many turns over these devices

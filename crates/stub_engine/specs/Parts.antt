@@ -7,9 +7,9 @@ use Rattle.host_core.specs.Core.{ended}
 use Rattle.host_core.specs.Laws.{led}
 use Rattle.host_devices.specs.declared.item.Item.{Item}
 use Rattle.host_devices.specs.Told.{Gains}
-use Rattle.load_engine.specs.declared.stop.Stop.{Stop as LoadStop}
-use Rattle.load_engine.specs.declared.stop.Stop.TheVariants.{Ended as LoadEnded, LineFailed as LoadLineFailed}
-use Rattle.load_engine.specs.declared.stop.Stop.TheVariants.{KeepFailed as LoadKeepFailed, TurnsOver as LoadTurnsOver}
+use Rattle.load_engine.specs.Driving.{LoadStop}
+use Rattle.engine.specs.declared.stop.Stop.TheVariants.{Ended as LoadEnded, LineFailed as LoadLineFailed}
+use Rattle.engine.specs.declared.stop.Stop.TheVariants.{KeepFailed as LoadKeepFailed, TurnsOver as LoadTurnsOver}
 use Rattle.exchange_core.specs.Chunk.{words_behind}
 use Rattle.exchange_core.specs.Exchange.{begun as exchange_begun, led as exchange_led}
 use Rattle.exchange_law.specs.Law.{said_all}
@@ -22,6 +22,7 @@ use Rattle.stub_engine.specs.declared.stop.Stop.{Stop}
 use Rattle.stub_engine.specs.declared.stop.Stop.TheVariants.{NotStarted, TurnsOver, LineFailed, KeepFailed}
 use Rattle.stub_engine.specs.declared.tally.Tally.{Tally}
 use Rattle.stub_engine.specs.Planning.{least_gain}
+use Rattle.stub_engine.specs.Tallies.{duplex_behind}
 
 -- so many stubs in a row that verify nothing are enough
 abbrev pub most_in_vain : ℕ
@@ -35,10 +36,12 @@ abbrev pub in_vain_by : PlanValue → ℕ → ℕ → List StubPart → ℕ
 in_vain_by tape v n [] = n
 in_vain_by tape v n (part ∷ more) = in_vain_by tape (verified_after tape v part) (in_vain_after tape v n part) more
 
--- a stub is brought in only by a host of this patience, where fewer than three in a row before it verified nothing, and where it may gain 256 words
+-- a stub is brought in only by a host of this patience, where fewer than three in a row before it verified nothing, and where it may gain 256 words; and
+-- where the one before it verified nothing the exchange with it goes one way at a time
 pub record IsWorth (patience v n : ℕ) (part : StubPart) : Type 0 where
   pub patient : part.patience ≡ patience
   pub few : n < most_in_vain
+  pub duplex : part.duplex ≡ duplex_behind n
   pub words : v + least_gain ≤ words_behind v part.chunks (length part.chunks)
 
 abbrev pub AreWorth : ℕ → PlanValue → ℕ → ℕ → List StubPart → Type 0
@@ -70,7 +73,8 @@ TellsEnd _ parts = ⊤
 -- the characters that were sent in a part
 abbrev pub sent_in : PlanValue → ℕ → StubPart → ℕ
 sent_in tape v part =
-    (led (bringer part) part.brought).sent + (if starts part then (exchange_led tape.image part.chunks (exchange_begun v) part.exchanged).sent else 0)
+    (led (bringer part) part.brought).sent
+    + (if starts part then (exchange_led tape.image part.chunks (exchange_begun v part.duplex) part.exchanged).sent else 0)
 
 -- in all of them
 abbrev pub sent_by : PlanValue → ℕ → List StubPart → ℕ

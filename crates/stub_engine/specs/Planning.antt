@@ -16,7 +16,7 @@ least_gain = 256
 
 -- a window behind the first words with room for a stub of so many stretches, the chunks of the words between, and the stretches that make these
 pub record IsLayout (tape : PlanValue) (from count : ℕ) (layout : StubLayout) : Type 0 where
-  pub window_is : IsWindow tape.words from (66 + 2 * count) layout.window
+  pub window_is : IsWindow tape.words from (64 + 2 * count) layout.window
   pub worth : from + least_gain ≤ layout.window
   pub chunks_are : AreChunksUpTo tape from layout.window layout.chunks.items
   pub stretches_are : AreStretches layout.chunks.items layout.stretches.items
@@ -35,11 +35,11 @@ pub data IsTried (tape : PlanValue) (from : ℕ) : ℕ → Type 0 where
 
 -- each window for a stub of so many stretches leaves too few words before it
 abbrev pub LeavesTooFew : PlanValue → ℕ → ℕ → Type 0
-LeavesTooFew tape from count = (i : ℕ) → IsWindow tape.words from (66 + 2 * count) i → i < from + least_gain
+LeavesTooFew tape from count = (i : ℕ) → IsWindow tape.words from (64 + 2 * count) i → i < from + least_gain
 
 -- there is no window for one, or the chunks before it make more stretches than it has room for
 pub data HasNoRoom (tape : PlanValue) (from count : ℕ) : Type 0 where
-  NoWindow : ((i : ℕ) → IsWindow tape.words from (66 + 2 * count) i → ⊥) → HasNoRoom tape from count
+  NoWindow : ((i : ℕ) → IsWindow tape.words from (64 + 2 * count) i → ⊥) → HasNoRoom tape from count
   MoreStretches : (layout : StubLayout) → IsLayout tape from count layout → count < length layout.stretches.items → HasNoRoom tape from count
 
 -- why none is laid out that has so many stretches

@@ -1,5 +1,7 @@
 -- How far the stubs of a load have come.
-use Rattle.std.specs.Prelude.{◌≡◌, ℕ, ◌+◌, ◌<◌, ◌⊎◌, ◌==◌, if◌then◌else◌}
+use Rattle.std.specs.Prelude.{◌≡◌, ℕ, zero, suc, ◌+◌, ◌<◌, ◌⊎◌, ◌==◌, if◌then◌else◌}
+use Rattle.exchange_core.specs.declared.duplex.Duplex.{Duplex}
+use Rattle.exchange_core.specs.declared.duplex.Duplex.TheVariants.{Full, Half}
 use Rattle.stub_engine.specs.declared.tally.Tally.{Tally}
 
 -- before the first stub
@@ -13,6 +15,11 @@ with_counts tally sent spent = record tally { sent = tally.sent + sent; spent = 
 -- with a stub behind which so many words are verified
 abbrev pub with_words : Tally → ℕ → Tally
 with_words tally verified = record tally { verified = verified; in_vain = if verified == tally.verified then tally.in_vain + 1 else 0 }
+
+-- whether the host sends while a stub answers: it does, but behind a stub that verified nothing
+abbrev pub duplex_behind : ℕ → Duplex
+duplex_behind zero = Full
+duplex_behind (suc in_vain) = Half
 
 -- behind one stub more: it verified nothing, or some words, and then none is in vain
 abbrev pub IsOneMore : Tally → Tally → Type 0

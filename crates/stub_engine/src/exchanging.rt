@@ -1,8 +1,8 @@
 ghost use Rattle.std.specs.Prelude.{◌≡◌, ◌≤◌, None, Some, length, OnOk, OnErr};
-ghost use Rattle.host_devices.specs.Devices.{calls_of, devices_of};
+ghost use Rattle.host_devices.specs.Devices.{devices_of};
+ghost use Rattle.engine.specs.Keeping.{keeping, progress_calls};
 ghost use Rattle.host_devices.specs.Failures.{count_after, fault_of};
 ghost use Rattle.host_devices.specs.Told.{Gains};
-ghost use Rattle.load_engine.specs.Keeping.{keeping};
 ghost use Rattle.exchange_core.specs.Chunk.{AreChunks};
 ghost use Rattle.exchange_core.specs.Exchange.{IsExchange, begun, ended};
 ghost use Rattle.exchange_law.specs.Law.{said_all};
@@ -11,12 +11,12 @@ ghost use Rattle.stub_engine.specs.Exchanging.{exchanging};
 ghost use Rattle.stub_engine.specs.Keeping.{IsKeptBy, IsToldBy, words_kept};
 
 use crate::exchange_stop::ExchangeStop;
-use exchange_core::{Chunk, Exchange};
+use exchange_core::{Chunk, Duplex, Exchange};
 use host_devices::{Keep, KeepFault, Line, LineFault, Onlooker, Sight};
 use tape_image::{Plan, Word};
 
 /// Exchanges the chunks with the stub at the other end of the line, behind the plan's first `from`
-/// words, for at most so many turns.
+/// words, for at most so many turns, and sends while answers come, or one way at a time.
 ///
 /// Before each turn, and after the last, an end of the exchange stops the engine. In a turn one thing
 /// is heard, the exchange takes its step, the words that became verified are kept one after another,
@@ -27,17 +27,18 @@ pub fn exchange<L: Line, K: Keep, O: Onlooker>(
     plan: &Plan,
     chunks: &[Chunk],
     from: u32,
+    duplex: Duplex,
     line: &mut L,
     keep: &mut K,
     turns: u64,
     onlooker: &O,
 ) -> (Exchange, ExchangeStop)
     requires chunks { AreChunks plan.now from chunks.now }
-    ensures led { IsLed turns (exchanging plan.now chunks.now (begun from, result.0) (Some result.1))
+    ensures led { IsLed turns (exchanging plan.now chunks.now (begun from duplex, result.0) (Some result.1))
         (devices_of L.Line K.Keep line.old keep.old) (devices_of L.Line K.Keep line.new keep.new) }
-    ensures kept { IsKeptBy (calls_of K.Keep) (turns_give (exchanging plan.now chunks.now (begun from, result.0) (Some result.1))) keep.old keep.new }
+    ensures kept { IsKeptBy (progress_calls K.Keep) (turns_give (exchanging plan.now chunks.now (begun from duplex, result.0) (Some result.1))) keep.old keep.new }
 {
-    let mut state = Exchange::new(from);
+    let mut state = Exchange::new(from, duplex);
     let mut end = state.end();
     for _ in 0..turns {
         if let Some(end) = end {
@@ -69,7 +70,7 @@ fn turn<L: Line, K: Keep, O: Onlooker>(
     requires goes_on { ended state.old.phase ≡ None }
     ensures turn { IsTurn (exchanging plan.now chunks.now (state.old, state.new) (fault_of result))
         (devices_of L.Line K.Keep line.old keep.old) (devices_of L.Line K.Keep line.new keep.new) }
-    ensures kept { IsKeptBy (calls_of K.Keep) (turns_give (exchanging plan.now chunks.now (state.old, state.new) (fault_of result))) keep.old keep.new }
+    ensures kept { IsKeptBy (progress_calls K.Keep) (turns_give (exchanging plan.now chunks.now (state.old, state.new) (fault_of result))) keep.old keep.new }
 {
     let heard = match line.hear() {
         Ok(heard) => heard,
@@ -98,7 +99,7 @@ fn keep_words<K: Keep>(keep: &mut K, words: &[Word], from: u32, to: u32) -> Resu
     requires order { from ≤ to }
     requires within { to ≤ length words.now }
     ensures told { IsToldBy (keeping (words_kept words.now from to) (fault_of result)) (K.told keep.old) (K.told keep.new) }
-    ensures kept { IsKeptBy (calls_of K.Keep) (keeping (words_kept words.now from to) (fault_of result)) keep.old keep.new }
+    ensures kept { IsKeptBy (progress_calls K.Keep) (keeping (words_kept words.now from to) (fault_of result)) keep.old keep.new }
 {
     for number in from..to {
         if let Err(fault) = keep.add(words[number as usize]) {

@@ -1,6 +1,7 @@
 //! The stubs of a load.
 ghost use Rattle.std.specs.Prelude.{◌≡◌, ◌<◌, ◌≤◌, ◌^◌, length, Some};
-ghost use Rattle.host_devices.specs.Devices.{calls_of, devices_of};
+ghost use Rattle.host_devices.specs.Devices.{devices_of};
+ghost use Rattle.engine.specs.Keeping.{progress_calls};
 ghost use Rattle.host_devices.specs.Failures.{fault_of};
 ghost use Rattle.stub_engine.specs.Brought.{AreAllStubs, IsNextStub, stubs_give};
 ghost use Rattle.stub_engine.specs.Keeping.{IsKeptBy};
@@ -26,9 +27,10 @@ const MOST_IN_VAIN: u32 = 3;
 /// stop. How far that came is in the tally.
 ///
 /// A stub is planned for the words that are not verified; a host of so much patience types and starts it,
-/// of which nothing is kept, and the onlooker is told only that it begins; and in the exchange with it the words that become verified
-/// are kept, and the onlooker is told of each step. The first failure of a device stops it all, and
-/// so does a stub that did not start.
+/// of which nothing is kept, and the onlooker is told only that it begins; and in the exchange with it the
+/// words that become verified are kept, and the onlooker is told of each step. Behind a stub that verified
+/// nothing the exchange goes one way at a time. The first failure of a device stops it all, and so does a
+/// stub that did not start.
 pub fn bring_in<L: Line, K: Keep, O: Onlooker>(
     alloc: Global,
     plan: &Plan,
@@ -41,7 +43,7 @@ pub fn bring_in<L: Line, K: Keep, O: Onlooker>(
     requires within { verified ≤ length plan.now.words }
     ensures brought { AreAllStubs (bringing plan.now patience (begun verified, result.0) (Some result.1))
         (devices_of L.Line K.Keep line.old keep.old) (devices_of L.Line K.Keep line.new keep.new) }
-    ensures kept { IsKeptBy (calls_of K.Keep) (stubs_give (bringing plan.now patience (begun verified, result.0) (Some result.1))) keep.old keep.new }
+    ensures kept { IsKeptBy (progress_calls K.Keep) (stubs_give (bringing plan.now patience (begun verified, result.0) (Some result.1))) keep.old keep.new }
 {
     let mut tally = Tally::begun(verified);
     while tally.in_vain < MOST_IN_VAIN {
@@ -68,7 +70,7 @@ fn part<L: Line, K: Keep, O: Onlooker>(
     requires spent_fits { tally.old.spent ≤ 2 ^ 60 }
     ensures brought { IsNextStub (bringing plan.now patience (tally.old, tally.new) (fault_of result))
         (devices_of L.Line K.Keep line.old keep.old) (devices_of L.Line K.Keep line.new keep.new) }
-    ensures kept { IsKeptBy (calls_of K.Keep) (stubs_give (bringing plan.now patience (tally.old, tally.new) (fault_of result))) keep.old keep.new }
+    ensures kept { IsKeptBy (progress_calls K.Keep) (stubs_give (bringing plan.now patience (tally.old, tally.new) (fault_of result))) keep.old keep.new }
 {
     let planned = match planned_stub(alloc, plan, tally.verified) {
         Ok(planned) => planned,
@@ -86,6 +88,7 @@ fn part<L: Line, K: Keep, O: Onlooker>(
         plan,
         &chunks,
         tally.verified,
+        tally.duplex(),
         line,
         keep,
         MOST_TURNS,

@@ -1,5 +1,7 @@
 ghost use Rattle.std.specs.Prelude.{◌≡◌, ◌<◌, ◌≤◌, ◌^◌};
-ghost use Rattle.stub_engine.specs.Tallies.{begun, with_counts, with_words};
+ghost use Rattle.stub_engine.specs.Tallies.{begun, duplex_behind, with_counts, with_words};
+
+use exchange_core::Duplex;
 
 /// How far the stubs of a load have come.
 #[derive(Clone, Copy, Debug, PartialEq, Eq)]
@@ -27,6 +29,17 @@ impl Tally {
             sent: 0,
             spent: 0,
             in_vain: 0,
+        }
+    }
+
+    /// Whether the host sends while the next stub answers: not where the last one verified nothing.
+    pub(crate) fn duplex(self) -> Duplex
+        ensures { result ≡ duplex_behind self.in_vain }
+    {
+        if self.in_vain == 0 {
+            Duplex::Full
+        } else {
+            Duplex::Half
         }
     }
 

@@ -19,7 +19,7 @@ mod counting_onlooker;
 #[cfg(test)]
 mod devices;
 #[cfg(test)]
-mod engine;
+mod driven;
 #[cfg(test)]
 mod host;
 #[cfg(test)]

@@ -22,7 +22,7 @@ returns-then-not-goes_on c =
     let below : c.loop-more.more < length plan.words = omega (arith, c.loop-more-test.true, c.requires.within) in
     let bytes = read_bytes c.words-words.result.now plan.words c.loop-more.more c.index-words-more.result c.bytes_of-bytes.result c.words-words.ensures.value below c.index-words-more.is c.bytes_of-bytes.ensures in
     part_chunk plan c.args.number c.loop-more.more c.args.to c.loop-more.chunk c.words-words.ensures.sound (omega (arith, c.loop-more-test.true)) c.requires.within c.loop-more.invariant
-    (λ more follows. elim (cases_eq (end_of c.loop-more.chunk % 16) 0) [
+    (λ more follows. elim (cases_eq (end_of c.loop-more.chunk % 64) 0) [
       | inl there ↦ there
       | inr apart ↦ absurd (cc (sym c.if-not-goes_on.true ∙ c.goes_on.ensures.1 (ap (λ (s : Stretch). s.from) bytes ∙ follows, apart)))
     ])

@@ -1,5 +1,6 @@
 use Rattle.std.proofs.Common.{◌∙◌, refl, rules, subst, sym}
-use Rattle.host_devices.specs.Devices.{calls_of, devices_of, line_told}
+use Rattle.host_devices.specs.Devices.{devices_of, line_told}
+use Rattle.engine.specs.Keeping.{progress_calls}
 use Rattle.machine_load.specs.Asked.{opened_as, task, ◌⇒◌}
 use Rattle.machine_load.specs.Beginning.{IsBeginning, IsBeginningOn, SendsFew, asked_to_begin}
 use Rattle.machine_load.specs.Driving.{IsDrivenOn}
@@ -80,12 +81,12 @@ returns g c =
     let answer = c.match-hindrance.core in
     let host : IsDrivenBehind (course first stubs answer) (devices_of g.S.Line.Line g.S.Keeper.Keep c.bring_stubs-stubs.new.line c.bring_stubs-stubs.new.keeper)
     (devices_of g.S.Line.Line g.S.Keeper.Keep c.match-hindrance.line c.match-hindrance.keeper)
-    × IsKeptBehind (calls_of g.S.Keeper.Keep) (course first stubs answer) c.bring_stubs-stubs.new.keeper c.match-hindrance.keeper =
+    × IsKeptBehind (progress_calls g.S.Keeper.Keep) (course first stubs answer) c.bring_stubs-stubs.new.keeper c.match-hindrance.keeper =
     elim c.match-hindrance.branch [
       | in-Some w ↦ rw (w.core-is, w.line-is, w.keeper-is)
-          (hindered (calls_of g.S.Keeper.Keep) first stubs c.host_behind-core.result w.in-Some.stop _ c.bring_stubs-stubs.new.keeper (sym w.in-Some.is ∙ c.hindrance.ensures) c.host_behind-core.ensures)
+          (hindered (progress_calls g.S.Keeper.Keep) first stubs c.host_behind-core.result w.in-Some.stop _ c.bring_stubs-stubs.new.keeper (sym w.in-Some.is ∙ c.hindrance.ensures) c.host_behind-core.ensures)
       | in-None w ↦ rw (w.core-is, w.line-is, w.keeper-is)
-          (free (calls_of g.S.Keeper.Keep) first stubs c.host_behind-core.result w.drive.result _ _ _ _ (sym w.in-None.is ∙ c.hindrance.ensures) c.host_behind-core.ensures w.drive.ensures.driven w.drive.ensures.kept)
+          (free (progress_calls g.S.Keeper.Keep) first stubs c.host_behind-core.result w.drive.result _ _ _ _ (sym w.in-None.is ∙ c.hindrance.ensures) c.host_behind-core.ensures w.drive.ensures.driven w.drive.ensures.kept)
     ] in
     let is = driven tells asked before opened between c.in_ok-first.first c.in_ok-first.writable
     (record {

@@ -1,21 +1,16 @@
-use Rattle.std.proofs.Common.{◌≡◌, ◌∷◌, [], Some, length, refl, subst, sym}
+use Rattle.std.proofs.Common.{None, Some, subst, sym}
 use Rattle.std.specs.Io.KnownBytes.{Appends}
 use Rattle.std.proofs.KnownBytes.{Appends-nil}
-use Rattle.byte_io.proofs.Fronts.{front_longer}
 use Rattle.console_lines.specs.Dialling.{asked_once}
 use Rattle.host_devices.specs.Devices.{line_told}
-use Rattle.host_devices.specs.Failures.{CountsFault}
 use Rattle.host_devices.specs.Told.{Gains}
 use Rattle.host_devices.specs.Turns.{most_turns}
-use Rattle.looking_engine.specs.Stopping.{line_fault}
-use Rattle.looking_engine.specs.Inquired.{Inquired, inquiry}
-use Rattle.request_values.specs.Change.{◌⇒◌}
-use Rattle.machine_look.specs.Differences.{differences}
-use Rattle.machine_look.specs.Look.{AsksOnce, IsLineOf}
-use Rattle.machine_look.specs.VerifyReport.{difference_lines, last_lines}
-use Rattle.machine_look.proofs.Looks.{is_look_of, no_look}
-use Rattle.machine_look.proofs.Shown.{fault_known, no_lines}
-use Rattle.machine_look.proofs.Turning.{done_known}
+use Rattle.looking_engine.specs.Inquired.{IsInquired, inquiry}
+use Rattle.machine_look.specs.Look.{AsksOnce}
+use Rattle.machine_look.specs.Shown.{Shows}
+use Rattle.machine_look.specs.VerifyReport.{difference_lines}
+use Rattle.machine_look.proofs.Looks.{look_over, no_look}
+use Rattle.machine_look.proofs.Shown.{no_lines}
 use Rattle.machine_look.proofs.comparing.compare_over.Goals as goal
 
 pub returns-in-Some-clause-look : goal.returns-in-Some-clause-look
@@ -23,56 +18,32 @@ returns-in-Some-clause-look g c = no_look c.args.core c.in-Some.end (g.R.Reach.l
 
 pub returns-in-Some-clause-shown : goal.returns-in-Some-clause-shown
 returns-in-Some-clause-shown g c =
-    let out = g.W.Write.contents c.args.out.now in subst (Appends out out) (sym (no_lines c.args.words.now c.args.core.values c.requires.fresh)) (Appends-nil out)
+    let out = g.W.Write.contents c.args.out.now in subst (Appends out out) (sym (no_lines c.args.words.now c.args.core.values c.requires)) (Appends-nil out)
 
-pub returns-in-Ok-clause-look : goal.returns-in-Ok-clause-look
-returns-in-Ok-clause-look g c =
+pub returns-in-Some-stop-clause-look : goal.returns-in-Some-stop-clause-look
+returns-in-Some-stop-clause-look g c =
     let told = line_told g.R.Line.Line in
-    let read = c.compare-core.ensures in
-    let i = read.inquired.3 in
-    let stop = c.compare-core.result.stop in
-    let lines' = g.R.Reach.lines c.let_go.new.self in
-    let all : read.inquired.0 ≡ most_turns = done_known _ c.compare-core.result.shown _ c.in-Ok.is read.inquired.2 in
-    is_look_of most_turns _ _ _ (told c.in_ok-line.line).said (told c.compare-core.new.line).said (g.R.Reach.lines c.args.console.now) lines' c.end.ensures.kept
-    (subst (λ n. Inquired n (inquiry c.args.core c.compare-core.result.core (Some stop)) (told c.in_ok-line.line).said (told c.compare-core.new.line).said) all i.turns.session)
-    (subst (λ over. IsLineOf over stop ((told c.in_ok-line.line).said ⇒ (told c.compare-core.new.line).said) (g.R.Reach.lines c.args.console.now ⇒ lines')) c.in_default.ensures.value (record {
-      fresh = c.in_ok-line.ensures.fresh.nothing_said;
-      last = told c.compare-core.new.line;
-      said = refl;
-      counted = subst (λ n. CountsFault (line_fault (Some stop)) n (told c.compare-core.new.line).failures) c.in_ok-line.ensures.fresh.none_failed i.turns.counted;
-      named = i.turns.named;
-      given = subst (λ lines. Gains lines lines' (told c.compare-core.new.line ∷ [])) c.in_ok-line.ensures.lines c.let_go.ensures.lines;
-    }))
-    i.turns.end i.same_addresses i.same_patience i.bound i.kept
+    let read = c.compare-core in
+    look_over (Some c.in-Some-stop.stop) c.args.core read.result.0 (told c.in_ok-line.line) (told read.new.line) (g.R.Reach.lines c.args.console.now) (g.R.Reach.lines c.reach.new.self) (g.R.Reach.lines c.let_go.new.self) c.end.ensures.kept (sym c.in_default.ensures.value)
+    (subst (λ stop. IsInquired most_turns (inquiry c.args.core read.result.0 stop) (told c.in_ok-line.line) (told read.new.line)) c.in-Some-stop.is read.ensures.inquired)
+    c.in_ok-line.ensures.fresh.nothing_said c.in_ok-line.ensures.fresh.none_failed c.in_ok-line.ensures.lines c.let_go.ensures.lines
 
-pub returns-in-Err-clause-fault : goal.returns-in-Err-clause-fault
-returns-in-Err-clause-fault g c =
+pub returns-in-Some-stop-clause-shown : goal.returns-in-Some-stop-clause-shown
+returns-in-Some-stop-clause-shown g c =
+    let read = c.compare-core in
+    subst (λ stop. Shows stop (g.W.Write.contents c.args.out.now) (g.W.Write.contents read.new.out) (difference_lines c.args.words.now read.result.0.values)) c.in-Some-stop.is read.ensures.shown
+
+pub returns-in-None-clause-fault : goal.returns-in-None-clause-fault
+returns-in-None-clause-fault g c =
     let told = line_told g.R.Line.Line in
-    let read = c.compare-core.ensures in
-    let i = read.inquired.3 in
-    let last = c.compare-core.result.core in
-    let stop = c.compare-core.result.stop in
-    let words = c.args.words.now in
-    let lines' = g.R.Reach.lines c.let_go.new.self in
-    let out = g.W.Write.contents c.args.out.now in
-    let out' = g.W.Write.contents c.compare-core.new.out in
-    let front = front_longer out out' (difference_lines words last.values) (last_lines (length words) last (length (differences words last.values)) stop)
-    (fault_known _ c.compare-core.result.shown _ c.in-Err.is read.cut_short out (Appends-nil out)) in
+    let read = c.compare-core in
+    let front = subst (λ stop. Shows stop (g.W.Write.contents c.args.out.now) (g.W.Write.contents read.new.out) (difference_lines c.args.words.now read.result.0.values)) c.in-None.is read.ensures.shown in
     record {
-      turns = read.inquired.0;
-      few = read.inquired.1;
-      last = last;
-      stop = stop;
-      look = is_look_of read.inquired.0 _ _ _ (told c.in_ok-line.line).said (told c.compare-core.new.line).said (g.R.Reach.lines c.args.console.now) lines' c.end.ensures.kept i.turns.session
-          (subst (λ over. IsLineOf over stop ((told c.in_ok-line.line).said ⇒ (told c.compare-core.new.line).said) (g.R.Reach.lines c.args.console.now ⇒ lines')) c.in_default.ensures.value (record {
-            fresh = c.in_ok-line.ensures.fresh.nothing_said;
-            last = told c.compare-core.new.line;
-            said = refl;
-            counted = subst (λ n. CountsFault (line_fault (Some stop)) n (told c.compare-core.new.line).failures) c.in_ok-line.ensures.fresh.none_failed i.turns.counted;
-            named = i.turns.named;
-            given = subst (λ lines. Gains lines lines' (told c.compare-core.new.line ∷ [])) c.in_ok-line.ensures.lines c.let_go.ensures.lines;
-          }))
-          i.turns.end i.same_addresses i.same_patience i.bound i.kept;
+      last = read.result.0;
+      stop = None;
+      look = look_over None c.args.core read.result.0 (told c.in_ok-line.line) (told read.new.line) (g.R.Reach.lines c.args.console.now) (g.R.Reach.lines c.reach.new.self) (g.R.Reach.lines c.let_go.new.self) c.end.ensures.kept (sym c.in_default.ensures.value)
+          (subst (λ stop. IsInquired most_turns (inquiry c.args.core read.result.0 stop) (told c.in_ok-line.line) (told read.new.line)) c.in-None.is read.ensures.inquired)
+          c.in_ok-line.ensures.fresh.nothing_said c.in_ok-line.ensures.fresh.none_failed c.in_ok-line.ensures.lines c.let_go.ensures.lines;
       asked = subst (λ over. AsksOnce over (g.R.Reach.call c.args.console.now) (g.R.Reach.asked c.args.console.now) (g.R.Reach.asked c.let_go.new.self)) c.in_default.ensures.value
           (subst (λ asked. Gains (g.R.Reach.asked c.args.console.now) asked (asked_once (g.R.Reach.call c.args.console.now))) (sym c.let_go.ensures.asked) c.in_ok-line.ensures.asked);
       missing = front.0;

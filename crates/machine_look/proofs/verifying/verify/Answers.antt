@@ -1,9 +1,8 @@
-use Rattle.std.proofs.Common.{List, ℕ, length, ap, subst, ◌∙◌, arith, refl}
+use Rattle.std.proofs.Common.{List, ℕ, length, Some, ap, subst, ◌∙◌, refl}
 use Rattle.std.specs.Io.KnownBytes.{Appends}
 use Rattle.std.proofs.KnownBytes.{Appends-trans, Keeps-refl}
 use Rattle.byte_io.specs.Output.{WritesPrefix}
 use Rattle.byte_io.proofs.Fronts.{front_behind}
-use Rattle.host_devices.specs.Turns.{most_turns}
 use Rattle.tape_image.specs.Word.{WordValue}
 use Rattle.machine_look.specs.declared.look_fault.LookFault.TheVariants.{WriteOutput, Memory}
 use Rattle.console_lines.specs.Console.{console_told}
@@ -55,10 +54,8 @@ returns-in_err-write_and_flush-clause-err g c =
     let front = front_behind before.out (g.W.Write.contents c.compare_over.new.out) after.out (difference_lines plan.words last.values) (last_lines (length plan.words) last (length (differences plan.words last.values)) stop) shown
     (subst (λ (t : List ℕ). WritesPrefix (g.W.Write.contents c.compare_over.new.out) after.out t) text c.in_err-write_and_flush.ensures.err) in
     error_is c.from_residual-in_err-write_and_flush.result WriteOutput (IsVerifyFault plan c.args.patience (before ⇒ after)) c.from_residual-in_err-write_and_flush.ensures.1 (record {
-      turns = most_turns;
-      few = omega arith;
       last = last;
-      stop = stop;
+      stop = Some stop;
       look = verified.look;
       asked = verified.asked;
       missing = front.0;

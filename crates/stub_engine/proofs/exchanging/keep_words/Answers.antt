@@ -1,5 +1,5 @@
 use Rattle.std.proofs.Common.{◌≡◌, ◌<◌, [], ◌∷◌, length, arith, subst, ◌∙◌}
-use Rattle.host_devices.specs.Devices.{calls_of}
+use Rattle.engine.specs.Keeping.{progress_calls}
 use Rattle.tape_image.specs.Word.{WordValue}
 use Rattle.host_devices.specs.declared.item.Kept.TheVariants.{Word}
 use Rattle.host_devices.specs.Failures.{one_more}
@@ -30,6 +30,6 @@ returns-in-Err-clause-kept g c =
     let P : WordValue → Type 0 = λ w. g.K.Keep.fails c.loop-number.keep (Word w) c.add.new.self in record {
       counted = subst (λ n. g.K.Keep.fault_count c.add.new.self ≡ one_more n) c.loop-number.invariant.counted c.in-Err.ensures.counted;
       named = c.in-Err.ensures.fault;
-      each = front_stops (calls_of g.K.Keep) c.args.keep.now c.loop-number.keep c.add.new.self c.args.words.now c.args.from c.loop-number.number c.args.to c.index-words-number.result c.loop-number.auto.number c.loop-number-test.true c.requires.within c.loop-number.invariant.keeps
+      each = front_stops (progress_calls g.K.Keep) c.args.keep.now c.loop-number.keep c.add.new.self c.args.words.now c.args.from c.loop-number.number c.args.to c.index-words-number.result c.loop-number.auto.number c.loop-number-test.true c.requires.within c.loop-number.invariant.keeps
           (subst P c.index-words-number.is c.in-Err.ensures.fails);
     }

@@ -1,6 +1,6 @@
 use Rattle.std.proofs.Common.{◌≡◌}
 use Rattle.host_devices.specs.Told.{Gains}
-use Rattle.load_engine.specs.Keeping.{KeepsEach}
+use Rattle.engine.specs.Keeping.{KeepsEach}
 use Rattle.stub_engine.specs.Keeping.{words_kept}
 use Rattle.stub_engine.proofs.exchanging.keep_words.Given as goal
 

@@ -1,9 +1,13 @@
-use Rattle.std.proofs.Common.{◌≡◌, ◌≤◌, arith, refl, rules, subst, ◌∙◌}
+use Rattle.std.proofs.Common.{◌≡◌, ◌≤◌, arith, refl, subst, ◌∙◌}
 use Rattle.host_devices.specs.Failures.{one_more}
 use Rattle.stub_engine.proofs.Keepings.{kept_none, told_begins}
-use Rattle.stub_engine.proofs.Stretches.{turn_deaf, turn_unkept, turn_sent, turn_unsent}
+use Rattle.stub_engine.proofs.Stretches.{turn_deaf, turn_grows, turn_sent, turn_unkept, turn_unsent}
 use Rattle.stub_engine.proofs.exchanging.turn.Goals as goal
-use Rattle.host_devices.specs.Devices.{calls_of}
+use Rattle.engine.specs.Keeping.{progress_calls}
+
+pub keep_words-requires-clause-order : goal.keep_words-requires-clause-order
+keep_words-requires-clause-order g c =
+    turn_grows c.args.plan.now c.args.chunks.now c.args.state.now c.step-asked.result.next c.in-Ok.heard c.step-asked.ensures.next c.requires.chunks c.requires.kept
 
 pub returns-in-Err-clause-turn : goal.returns-in-Err-clause-turn
 returns-in-Err-clause-turn g c = record {
@@ -20,11 +24,13 @@ returns-in-Err-clause-turn g c = record {
 }
 
 pub returns-in-Err-clause-kept : goal.returns-in-Err-clause-kept
-returns-in-Err-clause-kept g c = kept_none (calls_of g.K.Keep) c.args.keep.now c.args.plan.now.words c.args.state.now.verified c.args.state.now.verified (omega arith)
+returns-in-Err-clause-kept g c = kept_none (progress_calls g.K.Keep) c.args.keep.now c.args.plan.now.words c.args.state.now.verified c.args.state.now.verified (omega arith)
 
 pub returns-in-Err-keep_words-clause-turn : goal.returns-in-Err-keep_words-clause-turn
 returns-in-Err-keep_words-clause-turn g c =
-    let grows : c.args.state.now.verified ≤ c.step-asked.result.next.verified = search rules in record {
+    let grows : c.args.state.now.verified ≤ c.step-asked.result.next.verified =
+    turn_grows c.args.plan.now c.args.chunks.now c.args.state.now c.step-asked.result.next c.in-Ok.heard c.step-asked.ensures.next c.requires.chunks c.requires.kept
+    in record {
       is_one = record {
         session = turn_unkept c.args.plan.now c.args.chunks.now c.in-Err-keep_words.fault c.args.state.now c.step-asked.result.next c.in-Ok.heard (g.L.Line.told c.args.line.now) (g.L.Line.told c.hear.new.self) c.requires.goes_on c.step-asked.ensures.next c.in-Ok.ensures.heard;
         counted = c.in-Ok.ensures.counted;
@@ -39,7 +45,9 @@ returns-in-Err-keep_words-clause-turn g c =
 
 pub returns-in-Ok-send_all-clause-turn : goal.returns-in-Ok-send_all-clause-turn
 returns-in-Ok-send_all-clause-turn g c =
-    let grows : c.args.state.now.verified ≤ c.step-asked.result.next.verified = search rules in record {
+    let grows : c.args.state.now.verified ≤ c.step-asked.result.next.verified =
+    turn_grows c.args.plan.now c.args.chunks.now c.args.state.now c.step-asked.result.next c.in-Ok.heard c.step-asked.ensures.next c.requires.chunks c.requires.kept
+    in record {
       is_one = record {
         session = turn_sent c.args.plan.now c.args.chunks.now c.args.state.now c.step-asked.result.next c.in-Ok.heard c.deref.result.now (g.L.Line.told c.args.line.now) (g.L.Line.told c.hear.new.self) (g.L.Line.told c.send_all.new.line) c.requires.goes_on c.step-asked.ensures.next (c.deref.ensures.0 ∙ c.step-asked.ensures.keys)
             c.in-Ok.ensures.heard c.in-Ok-send_all.ensures.sent;
@@ -55,7 +63,9 @@ returns-in-Ok-send_all-clause-turn g c =
 
 pub returns-in-Err-send_all-clause-turn : goal.returns-in-Err-send_all-clause-turn
 returns-in-Err-send_all-clause-turn g c =
-    let grows : c.args.state.now.verified ≤ c.step-asked.result.next.verified = search rules in record {
+    let grows : c.args.state.now.verified ≤ c.step-asked.result.next.verified =
+    turn_grows c.args.plan.now c.args.chunks.now c.args.state.now c.step-asked.result.next c.in-Ok.heard c.step-asked.ensures.next c.requires.chunks c.requires.kept
+    in record {
       is_one = record {
         session = turn_unsent c.args.plan.now c.args.chunks.now c.in-Err-send_all.fault c.args.state.now c.step-asked.result.next c.in-Ok.heard c.deref.result.now (g.L.Line.told c.args.line.now) (g.L.Line.told c.hear.new.self) (g.L.Line.told c.send_all.new.line) c.requires.goes_on c.step-asked.ensures.next (c.deref.ensures.0 ∙ c.step-asked.ensures.keys)
             c.in-Ok.ensures.heard c.in-Err-send_all.ensures.not_sent;

@@ -1,9 +1,9 @@
 use Rattle.std.proofs.Common.{arith, ap, sym, subst, ◌∙◌, Some}
-use Rattle.host_devices.specs.Devices.{calls_of, devices_of, line_told}
+use Rattle.host_devices.specs.Devices.{devices_of, line_told}
+use Rattle.engine.specs.Keeping.{keeping, progress_calls}
 use Rattle.host_devices.specs.Failures.{fault_of}
 use Rattle.stub_engine.specs.declared.tally.Tally.{Tally}
 use Rattle.stub_engine.specs.Failing.{keep_fault}
-use Rattle.load_engine.specs.Keeping.{keeping}
 use Rattle.stub_engine.specs.Keeping.{IsKeptBy, words_kept}
 use Rattle.stub_engine.specs.Parts.{failure_of}
 use Rattle.stub_engine.proofs.Brought.{kept_nothing, not_started, started, unplanned}
@@ -18,7 +18,7 @@ returns-in-Err-clause-brought g c = unplanned c.args.plan.now c.args.patience c.
 pub returns-in-Err-clause-kept : goal.returns-in-Err-clause-kept
 returns-in-Err-clause-kept g c =
     let whole = unplanned_whole c.in-Err.stop c.in-Err.ensures.unplanned in
-    kept_nothing (calls_of g.K.Keep) (keep_fault (failure_of (Some c.in-Err.stop))) c.args.keep.now c.args.plan.now.words c.args.tally.now.verified c.args.tally.now.verified (ap keep_fault whole.no_failure) (omega arith)
+    kept_nothing (progress_calls g.K.Keep) (keep_fault (failure_of (Some c.in-Err.stop))) c.args.keep.now c.args.plan.now.words c.args.tally.now.verified c.args.tally.now.verified (ap keep_fault whole.no_failure) (omega arith)
 
 -- the stub did not start
 pub returns-in-Some-clause-brought : goal.returns-in-Some-clause-brought
@@ -30,7 +30,7 @@ returns-in-Some-clause-brought g c =
 pub returns-in-Some-clause-kept : goal.returns-in-Some-clause-kept
 returns-in-Some-clause-kept g c =
     let same = ap (λ (t : Tally). t.verified) c.with_words.ensures in
-    kept_nothing (calls_of g.K.Keep) (keep_fault (failure_of (Some c.in-Some.stop))) c.args.keep.now c.args.plan.now.words c.args.tally.now.verified c.with_words.result.verified
+    kept_nothing (progress_calls g.K.Keep) (keep_fault (failure_of (Some c.in-Some.stop))) c.args.keep.now c.args.plan.now.words c.args.tally.now.verified c.with_words.result.verified
     (ap (λ why. keep_fault (failure_of why)) c.in-Some.ensures ∙ keep_unstarted c.bring-core.result.1 c.bring-core.ensures.no_keeper) (omega (arith, same))
 
 -- an exchange followed
@@ -39,7 +39,7 @@ returns-clause-brought g c =
     let tally = tally_exchanged c.args.tally.now c.with_counts-brought.result c.with_counts.result c.with_words-2.result c.bring-core.result.0 c.exchange-stop.result.0 c.sent_count.result c.spent.result c.from.result c.sent_count.ensures.value c.spent.ensures.value c.from.ensures c.with_counts-brought.ensures
     c.with_counts.ensures c.with_words-2.ensures in
     started c.args.plan.now c.args.patience c.args.tally.now c.with_words-2.result c.in-Ok.planned.plan c.in-Ok.planned.chunks.items c.bring-core.result c.exchange-stop.result.0 c.exchange-stop.result.1 (fault_of c.left_by.result) (line_told g.L.Line c.args.line.now) (line_told g.L.Line c.bring-core.new.line)
-    (line_told g.L.Line c.exchange-stop.new.line) (g.K.Keep.told c.args.keep.now) (g.K.Keep.told c.exchange-stop.new.keep) c.in-Ok.ensures.planned c.ranges.patience.fits c.requires.worth (sym c.why_unstarted.ensures ∙ c.in_default.is) c.left_by.ensures c.bring-core.ensures (rw (c.deref.ensures.value) at c.exchange-stop.ensures.led)
+    (line_told g.L.Line c.exchange-stop.new.line) (g.K.Keep.told c.args.keep.now) (g.K.Keep.told c.exchange-stop.new.keep) c.in-Ok.ensures.planned c.ranges.patience.fits c.requires.worth (sym c.why_unstarted.ensures ∙ c.in_default.is) c.left_by.ensures c.bring-core.ensures (rw (c.duplex.ensures) at (rw (c.deref.ensures.value) at c.exchange-stop.ensures.led))
     (let same = c.sent_count.ensures.value in let most = c.sent_count.ensures.most in omega (arith, same, most)) tally
 
 pub returns-clause-kept : goal.returns-clause-kept
@@ -47,5 +47,5 @@ returns-clause-kept g c =
     let words = c.args.plan.now.words in
     let v = c.args.tally.now.verified in
     let same = ap (λ (t : Tally). t.verified) c.with_words-2.ensures in
-    subst (λ fault. IsKeptBy (calls_of g.K.Keep) (keeping (words_kept words v c.with_words-2.result.verified) fault) c.args.keep.now c.exchange-stop.new.keep) (sym (keep_left c.exchange-stop.result.1 (fault_of c.left_by.result) c.left_by.ensures))
-    (subst (λ n. IsKeptBy (calls_of g.K.Keep) (keeping (words_kept words v n) (keep_fault (Some c.exchange-stop.result.1))) c.args.keep.now c.exchange-stop.new.keep) (sym same) c.exchange-stop.ensures.kept)
+    subst (λ fault. IsKeptBy (progress_calls g.K.Keep) (keeping (words_kept words v c.with_words-2.result.verified) fault) c.args.keep.now c.exchange-stop.new.keep) (sym (keep_left c.exchange-stop.result.1 (fault_of c.left_by.result) c.left_by.ensures))
+    (subst (λ n. IsKeptBy (progress_calls g.K.Keep) (keeping (words_kept words v n) (keep_fault (Some c.exchange-stop.result.1))) c.args.keep.now c.exchange-stop.new.keep) (sym same) c.exchange-stop.ensures.kept)

@@ -1,0 +1,4 @@
+pub mod Fronts
+pub mod Keepings
+pub mod Sessions
+pub mod Turns

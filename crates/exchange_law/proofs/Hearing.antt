@@ -20,7 +20,9 @@ use Rattle.exchange_core.specs.Exchange.{IsExchange, PhaseFits, ExchangeStep, ad
 use Rattle.exchange_core.proofs.Keys.{keys_length, sent_rises, sent_within}
 use Rattle.exchange_core.proofs.Steps.{below, not_below, on_step, on_turn}
 use Rattle.exchange_law.specs.Station.{Each, answer_from}
-use Rattle.exchange_law.specs.Line.{Gives, Link, sent}
+use Rattle.line_world.specs.Wire.{sent}
+use Rattle.honest_line.specs.Moves.{Gives}
+use Rattle.exchange_law.specs.Line.{Link}
 use Rattle.exchange_law.specs.Law.{Holds, bytes_of}
 use Rattle.exchange_law.proofs.Holding.{IsAnswered, one_more_holds}
 use Rattle.exchange_law.proofs.Texts.{IsNibble, TextFits, answer_is_one, answer_more, answer_none, each_append, fits_none, fits_some, keys_are_nibbles, nibbles, one_if}
@@ -40,13 +42,13 @@ goes_listen image chunks before e phase v kept = subst (λ down. Kept e.duplex i
 
 -- ---- the next chunk is sent, or there is none
 
-pub goes_next : (image : Image) (chunks : List Chunk) (before : List ℕ) (e : Exchange) (v : Link) → Known image chunks → e.done ≤ length chunks → Holds image chunks before e.done v.station.machine.memory → IsWide v.station.machine.memory →
-    v.down ≡ [] → Stood (bytes_of (drop e.done chunks)) false v.station → TextFits (bytes_of (drop e.done chunks)) v.up → Goes image chunks before (next_chunk image chunks e) v
+pub goes_next : (image : Image) (chunks : List Chunk) (before : List ℕ) (e : Exchange) (v : Link) → Known image chunks → e.done ≤ length chunks → Holds image chunks before e.done v.machine.odt.memory → IsWide v.machine.odt.memory →
+    v.down ≡ [] → Stood (bytes_of (drop e.done chunks)) false v.machine → TextFits (bytes_of (drop e.done chunks)) v.up → Goes image chunks before (next_chunk image chunks e) v
 goes_next image chunks before e v known within h wide none at fits =
     on_step (λ s. Goes image chunks before s v) (ltb e.done (length chunks)) _ (listens e (Ended Complete))
     (λ less. sends (below e.done (length chunks) less))
     (λ over. let all : drop e.done chunks ≡ [] = drop_all e.done chunks (not_below e.done (length chunks) over) in
-    goes_listen image chunks before e (Ended Complete) v (record { holds = h; wide = wide; stands = (none, subst (λ (list : List Chunk). Stood (bytes_of list) false v.station) all at) }))
+    goes_listen image chunks before e (Ended Complete) v (record { holds = h; wide = wide; stands = (none, subst (λ (list : List Chunk). Stood (bytes_of list) false v.machine) all at) }))
   where
     sends : e.done < length chunks → Kept e.duplex image chunks before e.done (Answer 0) (sent v (chunk_keys image (chunk_nr chunks e.done) (sent_at e.duplex (chunk_nr chunks e.done) 0)))
     sends less =
@@ -61,7 +63,7 @@ goes_next image chunks before e v known within h wide none at fits =
             record {
               bytes = 0;
               half = false;
-              at = subst (λ left. Stood left false v.station) first at;
+              at = subst (λ left. Stood left false v.machine) first at;
               keys = subst (λ (down : List ℕ). Each IsNibble (down ++ keys)) (sym none) (keys_are_nibbles image (chunk_nr chunks e.done) known.small 0 (sent_at e.duplex (chunk_nr chunks e.done) 0));
               few = omega (arith, long);
             },
@@ -70,7 +72,7 @@ goes_next image chunks before e v known within h wide none at fits =
               fits = fits_none (left_at chunks e.done 0) [] refl;
               order = omega arith;
               rest = fits_some (left_at chunks e.done 0) ((chunk_nr chunks e.done).address + 0) (left_at chunks e.done 1) v.up more (subst (λ left. TextFits left v.up) first fits)
-                  ∙ sym (append-nil (answer_from v.station.machine.memory (chunk_nr chunks e.done).address 0 0) ∙ answer_none v.station.machine.memory (chunk_nr chunks e.done).address 0);
+                  ∙ sym (append-nil (answer_from v.machine.odt.memory (chunk_nr chunks e.done).address 0 0) ∙ answer_none v.machine.odt.memory (chunk_nr chunks e.done).address 0);
               heard = λ q low. absurd (omega (arith, low));
             }),
           );
@@ -117,8 +119,8 @@ abbrev after_hearing : Link → List ℕ → Link
 after_hearing x rest = record x { up = rest }
 
 -- more of the chunk's characters are sent, where there are any
-goes_on : (image : Image) (chunks : List Chunk) (before : List ℕ) (e : Exchange) (place : ℕ) (x : Link) → Known image chunks → Holds image chunks before e.done x.station.machine.memory → IsWide x.station.machine.memory →
-    (a : Amid chunks e.done (sent_at e.duplex (chunk_nr chunks e.done) place) x) → Answers_are image chunks e.done (place + 1) a.bytes x.station.machine.memory x.up → Goes image chunks before (sends_on image (chunk_nr chunks e.done) e place) x
+goes_on : (image : Image) (chunks : List Chunk) (before : List ℕ) (e : Exchange) (place : ℕ) (x : Link) → Known image chunks → Holds image chunks before e.done x.machine.odt.memory → IsWide x.machine.odt.memory →
+    (a : Amid chunks e.done (sent_at e.duplex (chunk_nr chunks e.done) place) x) → Answers_are image chunks e.done (place + 1) a.bytes x.machine.odt.memory x.up → Goes image chunks before (sends_on image (chunk_nr chunks e.done) e place) x
 goes_on image chunks before e place x known h wide a answer =
     let from : ℕ = sent_at e.duplex (chunk_nr chunks e.done) place in
     let count : ℕ = sent_at e.duplex (chunk_nr chunks e.done) (place + 1) - sent_at e.duplex (chunk_nr chunks e.done) place in
@@ -154,8 +156,8 @@ none_heard image chunks done place bytes memory up rest c inside i first over =
     nothing a b le = omega (arith, le)
 
 -- the character that is awaited
-same_heard : (image : Image) (chunks : List Chunk) (before : List ℕ) (e : Exchange) (place : ℕ) (x : Link) → Known image chunks → PhaseFits chunks e.done (Answer place) → Holds image chunks before e.done x.station.machine.memory → IsWide x.station.machine.memory →
-    (a : Amid chunks e.done (sent_at e.duplex (chunk_nr chunks e.done) place) x) → Answers_are image chunks e.done place a.bytes x.station.machine.memory x.up → (c : ℕ) (rest : List ℕ) → x.up ≡ c ∷ rest → c ≡ answer_at image (chunk_nr chunks e.done) place →
+same_heard : (image : Image) (chunks : List Chunk) (before : List ℕ) (e : Exchange) (place : ℕ) (x : Link) → Known image chunks → PhaseFits chunks e.done (Answer place) → Holds image chunks before e.done x.machine.odt.memory → IsWide x.machine.odt.memory →
+    (a : Amid chunks e.done (sent_at e.duplex (chunk_nr chunks e.done) place) x) → Answers_are image chunks e.done place a.bytes x.machine.odt.memory x.up → (c : ℕ) (rest : List ℕ) → x.up ≡ c ∷ rest → c ≡ answer_at image (chunk_nr chunks e.done) place →
     Goes image chunks before (taken image chunks e (if ltb (place + 1) (2 * (chunk_nr chunks e.done).size) then More place else Verified)) (after_hearing x rest)
 same_heard image chunks before e place x known fits h wide a answer c rest first awaited =
     on_turn (λ turn. Goes image chunks before (taken image chunks e turn) (after_hearing x rest)) (ltb (place + 1) (2 * (chunk_nr chunks e.done).size)) (More place) Verified
@@ -163,30 +165,30 @@ same_heard image chunks before e place x known fits h wide a answer c rest first
     (λ last. whole (not_below (place + 1) (2 * (chunk_nr chunks e.done).size) last) answer)
   where
     memory : List ℕ
-    memory = x.station.machine.memory
+    memory = x.machine.odt.memory
 
     -- its next character is the first that is under way
-    next : (i : Intact image chunks e.done place a.bytes x.station.machine.memory x.up) → place < 2 * a.bytes →
-        (c ≡ answer_for (byte_of x.station.machine.memory ((chunk_nr chunks e.done).address + place / 2)) place) × (rest ≡ answer_from x.station.machine.memory (chunk_nr chunks e.done).address (place + 1) (2 * a.bytes - (place + 1)) ++ i.text)
-    next i some = next_is x.station.machine.memory (chunk_nr chunks e.done).address place (2 * a.bytes - place) i.text x.up rest c (2 * a.bytes - (place + 1)) (omega (arith, some)) first i.rest
+    next : (i : Intact image chunks e.done place a.bytes x.machine.odt.memory x.up) → place < 2 * a.bytes →
+        (c ≡ answer_for (byte_of x.machine.odt.memory ((chunk_nr chunks e.done).address + place / 2)) place) × (rest ≡ answer_from x.machine.odt.memory (chunk_nr chunks e.done).address (place + 1) (2 * a.bytes - (place + 1)) ++ i.text)
+    next i some = next_is x.machine.odt.memory (chunk_nr chunks e.done).address place (2 * a.bytes - place) i.text x.up rest c (2 * a.bytes - (place + 1)) (omega (arith, some)) first i.rest
 
-    some_left : (i : Intact image chunks e.done place a.bytes x.station.machine.memory x.up) → place < 2 * a.bytes
+    some_left : (i : Intact image chunks e.done place a.bytes x.machine.odt.memory x.up) → place < 2 * a.bytes
     some_left i = elim (either place (2 * a.bytes)) [
       | inl less ↦ less
-      | inr over ↦ absurd (none_heard image chunks e.done place a.bytes x.station.machine.memory x.up rest c fits.1 i first over)
+      | inr over ↦ absurd (none_heard image chunks e.done place a.bytes x.machine.odt.memory x.up rest c fits.1 i first over)
     ]
       where
         either : (a b : ℕ) → (a < b) ⊎ (b ≤ a)
         either a b = grind arith
 
-    more : Answers_are image chunks e.done place a.bytes x.station.machine.memory x.up → Answers_are image chunks e.done (place + 1) a.bytes x.station.machine.memory rest
+    more : Answers_are image chunks e.done place a.bytes x.machine.odt.memory x.up → Answers_are image chunks e.done (place + 1) a.bytes x.machine.odt.memory rest
     more (inl i) =
         let some = some_left i in
         let n = next i some in
-        inl (record { text = i.text; fits = i.fits; order = omega (arith, some); rest = n.1; heard = heard_more image (chunk_nr chunks e.done) x.station.machine.memory place c i.heard awaited n.0 })
+        inl (record { text = i.text; fits = i.fits; order = omega (arith, some); rest = n.1; heard = heard_more image (chunk_nr chunks e.done) x.machine.odt.memory place c i.heard awaited n.0 })
     more (inr few) = let f = one_heard image (chunk_nr chunks e.done) x.up rest place c known.small awaited first in inr (omega (arith, f, few))
 
-    whole : 2 * (chunk_nr chunks e.done).size ≤ place + 1 → Answers_are image chunks e.done place a.bytes x.station.machine.memory x.up → Goes image chunks before (taken image chunks e Verified) (after_hearing x rest)
+    whole : 2 * (chunk_nr chunks e.done).size ≤ place + 1 → Answers_are image chunks e.done place a.bytes x.machine.odt.memory x.up → Goes image chunks before (taken image chunks e Verified) (after_hearing x rest)
     whole last (inl i) =
         let some = some_left i in
         let few = a.few in
@@ -195,15 +197,15 @@ same_heard image chunks before e place x known fits h wide a answer c rest first
         let filled : (chunk_nr chunks e.done).size ≤ a.bytes = omega (arith, some, size) in
         let all : 2 * a.bytes - (place + 1) ≡ 0 = omega (arith, some, size, few, room) in
         let n = next i some in
-        let heard : IsAnswered image (chunk_nr chunks e.done) x.station.machine.memory (2 * (chunk_nr chunks e.done).size) =
-        subst (IsAnswered image (chunk_nr chunks e.done) x.station.machine.memory) (sym size) (heard_more image (chunk_nr chunks e.done) x.station.machine.memory place c i.heard awaited n.0) in
-        let text : rest ≡ i.text = nothing_after x.station.machine.memory (chunk_nr chunks e.done).address (place + 1) (2 * a.bytes - (place + 1)) i.text rest all n.1 in
+        let heard : IsAnswered image (chunk_nr chunks e.done) x.machine.odt.memory (2 * (chunk_nr chunks e.done).size) =
+        subst (IsAnswered image (chunk_nr chunks e.done) x.machine.odt.memory) (sym size) (heard_more image (chunk_nr chunks e.done) x.machine.odt.memory place c i.heard awaited n.0) in
+        let text : rest ≡ i.text = nothing_after x.machine.odt.memory (chunk_nr chunks e.done).address (place + 1) (2 * a.bytes - (place + 1)) i.text rest all n.1 in
         let none : x.down ≡ [] = no_length x.down (omega (arith, some, size, few, room)) in
         let whole_bytes : a.half ≡ false = no_half a.half (omega (arith, some, size, few, room)) in
         let left = left_last chunks e.done a.bytes filled in
         goes_next image chunks before (with_chunk chunks e) (after_hearing x rest) known (let less = fits.0 in omega (arith, less))
-        (one_more_holds image chunks before e.done x.station.machine.memory (known.each e.done fits.0) known.small wide heard h) wide none
-        (subst (λ list. Stood list false x.station) left (subst (λ half. Stood (left_at chunks e.done a.bytes) half x.station) whole_bytes a.at))
+        (one_more_holds image chunks before e.done x.machine.odt.memory (known.each e.done fits.0) known.small wide heard h) wide none
+        (subst (λ list. Stood list false x.machine) left (subst (λ half. Stood (left_at chunks e.done a.bytes) half x.machine) whole_bytes a.at))
         (subst (λ list. TextFits list rest) left (subst (TextFits (left_at chunks e.done a.bytes)) (sym text) i.fits))
       where
         no_length : (xs : List ℕ) → length xs ≡ 0 → xs ≡ []
@@ -242,7 +244,7 @@ got image chunks before e (Ended Broken) x known fits k c rest first =
     goes_listen image chunks before (record e { phase = Ended Broken }) (Ended Broken) (after_hearing x rest) (record { holds = k.holds; wide = k.wide; stands = k.stands })
 
 -- `Z` is sent
-stops : (image : Image) (chunks : List Chunk) (before : List ℕ) (e : Exchange) (x : Link) → Holds image chunks before e.done x.station.machine.memory → IsWide x.station.machine.memory → x.down ≡ [] → IsParted chunks e.done x.station →
+stops : (image : Image) (chunks : List Chunk) (before : List ℕ) (e : Exchange) (x : Link) → Holds image chunks before e.done x.machine.odt.memory → IsWide x.machine.odt.memory → x.down ≡ [] → IsParted chunks e.done x.machine →
     Goes image chunks before (taken image chunks e Stop) x
 stops image chunks before e x h wide none parted = record { holds = h; wide = wide; stands = (subst (λ (down : List ℕ). Each IsZ (down ++ 90 ∷ [])) (sym none) (refl, tt), parted) }
 

@@ -4,47 +4,16 @@ use Rattle.std.specs.List.{remove}
 use Rattle.std.proofs.lemmas.List.Edits.{remove-append_left}
 use Rattle.odt_machine.specs.Machine.{Machine}
 use Rattle.host_devices.specs.declared.item.Item.{Item}
-use Rattle.host_devices.specs.declared.item.Item.TheVariants.{Sent, Heard as Came}
 use Rattle.exchange_law.specs.Station.{Program, Meets, IsHaltText, Each, running}
-use Rattle.exchange_law.specs.Line.{Link as Line, Takes as StationTakes, Moves as LineMoves, MovesTimes, MovesOn, sent, Passes}
+use Rattle.exchange_law.specs.Line.{Takes as StationTakes, Moves as LineMoves, MovesOn, Passes}
+use Rattle.honest_line.proofs.Passings.{any_then}
+use Rattle.exchange_law.proofs.Links.{moves_first}
 use Rattle.stub.specs.Filling.{Filling, begun, taken}
 use Rattle.stub.specs.Law.{seven}
 use Rattle.stub.specs.Seen.{Happening, Instructs, Arrives, Goes, LosesDown, LosesUp, Sends, Hears, Silent, MovesTimes as LinkMovesTimes, Link, Moves, Follows, opened}
 use Rattle.stub.proofs.Seen.{are_seen_so}
 use Rattle.exchange_law.specs.StubStation.{station_by, station, goodbye, as_line, items_of, IsSeven, SendsSeven, StubsAreStations, StubsBeginFresh}
 use Rattle.exchange_law.proofs.Steps.{Fine, fine_taken, may_do}
-
--- ---- any moves
-
-compose : (program : Program) (n : ℕ) (a b c : Line) → MovesTimes program n a b → MovesOn program b c → MovesOn program a c
-compose program zero a b c is on = subst (λ x. MovesOn program x c) is on
-compose program (suc n) a b c (z, move, more) on = let rest = compose program n z b c more on in (suc rest.0, (z, move, rest.1))
-
-move_sent : (program : Program) (a b : Line) (keys : List ℕ) → LineMoves program a b → LineMoves program (sent a keys) (sent b keys)
-move_sent program a b keys (inl t) = inl record {
-  c = t.c;
-  rest = t.rest ++ keys;
-  first = ap (λ l. l ++ keys) t.first;
-  station' = t.station';
-  answer = t.answer;
-  meets = t.meets;
-  now = ap (λ (x : Line). sent x keys) t.now;
-}
-move_sent program a b keys (inr (inl (k, inside, now))) =
-    inr (inl (k, longer a.down k inside, ap (λ (x : Line). sent x keys) now ∙ ap (λ l. record (sent a keys) { down = l; lost = a.lost + 1 }) (sym (remove-append_left a.down keys k inside))))
-  where
-    longer : (down : List ℕ) (k : ℕ) → k < length down → k < length (down ++ keys)
-    longer down k inside = omega (arith, length-append down keys)
-move_sent program a b keys (inr (inr (k, inside, now))) = inr (inr (k, inside, ap (λ (x : Line). sent x keys) now))
-
-moves_sent : (program : Program) (n : ℕ) (a b : Line) (keys : List ℕ) → MovesTimes program n a b → MovesTimes program n (sent a keys) (sent b keys)
-moves_sent program zero a b keys is = ap (λ (x : Line). sent x keys) is
-moves_sent program (suc n) a b keys (z, move, more) = (sent z keys, move_sent program a z keys move, moves_sent program n z b keys more)
-
-prepend : (program : Program) (items : List Item) (a b y : Line) → MovesOn program a b → Passes program b items y → Passes program a items y
-prepend program [] a b y on passes = compose program on.0 a b y on.1 passes
-prepend program (Sent key ∷ items) a b y on passes = prepend program items (sent a (key ∷ [])) (sent b (key ∷ [])) y (on.0, moves_sent program on.0 a b (key ∷ []) on.1) passes
-prepend program (Came what ∷ items) a b y on (moved, given, moving, gives, passes) = (moved, given, compose program on.0 a b moved on.1 moving, gives, passes)
 
 -- ---- characters of seven bits
 
@@ -62,25 +31,25 @@ each_push P (x ∷ xs) c h p = (h.0, each_push P xs c h.1 p)
 
 module _ (program : Program) (m : Machine) (farewell : List ℕ) (good : IsHaltText farewell) where
   pub record Sound (x : Link) : Type 0 where
-    pub fine : Fine x.stub
+    pub fine : Fine x.machine
     pub seven : Each IsSeven x.down
 
   pub record Carried (x y : Link) : Type 0 where
     pub moves : MovesOn program (as_line m farewell x) (as_line m farewell y)
     pub sound : Sound y
 
-  takes_on : (x : Link) (f : Filling) (c : ℕ) (rest text : List ℕ) (a : ℕ) (later : List ℕ) → f ≡ taken x.stub c → x.stub.left ≡ a ∷ later → x.down ≡ c ∷ rest → f.answers ≡ x.stub.answers ++ text → Fine x.stub →
-      StationTakes program (as_line m farewell x) (as_line m farewell (record { stub = f; down = rest; up = x.up ++ text; lost = x.lost }))
+  takes_on : (x : Link) (f : Filling) (c : ℕ) (rest text : List ℕ) (a : ℕ) (later : List ℕ) → f ≡ taken x.machine c → x.machine.left ≡ a ∷ later → x.down ≡ c ∷ rest → f.answers ≡ x.machine.answers ++ text → Fine x.machine →
+      StationTakes program (as_line m farewell x) (as_line m farewell (record { machine = f; down = rest; up = x.up ++ text; lost = x.lost }))
   takes_on x f c rest text a later is under first answers fine = record {
     c = c;
     rest = rest;
     first = first;
     station' = station m f;
     answer = text ++ goodbye f.left farewell;
-    meets = subst (λ l. Meets program (station_by m x.stub l).stub (station_by m x.stub l).machine c (station m f) (text ++ goodbye f.left farewell)) (sym under)
-        (subst (λ (g : Filling). Meets program (station_by m x.stub (a ∷ later)).stub (station_by m x.stub (a ∷ later)).machine c (station m g) (text ++ goodbye g.left farewell)) (sym is)
-        (may_do m farewell good x.stub a later c text under fine (ap (λ (g : Filling). g.answers) (sym is) ∙ answers)));
-    now = ap (λ up. record { station = station m f; down = rest; up = up; lost = x.lost }) (joined x.up text (goodbye f.left farewell) (goodbye x.stub.left farewell) (ap (λ l. goodbye l farewell) under));
+    meets = subst (λ l. Meets program (station_by m x.machine l).stub (station_by m x.machine l).odt c (station m f) (text ++ goodbye f.left farewell)) (sym under)
+        (subst (λ (g : Filling). Meets program (station_by m x.machine (a ∷ later)).stub (station_by m x.machine (a ∷ later)).odt c (station m g) (text ++ goodbye g.left farewell)) (sym is)
+        (may_do m farewell good x.machine a later c text under fine (ap (λ (g : Filling). g.answers) (sym is) ∙ answers)));
+    now = ap (λ up. record { machine = station m f; down = rest; up = up; lost = x.lost }) (joined x.up text (goodbye f.left farewell) (goodbye x.machine.left farewell) (ap (λ l. goodbye l farewell) under));
   }
     where
       joined : (up text end before : List ℕ) → before ≡ [] → (up ++ text) ++ end ≡ (up ++ before) ++ (text ++ end)
@@ -91,10 +60,10 @@ module _ (program : Program) (m : Machine) (farewell : List ℕ) (good : IsHaltT
   carried x y sound (inr (inl t)) =
       let low : Each IsSeven (t.character ∷ t.rest) = subst (Each IsSeven) t.first sound.seven in
       let plain : seven t.character ≡ t.character = low_is t.character low.0 in
-      let takes = takes_on x (taken x.stub (seven t.character)) t.character t.rest t.text t.address t.later (ap (taken x.stub) plain) t.under t.first t.answers sound.fine in
+      let takes = takes_on x (taken x.machine (seven t.character)) t.character t.rest t.text t.address t.later (ap (taken x.machine) plain) t.under t.first t.answers sound.fine in
       record {
-        moves = (1, (as_line m farewell (record { stub = taken x.stub (seven t.character); down = t.rest; up = x.up ++ t.text; lost = x.lost }), inl takes, ap (as_line m farewell) t.now));
-        sound = subst Sound (sym t.now) record { fine = fine_taken x.stub (seven t.character) t.address t.later t.under sound.fine; seven = low.1 };
+        moves = (1, (as_line m farewell (record { machine = taken x.machine (seven t.character); down = t.rest; up = x.up ++ t.text; lost = x.lost }), inl takes, ap (as_line m farewell) t.now));
+        sound = subst Sound (sym t.now) record { fine = fine_taken x.machine (seven t.character) t.address t.later t.under sound.fine; seven = low.1 };
       }
     where
       low_is : (c : ℕ) → c < 128 → seven c ≡ c
@@ -108,7 +77,7 @@ module _ (program : Program) (m : Machine) (farewell : List ℕ) (good : IsHaltT
       1,
       (
         as_line m farewell (record x { up = remove x.up k; lost = x.lost + 1 }),
-        inr (inr (k, longer x.up (goodbye x.stub.left farewell) k inside, ap (λ l. record (as_line m farewell x) { up = l; lost = x.lost + 1 }) (sym (remove-append_left x.up (goodbye x.stub.left farewell) k inside)))),
+        inr (inr (k, longer x.up (goodbye x.machine.left farewell) k inside, ap (λ l. record (as_line m farewell x) { up = l; lost = x.lost + 1 }) (sym (remove-append_left x.up (goodbye x.machine.left farewell) k inside)))),
         ap (as_line m farewell) now,
       ),
     );
@@ -124,11 +93,11 @@ module _ (program : Program) (m : Machine) (farewell : List ℕ) (good : IsHaltT
   carried_all (suc n) x y sound (z, move, more) =
       let one = carried x z sound move in
       let rest = carried_all n z y one.sound more in
-      record { moves = compose program one.moves.0 (as_line m farewell x) (as_line m farewell z) (as_line m farewell y) one.moves.1 rest.moves; sound = rest.sound }
+      record { moves = any_then (LineMoves program) (as_line m farewell x) (as_line m farewell z) (as_line m farewell y) one.moves rest.moves; sound = rest.sound }
 
   -- one thing happens that is neither sent nor heard
   on_by : (x z y : Link) (items : List Item) → Carried x z → Passes program (as_line m farewell z) items (as_line m farewell y) → Passes program (as_line m farewell x) items (as_line m farewell y)
-  on_by x z y items one rest = prepend program items (as_line m farewell x) (as_line m farewell z) (as_line m farewell y) one.moves rest
+  on_by x z y items one rest = moves_first program items (as_line m farewell x) (as_line m farewell z) (as_line m farewell y) one.moves rest
 
   pub passes : (x y : Link) (what : List Happening) → Sound x → SendsSeven what → Follows x what y → Passes program (as_line m farewell x) (items_of what) (as_line m farewell y)
   passes x y [] sound sends now = (zero, ap (as_line m farewell) now)
@@ -145,12 +114,12 @@ module _ (program : Program) (m : Machine) (farewell : List ℕ) (good : IsHaltT
         as_line m farewell x,
         as_line m farewell z,
         (zero, refl),
-        (rest ++ goodbye x.stub.left farewell, ap (λ l. l ++ goodbye x.stub.left farewell) first, ap (as_line m farewell) now),
+        (rest ++ goodbye x.machine.left farewell, ap (λ l. l ++ goodbye x.machine.left farewell) first, ap (as_line m farewell) now),
         passes z y what after sends more,
       )
   passes x y (Silent ∷ what) sound sends (z, settles, more) =
       let all = carried_all settles.times x z sound settles.moves in
-      (as_line m farewell z, as_line m farewell z, all.moves, (settles.down, empty z.up z.stub.left settles.address settles.later settles.up settles.under, refl), passes z y what all.sound sends more)
+      (as_line m farewell z, as_line m farewell z, all.moves, (settles.down, empty z.up z.machine.left settles.address settles.later settles.up settles.under, refl), passes z y what all.sound sends more)
     where
       empty : (up : List ℕ) (left : List ℕ) (a : ℕ) (later : List ℕ) → up ≡ [] → left ≡ a ∷ later → up ++ goodbye left farewell ≡ []
       empty up left a later none under = ap (λ l. l ++ goodbye left farewell) none ∙ ap (λ l. goodbye l farewell) under

@@ -20,10 +20,13 @@ use Rattle.line_world.proofs.Events.{kept_event, kept_events}
 use Rattle.host_devices.specs.declared.item.Item.{Item}
 use Rattle.host_devices.specs.Dialogue.{dialogue, said}
 use Rattle.honest_line.specs.Moves.{Gives as Gives', Moves as Moves', MovesOn as MovesOn', Passes as Crosses}
+use Rattle.honest_line.proofs.Passings.{passing_said}
 use Rattle.honest_line.proofs.Wires.{none_moves, one_first}
 use Rattle.honest_line.proofs.Runs.{Leads, dialogue_leads}
 use Rattle.exchange_law.specs.Station.{Program, Station, Stub, Meets, after_odt, begins}
-use Rattle.exchange_law.specs.Line.{Gives, Link, Moves, MovesTimes, Passes, Takes, sent as sent_on}
+use Rattle.line_world.specs.Wire.{sent as sent_on}
+use Rattle.honest_line.specs.Moves.{Gives}
+use Rattle.exchange_law.specs.Line.{Link, Moves, MovesTimes, Passes, Takes}
 use Rattle.honest_line.specs.Honest.{resting}
 use Rattle.honest_line.proofs.Trusted.{begin_kept}
 use Rattle.exchange_law.specs.Mirror.{IsJustAMachine, StationsWithoutStubAreMachines, wire_at}
@@ -79,17 +82,17 @@ none_removed xs k none below = absurd (omega (arith, below, ap length none))
 abbrev Mirrored : Program → Link → ℕ → Link → Type 0
 Mirrored program x lost y = (lost' : ℕ) × Moves' (wire_at x lost) (wire_at y lost') × IsJustAMachine program y × (lost' + x.lost ≡ lost + y.lost)
 
-odt_takes : (program : Program) (core : Core) (x y : Link) (lost : ℕ) → IsKept (over core (wire_at x lost)) → (t : Takes program x y) → is_running x.station.machine.mode ≡ false → x.station.stub ≡ None → Mirrored program x lost y
+odt_takes : (program : Program) (core : Core) (x y : Link) (lost : ℕ) → IsKept (over core (wire_at x lost)) → (t : Takes program x y) → is_running x.machine.odt.mode ≡ false → x.machine.stub ≡ None → Mirrored program x lost y
 odt_takes program core x y lost k t stopped none =
-    let met = subst (λ stub. Meets program stub x.station.machine t.c t.station' t.answer) none t.meets in
-    let after : Link = record { station = after_odt program x.station.machine t.c; down = t.rest; up = x.up ++ (take_of x.station.machine t.c).answer; lost = x.lost } in
-    let now : y ≡ after = t.now ∙ (ap (λ (s : Station). record { station = s; down = t.rest; up = x.up ++ t.answer; lost = x.lost }) met.0
-    ∙ ap (λ (answer : List ℕ). record { station = after_odt program x.station.machine t.c; down = t.rest; up = x.up ++ answer; lost = x.lost }) met.1) in
+    let met = subst (λ stub. Meets program stub x.machine.odt t.c t.station' t.answer) none t.meets in
+    let after : Link = record { machine = after_odt program x.machine.odt t.c; down = t.rest; up = x.up ++ (take_of x.machine.odt t.c).answer; lost = x.lost } in
+    let now : y ≡ after = t.now ∙ (ap (λ (s : Station). record { machine = s; down = t.rest; up = x.up ++ t.answer; lost = x.lost }) met.0
+    ∙ ap (λ (answer : List ℕ). record { machine = after_odt program x.machine.odt t.c; down = t.rest; up = x.up ++ answer; lost = x.lost }) met.1) in
     subst (Mirrored program x lost) (sym now) (
       lost,
       inl (t.c, t.rest, t.first, refl),
       record {
-        stub = ap (λ running. begins program running (after_key x.station.machine t.c).memory (after_key x.station.machine t.c).mode) stopped;
+        stub = ap (λ running. begins program running (after_key x.machine.odt t.c).memory (after_key x.machine.odt t.c).mode) stopped;
         quiet = λ runs. one_key x.down t.rest x.up t.c t.first k.one_way;
       },
       refl,
@@ -100,8 +103,8 @@ one_more a b = omega arith
 
 move_mirrored : (program : Program) (core : Core) (x y : Link) (lost : ℕ) → IsKept (over core (wire_at x lost)) → IsJustAMachine program x → Moves program x y → Mirrored program x lost y
 move_mirrored program core x y lost k just (inl t) =
-    stopped_or (Mirrored program x lost y) (is_running x.station.machine.mode) (λ runs. absurd (no_first x.down t.rest t.c (just.quiet runs) t.first))
-    (λ stopped. odt_takes program core x y lost k t stopped (just.stub ∙ none_begun program x.station.machine.memory x.station.machine.mode stopped))
+    stopped_or (Mirrored program x lost y) (is_running x.machine.odt.mode) (λ runs. absurd (no_first x.down t.rest t.c (just.quiet runs) t.first))
+    (λ stopped. odt_takes program core x y lost k t stopped (just.stub ∙ none_begun program x.machine.odt.memory x.machine.odt.mode stopped))
 move_mirrored program core x y lost k just (inr (inl (n, below, now))) =
     subst (Mirrored program x lost) (sym now)
     (lost + 1, inr (inl (n, below, refl)), record { stub = just.stub; quiet = λ runs. absurd (none_removed x.down n (just.quiet runs) below) }, one_more lost x.lost)
@@ -143,19 +146,15 @@ sent_just program core what x v lost k gives just =
     let given = gives_just program what x v gives just in
     record { stub = given.stub; quiet = λ runs. still runs (machine_same what x v gives) }
   where
-    machine_same : (what : Heard) (x v : Link) → Gives x what v → v.station.machine ≡ x.station.machine
-    machine_same (Got c) x v (rest, is, now) = ap (λ (z : Link). z.station.machine) now
-    machine_same Silence x v (none, empty, now) = ap (λ (z : Link). z.station.machine) now
+    machine_same : (what : Heard) (x v : Link) → Gives x what v → v.machine.odt ≡ x.machine.odt
+    machine_same (Got c) x v (rest, is, now) = ap (λ (z : Link). z.machine.odt) now
+    machine_same Silence x v (none, empty, now) = ap (λ (z : Link). z.machine.odt) now
 
-    still : is_running v.station.machine.mode ≡ true → v.station.machine ≡ x.station.machine → v.down ++ option_to_list (move core what).key ≡ []
+    still : is_running v.machine.odt.mode ≡ true → v.machine.odt ≡ x.machine.odt → v.down ++ option_to_list (move core what).key ≡ []
     still runs same =
-        let there : is_running x.station.machine.mode ≡ true = ap (λ (m : Machine). is_running m.mode) (sym same) ∙ runs in
-        let none : (move core what).key ≡ None = (silent core what k.host (marked core.going x.station.machine.mode k.running there)).key in
+        let there : is_running x.machine.odt.mode ≡ true = ap (λ (m : Machine). is_running m.mode) (sym same) ∙ runs in
+        let none : (move core what).key ≡ None = (silent core what k.host (marked core.going x.machine.odt.mode k.running there)).key in
         ap (λ key. v.down ++ option_to_list key) none ∙ (append-nil v.down ∙ (gives_just program what x v gives just).quiet runs)
-
-pub passes_said : (program : Program) (key : Option ℕ) (items : List Item) (x y : Link) → Passes program x (said key ++ items) y → Passes program (sent_on x (option_to_list key)) items y
-passes_said program None items x y passes = subst (λ down. Passes program (record x { down = down }) items y) (sym (append-nil x.down)) passes
-passes_said program (Some key) items x y passes = passes
 
 crosses_said : (key : Option ℕ) (items : List Item) (x y : Wire) → Crosses (sent x (option_to_list key)) items y → Crosses x (said key ++ items) y
 crosses_said None items x y passes = subst (λ down. Crosses (record x { down = down }) items y) (append-nil x.down) passes
@@ -185,7 +184,7 @@ mirrored program (what ∷ things) core x y lost just k (z, v, before, gives, pa
     let given = gives_mirrored what z v first.0 gives in
     let key : Option ℕ = (move core what).key in
     let rest = mirrored program things (move core what).next (sent_on v (option_to_list key)) y first.0 (sent_just program core what z v first.0 kept gives first.2)
-    (kept_gives core what (wire_at z first.0) (wire_at v first.0) given kept) (passes_said program key (dialogue (move core what).next things) v y passes) in record {
+    (kept_gives core what (wire_at z first.0) (wire_at v first.0) given kept) (passing_said (Moves program) key (dialogue (move core what).next things) v y passes) in record {
       lost' = rest.lost';
       crosses = (wire_at z first.0, wire_at v first.0, first.1, given, crosses_said key (dialogue (move core what).next things) (wire_at v first.0) (wire_at y rest.lost') rest.crosses);
       just = rest.just;
@@ -202,14 +201,14 @@ not_both b e f = cc
 
 pub without_stub : StationsWithoutStubAreMachines
 without_stub program core things x y lost host may at passes is =
-    let kept : IsKept (over core (resting x.station.machine x.up 0)) = begin_kept core x.station.machine x.up host may at.few in
+    let kept : IsKept (over core (resting x.machine.odt x.up 0)) = begin_kept core x.machine.odt x.up host may at.few in
     let m = mirrored program things core x y 0
-    (record { stub = stopped_stub program x.station.machine.memory x.station.machine.mode x.station.stub at.no_stub may.stopped; quiet = λ runs. absurd (not_both (is_running x.station.machine.mode) runs may.stopped) })
-    (subst (λ down. IsKept (over core (record { machine = x.station.machine; down = down; up = x.up; lost = 0 }))) (sym at.none_down) kept) passes in record {
+    (record { stub = stopped_stub program x.machine.odt.memory x.machine.odt.mode x.machine.stub at.no_stub may.stopped; quiet = λ runs. absurd (not_both (is_running x.machine.odt.mode) runs may.stopped) })
+    (subst (λ down. IsKept (over core (record { machine = x.machine.odt; down = down; up = x.up; lost = 0 }))) (sym at.none_down) kept) passes in record {
       waiting = x.up;
       few = at.few;
       end = wire_at y m.lost';
-      passes = subst (λ down. Crosses (record { machine = x.station.machine; down = down; up = x.up; lost = 0 }) (dialogue core things) (wire_at y m.lost')) at.none_down m.crosses;
+      passes = subst (λ down. Crosses (record { machine = x.machine.odt; down = down; up = x.up; lost = 0 }) (dialogue core things) (wire_at y m.lost')) at.none_down m.crosses;
       machine_is = refl;
       lost_is = let sum = m.losses in omega (arith, sum, is);
     }

@@ -24,12 +24,12 @@ use Rattle.exchange_law.proofs.Standing.{Amid, Answers_are, Does, Intact, IsHalt
 
 -- what was done keeps what stands
 does_hold : (image : Image) (chunks : List Chunk) (before : List ℕ) (done bytes now : ℕ) (memory : List ℕ) (s' : Station) (answer : List ℕ) → AreApart chunks → done < length chunks → Holds image chunks before done memory →
-    Does chunks done bytes memory now s' answer → Holds image chunks before done s'.machine.memory
+    Does chunks done bytes memory now s' answer → Holds image chunks before done s'.odt.memory
 does_hold image chunks before done bytes now memory s' answer apart below h (inl (same, is, none)) = subst (Holds image chunks before done) (sym is) h
 does_hold image chunks before done bytes now memory s' answer apart below h (inr (one, less, changes, said)) =
-    within_holds image chunks before done ((chunk_nr chunks done).address + bytes) memory s'.machine.memory apart below (record { from = omega arith; to = omega (arith, less) }) h changes
+    within_holds image chunks before done ((chunk_nr chunks done).address + bytes) memory s'.odt.memory apart below (record { from = omega arith; to = omega (arith, less) }) h changes
 
-does_wide : (chunks : List Chunk) (done bytes now : ℕ) (memory : List ℕ) (s' : Station) (answer : List ℕ) → IsWide memory → Does chunks done bytes memory now s' answer → IsWide s'.machine.memory
+does_wide : (chunks : List Chunk) (done bytes now : ℕ) (memory : List ℕ) (s' : Station) (answer : List ℕ) → IsWide memory → Does chunks done bytes memory now s' answer → IsWide s'.odt.memory
 does_wide chunks done bytes now memory s' answer wide (inl (same, is, none)) = subst IsWide (sym is) wide
 does_wide chunks done bytes now memory s' answer wide (inr (one, less, changes, said)) = changes.wide wide
 
@@ -40,12 +40,12 @@ pair_has memory a extra left wide fits =
     ∙ (ap (λ b. 1 + (one_if b + nibbles extra)) (answer_is_one (byte_of memory a) 1 (byte_small memory wide a)) ∙ ap (λ n. 1 + (1 + n)) (fitting_has_none left extra fits))
 
 does_answer : (image : Image) (chunks : List Chunk) (done place bytes now : ℕ) (memory up : List ℕ) (s' : Station) (answer : List ℕ) → IsWide memory → Does chunks done bytes memory now s' answer → Answers_are image chunks done place bytes memory up →
-    Answers_are image chunks done place now s'.machine.memory (up ++ answer)
+    Answers_are image chunks done place now s'.odt.memory (up ++ answer)
 does_answer image chunks done place bytes now memory up s' answer wide (inl (same, is, none)) a =
-    subst (λ n. Answers_are image chunks done place n s'.machine.memory (up ++ answer)) (sym same)
+    subst (λ n. Answers_are image chunks done place n s'.odt.memory (up ++ answer)) (sym same)
     (subst (λ m. Answers_are image chunks done place bytes m (up ++ answer)) (sym is) (subst (Answers_are image chunks done place bytes memory) (sym (ap (λ l. up ++ l) none ∙ append-nil up)) a))
 does_answer image chunks done place bytes now memory up s' answer wide (inr (one, less, changes, (extra, fits, said))) (inl i) =
-    subst (λ n. Answers_are image chunks done place n s'.machine.memory (up ++ answer)) (sym one)
+    subst (λ n. Answers_are image chunks done place n s'.odt.memory (up ++ answer)) (sym one)
     (inl (record {
       text = extra;
       fits = fits;
@@ -53,11 +53,11 @@ does_answer image chunks done place bytes now memory up s' answer wide (inr (one
       rest = ap (λ l. l ++ answer) i.rest
           ∙ (ap (λ l. (answer_from memory address place (2 * bytes - place) ++ l) ++ answer) none
           ∙ (ap (λ l. l ++ answer) (append-nil (answer_from memory address place (2 * bytes - place)))
-          ∙ (ap (λ l. l ++ answer) (sym (answer_same memory s'.machine.memory address place (2 * bytes - place) bytes (let order = i.order in omega (arith, order)) stays))
-          ∙ (ap (λ l. answer_from s'.machine.memory address place (2 * bytes - place) ++ l) said
-          ∙ (sym (append_assoc (answer_from s'.machine.memory address place (2 * bytes - place)) (answer_text s'.machine.memory (address + bytes)) extra)
-          ∙ (ap (λ l. l ++ extra) (sym (answer_grows s'.machine.memory address place (2 * bytes - place) bytes (let order = i.order in omega (arith, order))))
-          ∙ ap (λ n. answer_from s'.machine.memory address place n ++ extra) (two_more place bytes i.order)))))));
+          ∙ (ap (λ l. l ++ answer) (sym (answer_same memory s'.odt.memory address place (2 * bytes - place) bytes (let order = i.order in omega (arith, order)) stays))
+          ∙ (ap (λ l. answer_from s'.odt.memory address place (2 * bytes - place) ++ l) said
+          ∙ (sym (append_assoc (answer_from s'.odt.memory address place (2 * bytes - place)) (answer_text s'.odt.memory (address + bytes)) extra)
+          ∙ (ap (λ l. l ++ extra) (sym (answer_grows s'.odt.memory address place (2 * bytes - place) bytes (let order = i.order in omega (arith, order))))
+          ∙ ap (λ n. answer_from s'.odt.memory address place n ++ extra) (two_more place bytes i.order)))))));
       heard = λ q below. i.heard q below ∙ ap (λ b. answer_for b q) (sym (stays (q / 2) (let order = i.order in omega (arith, order, below))));
     }))
   where
@@ -67,7 +67,7 @@ does_answer image chunks done place bytes now memory up s' answer wide (inr (one
     none : i.text ≡ []
     none = fits_some (left_at chunks done bytes) ((chunk_nr chunks done).address + bytes) (left_at chunks done (bytes + 1)) i.text (left_next chunks done bytes less) i.fits
 
-    stays : (k : ℕ) → k < bytes → byte_of s'.machine.memory ((chunk_nr chunks done).address + k) ≡ byte_of memory ((chunk_nr chunks done).address + k)
+    stays : (k : ℕ) → k < bytes → byte_of s'.odt.memory ((chunk_nr chunks done).address + k) ≡ byte_of memory ((chunk_nr chunks done).address + k)
     stays k below = changes.bytes ((chunk_nr chunks done).address + k) (apart (chunk_nr chunks done).address k bytes below)
       where
         apart : (a k b : ℕ) → k < b → a + k ≢ a + b
@@ -76,34 +76,34 @@ does_answer image chunks done place bytes now memory up s' answer wide (inr (one
     two_more : (place bytes : ℕ) → place ≤ 2 * bytes → 2 * bytes - place + 2 ≡ 2 * (bytes + 1) - place
     two_more place bytes order = omega (arith, order)
 does_answer image chunks done place bytes now memory up s' answer wide (inr (one, less, changes, (extra, fits, said))) (inr few) =
-    subst (λ n. Answers_are image chunks done place n s'.machine.memory (up ++ answer)) (sym one)
-    (inr (let sum = nibbles_append up answer in let two = ap nibbles said ∙ pair_has s'.machine.memory ((chunk_nr chunks done).address + bytes) extra (left_at chunks done (bytes + 1)) (changes.wide wide) fits in omega (arith, few, sum, two)))
+    subst (λ n. Answers_are image chunks done place n s'.odt.memory (up ++ answer)) (sym one)
+    (inr (let sum = nibbles_append up answer in let two = ap nibbles said ∙ pair_has s'.odt.memory ((chunk_nr chunks done).address + bytes) extra (left_at chunks done (bytes + 1)) (changes.wide wide) fits in omega (arith, few, sum, two)))
 
-broken_off : (program : Program) (duplex : Duplex) (image : Image) (chunks : List Chunk) (before : List ℕ) (done : ℕ) (x : Link) → Holds image chunks before done x.station.machine.memory → IsWide x.station.machine.memory → Each IsZ x.down → IsParted chunks done x.station →
-    (c : ℕ) (rest : List ℕ) (s' : Station) (answer : List ℕ) → x.down ≡ c ∷ rest → Meets program x.station.stub x.station.machine c s' answer → Kept duplex image chunks before done (Ended Broken) (met x s' rest answer)
+broken_off : (program : Program) (duplex : Duplex) (image : Image) (chunks : List Chunk) (before : List ℕ) (done : ℕ) (x : Link) → Holds image chunks before done x.machine.odt.memory → IsWide x.machine.odt.memory → Each IsZ x.down → IsParted chunks done x.machine →
+    (c : ℕ) (rest : List ℕ) (s' : Station) (answer : List ℕ) → x.down ≡ c ∷ rest → Meets program x.machine.stub x.machine.odt c s' answer → Kept duplex image chunks before done (Ended Broken) (met x s' rest answer)
 broken_off program duplex image chunks before done x h wide keys parted c rest s' answer first meets =
     let all : Each IsZ (c ∷ rest) = subst (Each IsZ) first keys in
-    let halt : IsHalted x.station s' = z_halts program chunks done x.station s' answer parted (subst (λ k. Meets program x.station.stub x.station.machine k s' answer) all.0 meets) in record {
+    let halt : IsHalted x.machine s' = z_halts program chunks done x.machine s' answer parted (subst (λ k. Meets program x.machine.stub x.machine.odt k s' answer) all.0 meets) in record {
       holds = subst (Holds image chunks before done) (sym halt.memory) h;
       wide = subst IsWide (sym halt.memory) wide;
       stands = (all.1, inl halt.back);
     }
 
 taken : (program : Program) (duplex : Duplex) (image : Image) (chunks : List Chunk) (before : List ℕ) (done : ℕ) (phase : Phase) (x : Link) → AreApart chunks → PhaseFits chunks done phase → Kept duplex image chunks before done phase x →
-    (c : ℕ) (rest : List ℕ) (s' : Station) (answer : List ℕ) → x.down ≡ c ∷ rest → Meets program x.station.stub x.station.machine c s' answer → Kept duplex image chunks before done phase (met x s' rest answer)
+    (c : ℕ) (rest : List ℕ) (s' : Station) (answer : List ℕ) → x.down ≡ c ∷ rest → Meets program x.machine.stub x.machine.odt c s' answer → Kept duplex image chunks before done phase (met x s' rest answer)
 taken program duplex image chunks before done Settle x apart fits k c rest s' answer first meets = absurd (no_first x.down rest c k.stands.0 first)
 taken program duplex image chunks before done (Answer place) x apart fits k c rest s' answer first meets =
     let a = k.stands.0 in
     let t : Took chunks done (sent_at duplex (chunk_nr chunks done) place) x a.bytes s' rest answer = takes_amid program chunks done (sent_at duplex (chunk_nr chunks done) place) x (sent_within duplex (chunk_nr chunks done) place) a c rest s' answer first meets in record {
-      holds = does_hold image chunks before done a.bytes t.next.bytes x.station.machine.memory s' answer apart fits.0 k.holds t.how;
-      wide = does_wide chunks done a.bytes t.next.bytes x.station.machine.memory s' answer k.wide t.how;
-      stands = (t.next, does_answer image chunks done place a.bytes t.next.bytes x.station.machine.memory x.up s' answer k.wide t.how k.stands.1);
+      holds = does_hold image chunks before done a.bytes t.next.bytes x.machine.odt.memory s' answer apart fits.0 k.holds t.how;
+      wide = does_wide chunks done a.bytes t.next.bytes x.machine.odt.memory s' answer k.wide t.how;
+      stands = (t.next, does_answer image chunks done place a.bytes t.next.bytes x.machine.odt.memory x.up s' answer k.wide t.how k.stands.1);
     }
 taken program duplex image chunks before done Leave x apart fits k c rest s' answer first meets =
     let a = k.stands in
     let t : Took chunks done (2 * (chunk_nr chunks done).size) x a.bytes s' rest answer = takes_amid program chunks done (2 * (chunk_nr chunks done).size) x (omega arith) a c rest s' answer first meets in record {
-      holds = does_hold image chunks before done a.bytes t.next.bytes x.station.machine.memory s' answer apart fits k.holds t.how;
-      wide = does_wide chunks done a.bytes t.next.bytes x.station.machine.memory s' answer k.wide t.how;
+      holds = does_hold image chunks before done a.bytes t.next.bytes x.machine.odt.memory s' answer apart fits k.holds t.how;
+      wide = does_wide chunks done a.bytes t.next.bytes x.machine.odt.memory s' answer k.wide t.how;
       stands = t.next;
     }
 taken program duplex image chunks before done (Ended Complete) x apart fits k c rest s' answer first meets = absurd (no_first x.down rest c k.stands.0 first)
@@ -163,7 +163,7 @@ up_lost duplex image chunks before done (Answer place) x kept k below =
     let a = kept.stands.0 in (
       record { bytes = a.bytes; half = a.half; at = a.at; keys = a.keys; few = a.few },
       elim kept.stands.1 [
-        | inl i ↦ intact_lost image chunks done place a.bytes x.station.machine.memory x.up kept.wide k below i
+        | inl i ↦ intact_lost image chunks done place a.bytes x.machine.odt.memory x.up kept.wide k below i
         | inr few ↦ inr (let less = nibbles_removed x.up k in omega (arith, few, less))
       ],
     )

@@ -1,5 +1,5 @@
 -- A whole exchange over a line, and what it leaves.
-use Rattle.std.proofs.Common.{◌≡◌, ℕ, zero, suc, ◌+◌, ◌-◌, ◌*◌, ◌<◌, ◌≤◌, true, false, List, [], ◌∷◌, ◌++◌, length, drop, Some, inl, inr, refl, arith, ap, sym, subst, ◌∙◌, append-nil, append_assoc}
+use Rattle.std.proofs.Common.{◌≡◌, ℕ, zero, suc, ◌+◌, ◌-◌, ◌*◌, ◌<◌, ◌≤◌, true, false, List, [], ◌∷◌, length, drop, Some, inl, inr, refl, arith, ap, sym, subst, ◌∙◌}
 use Rattle.tape_image.specs.Image.{Image}
 use Rattle.tape_image.specs.Plan.{PlanValue}
 use Rattle.odt_machine.specs.declared.mode.Mode.{Mode}
@@ -7,7 +7,6 @@ use Rattle.odt_machine.specs.declared.mode.Mode.TheVariants.{Prompt, Number, Ope
 use Rattle.odt_machine.specs.Laws.{is_running}
 use Rattle.odt_machine.specs.Machine.{ModeFits}
 use Rattle.host_core.specs.declared.heard.Heard.{Heard}
-use Rattle.host_devices.specs.declared.item.Item.{Item}
 use Rattle.line_world.specs.Safe.{FirstStand}
 use Rattle.exchange_core.specs.declared.chunk.Chunk.{Chunk}
 use Rattle.exchange_core.specs.declared.duplex.Duplex.{Duplex}
@@ -22,10 +21,11 @@ use Rattle.exchange_core.proofs.Chunks.{chunks_apart}
 use Rattle.exchange_core.proofs.Keys.{sent_within}
 use Rattle.exchange_core.proofs.Steps.{AreSmall, are_small, step_from, step_kept}
 use Rattle.exchange_law.specs.Station.{Each, Program, Station}
-use Rattle.exchange_law.specs.Line.{Link, Passes, sent}
+use Rattle.line_world.specs.Wire.{sent}
+use Rattle.exchange_law.specs.Line.{Link, Moves, Passes}
 use Rattle.exchange_law.specs.Unsettled.{IsAmong, IsForStub, IsUnsettled, MayFill}
-use Rattle.exchange_law.specs.Law.{ExchangesAreTrue, IsBack, IsExchanged, MayExchange, bytes_of, dialogue, said_all, pieces_of}
-use Rattle.exchange_law.proofs.Links.{passes_unsent}
+use Rattle.exchange_law.specs.Law.{ExchangesAreTrue, IsBack, IsExchanged, MayExchange, bytes_of, dialogue, pieces_of}
+use Rattle.exchange_law.proofs.Links.{passes_unsent, passing_keys}
 use Rattle.exchange_law.proofs.Holding.{AreApart}
 use Rattle.exchange_law.proofs.Texts.{IsNibble, each_append, each_weaker, told_small}
 use Rattle.exchange_law.proofs.Standing.{IsParted, IsZ, Kept, Stood, amid_parted, first_parted, left_at, left_first, left_next}
@@ -34,11 +34,6 @@ use Rattle.exchange_law.proofs.Hearing.{Known, heard_kept}
 use Rattle.exchange_law.proofs.Words.{words_stand}
 
 -- ---- the dialogue
-
-passes_said : (program : Program) (keys : List ℕ) (items : List Item) (x y : Link) → Passes program x (said_all keys ++ items) y → Passes program (sent x keys) items y
-passes_said program [] items x y passes = subst (λ down. Passes program (record x { down = down }) items y) (sym (append-nil x.down)) passes
-passes_said program (key ∷ keys) items x y passes =
-    subst (λ down. Passes program (record x { down = down }) items y) (append_assoc x.down (key ∷ []) keys) (passes_said program keys items (sent x (key ∷ [])) y passes)
 
 -- what holds of an exchange at the end of a line
 record Held (image : Image) (chunks : List Chunk) (before : List ℕ) (e : Exchange) (x : Link) : Type 0 where
@@ -57,14 +52,14 @@ held program image chunks before (what ∷ things) e x y small apart known h (z,
       is = step_kept image chunks e what small h.is;
       kept = heard_kept image chunks before e what z v known h.is (moves_kept program e.duplex image chunks before e.done e.phase x z apart h.is.fits h.kept moved) gives;
     })
-    (passes_said program keys (dialogue image chunks next things) v y passes)
+    (passing_keys (Moves program) keys (dialogue image chunks next things) v y passes)
 
 -- ---- the beginning
 
 drop_none : (chunks : List Chunk) → chunks ≡ drop 0 chunks
 drop_none chunks = refl
 
-starts : (left : List ℕ) (s : Station) → is_running s.machine.mode ≡ true → s.stub ≡ Some (record { left = left; half = false }) → (a : ℕ) (more : List ℕ) → left ≡ a ∷ more → Stood left false s
+starts : (left : List ℕ) (s : Station) → is_running s.odt.mode ≡ true → s.stub ≡ Some (record { left = left; half = false }) → (a : ℕ) (more : List ℕ) → left ≡ a ∷ more → Stood left false s
 starts [] s runs is a more some = absurd (cc)
 starts (first ∷ left) s runs is a more some = record { runs = runs; is = is }
 
@@ -79,21 +74,21 @@ first_is {image} chunks some known =
     none : (a : ℕ) → a + 0 ≡ a
     none a = omega arith
 
-begins : (image : Image) (chunks : List Chunk) (from : ℕ) (duplex : Duplex) (x : Link) → 0 < length chunks → Known image chunks → MayExchange chunks x → Held image chunks x.station.machine.memory (begun from duplex) x
+begins : (image : Image) (chunks : List Chunk) (from : ℕ) (duplex : Duplex) (x : Link) → 0 < length chunks → Known image chunks → MayExchange chunks x → Held image chunks x.machine.odt.memory (begun from duplex) x
 begins image chunks from duplex x some known may = record {
   is = record { within = omega arith; words = refl; fits = refl; paid = omega arith };
   kept = record {
     holds = record { size = refl; stand = λ k less b inside. absurd (omega (arith, less)); others = λ b none. refl };
     wide = may.console.wide;
-    stands = (may.none_down, may.silent, subst (λ list. Stood (bytes_of list) false x.station) (drop_none chunks) (starts (bytes_of chunks) x.station may.runs may.stub (chunk_nr chunks 0).address (first_more chunks) (first_is chunks some known)));
+    stands = (may.none_down, may.silent, subst (λ list. Stood (bytes_of list) false x.machine) (drop_none chunks) (starts (bytes_of chunks) x.machine may.runs may.stub (chunk_nr chunks 0).address (first_more chunks) (first_is chunks some known)));
   };
 }
 
 -- ---- the end
 
 -- where the stub stands behind the exchange
-parted : (duplex : Duplex) (image : Image) (chunks : List Chunk) (before : List ℕ) (done : ℕ) (phase : Phase) (x : Link) → PhaseFits chunks done phase → Kept duplex image chunks before done phase x → IsParted chunks done x.station
-parted duplex image chunks before done Settle x fits k = first_parted chunks done x.station k.stands.2
+parted : (duplex : Duplex) (image : Image) (chunks : List Chunk) (before : List ℕ) (done : ℕ) (phase : Phase) (x : Link) → PhaseFits chunks done phase → Kept duplex image chunks before done phase x → IsParted chunks done x.machine
+parted duplex image chunks before done Settle x fits k = first_parted chunks done x.machine k.stands.2
 parted duplex image chunks before done (Answer place) x fits k = amid_parted chunks done (sent_at duplex (chunk_nr chunks done) place) x fits.0 (sent_within duplex (chunk_nr chunks done) place) k.stands.0
 parted duplex image chunks before done Leave x fits k = amid_parted chunks done (2 * (chunk_nr chunks done).size) x fits (omega arith) k.stands
 parted duplex image chunks before done (Ended Complete) x fits k = inl k.stands.1
@@ -116,9 +111,9 @@ runs_fit memory (Opened a) e = absurd (cc)
 runs_fit memory (Typing a v n) e = absurd (cc)
 runs_fit memory (Running p) e = tt
 
-mode_fits : (chunks : List Chunk) (done : ℕ) (s : Station) → IsParted chunks done s → ModeFits s.machine.memory s.machine.mode
-mode_fits chunks done s (inl at) = subst (ModeFits s.machine.memory) (sym at.prompt) tt
-mode_fits chunks done s (inr (left, half, each, at)) = runs_fit s.machine.memory s.machine.mode at.runs
+mode_fits : (chunks : List Chunk) (done : ℕ) (s : Station) → IsParted chunks done s → ModeFits s.odt.memory s.odt.mode
+mode_fits chunks done s (inl at) = subst (ModeFits s.odt.memory) (sym at.prompt) tt
+mode_fits chunks done s (inr (left, half, each, at)) = runs_fit s.odt.memory s.odt.mode at.runs
 
 within_bytes : (R : ℕ → Type 0) (n a from to : ℕ) → from ≤ a → a + n ≤ to → ((b : ℕ) → from ≤ b → b < to → R b) → Each R (places_from n a)
 within_bytes R zero a from to low high each = tt
@@ -135,9 +130,9 @@ within_all R (chunk ∷ chunks) each =
     whole : (a n : ℕ) → a + (a + n - a) ≤ a + n
     whole a n = omega arith
 
-may_fill : (chunks : List Chunk) (done : ℕ) (s : Station) → IsParted chunks done s → MayFill (IsAmong (pieces_of (drop done chunks))) s.machine.mode s.stub
-may_fill chunks done s (inl at) = subst (MayFill (IsAmong (pieces_of (drop done chunks))) s.machine.mode) (sym at.none) (ap is_running at.prompt)
-may_fill chunks done s (inr (left, half, each, at)) = subst (MayFill (IsAmong (pieces_of (drop done chunks))) s.machine.mode) (sym at.is) (at.runs, each)
+may_fill : (chunks : List Chunk) (done : ℕ) (s : Station) → IsParted chunks done s → MayFill (IsAmong (pieces_of (drop done chunks))) s.odt.mode s.stub
+may_fill chunks done s (inl at) = subst (MayFill (IsAmong (pieces_of (drop done chunks))) s.odt.mode) (sym at.none) (ap is_running at.prompt)
+may_fill chunks done s (inr (left, half, each, at)) = subst (MayFill (IsAmong (pieces_of (drop done chunks))) s.odt.mode) (sym at.is) (at.runs, each)
 
 back : (duplex : Duplex) (image : Image) (chunks : List Chunk) (before : List ℕ) (done : ℕ) (phase : Phase) (x : Link) → Kept duplex image chunks before done phase x → phase ≡ Ended Complete → IsBack x
 back duplex image chunks before done Settle x k e = absurd (cc)
@@ -153,28 +148,28 @@ led_from image chunks (what ∷ things) e = led_from image chunks things (advanc
 -- ---- a whole dialogue
 
 pub whole_exchange : (program : Program) (plan : PlanValue) (from : ℕ) (duplex : Duplex) (chunks : List Chunk) (things : List Heard) (x y : Link) → AreChunks plan from chunks → MayExchange chunks x →
-    Passes program x (dialogue plan.image chunks (begun from duplex) things) y → IsExchanged program plan chunks x.station.machine.memory (led plan.image chunks (begun from duplex) things) y
+    Passes program x (dialogue plan.image chunks (begun from duplex) things) y → IsExchanged program plan chunks x.machine.odt.memory (led plan.image chunks (begun from duplex) things) y
 whole_exchange program plan from duplex chunks things x y are may passes =
     let e : Exchange = led plan.image chunks (begun from duplex) things in
     let known : Known plan.image chunks = record { each = are.each; small = told_small plan are.sound } in
-    let h : Held plan.image chunks x.station.machine.memory e y =
-    held program plan.image chunks x.station.machine.memory things (begun from duplex) x y (are_small plan from chunks are) (chunks_apart plan from chunks are) known (begins plan.image chunks from duplex x are.some known may) passes in
-    let stands : IsParted chunks e.done y.station = parted e.duplex plan.image chunks x.station.machine.memory e.done e.phase y h.is.fits h.kept in
+    let h : Held plan.image chunks x.machine.odt.memory e y =
+    held program plan.image chunks x.machine.odt.memory things (begun from duplex) x y (are_small plan from chunks are) (chunks_apart plan from chunks are) known (begins plan.image chunks from duplex x are.some known may) passes in
+    let stands : IsParted chunks e.done y.machine = parted e.duplex plan.image chunks x.machine.odt.memory e.done e.phase y h.is.fits h.kept in
     let origin : e.from ≡ from = led_from plan.image chunks things (begun from duplex) in record {
       is = h.is;
       holds = h.kept.holds;
-      words = λ first. subst (λ n. FirstStand plan.words n y.station.machine.memory) (sym h.is.words)
-          (subst (λ n. FirstStand plan.words (words_behind n chunks e.done) y.station.machine.memory) (sym origin)
-          (words_stand plan chunks x.station.machine.memory y.station.machine.memory e.done from are.sound are h.is.within h.kept.holds may.room (subst (λ n. FirstStand plan.words n x.station.machine.memory) origin first)));
-      back = back e.duplex plan.image chunks x.station.machine.memory e.done e.phase y h.kept;
+      words = λ first. subst (λ n. FirstStand plan.words n y.machine.odt.memory) (sym h.is.words)
+          (subst (λ n. FirstStand plan.words (words_behind n chunks e.done) y.machine.odt.memory) (sym origin)
+          (words_stand plan chunks x.machine.odt.memory y.machine.odt.memory e.done from are.sound are h.is.within h.kept.holds may.room (subst (λ n. FirstStand plan.words n x.machine.odt.memory) origin first)));
+      back = back e.duplex plan.image chunks x.machine.odt.memory e.done e.phase y h.kept;
       left = record {
         console = record {
           size = subst (λ n. n ≤ 28672) (sym h.kept.holds.size) may.console.size;
           wide = h.kept.wide;
-          mode = mode_fits chunks e.done y.station stands;
+          mode = mode_fits chunks e.done y.machine stands;
         };
-        stub = may_fill chunks e.done y.station stands;
-        down = inl (under_way e.duplex plan.image chunks x.station.machine.memory e.done e.phase y h.kept);
+        stub = may_fill chunks e.done y.machine stands;
+        down = inl (under_way e.duplex plan.image chunks x.machine.odt.memory e.done e.phase y h.kept);
       };
     }
 

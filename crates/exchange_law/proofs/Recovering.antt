@@ -44,13 +44,16 @@ use Rattle.honest_line.proofs.Runs.{Leads, dialogue_leads}
 use Rattle.honest_line.proofs.Trusted.{keys_of-dialogue}
 use Rattle.exchange_core.specs.Chunk.{is_nibble}
 use Rattle.exchange_law.specs.Station.{Program, Station, Stub, Each, IsHaltCharacter, Meets, StubMeets, begins, halted}
-use Rattle.exchange_law.specs.Line.{Gives, Link, Moves, MovesTimes, Passes, Takes, sent}
+use Rattle.line_world.specs.Wire.{sent}
+use Rattle.honest_line.specs.Moves.{Gives}
+use Rattle.exchange_law.specs.Line.{Link, Moves, MovesTimes, Passes, Takes}
 use Rattle.exchange_law.specs.Unsettled.{IsForStub, IsUnsettled, MayFill, Untouched}
 use Rattle.exchange_law.proofs.Texts.{each_removed}
 use Rattle.exchange_law.proofs.Words.{lies_same, still_stands}
 use Rattle.exchange_law.specs.Mirror.{IsJustAMachine, wire_at}
 use Rattle.exchange_law.specs.Recovery.{HasStarted, HostsRecover, IsInOrder, IsLaterAt}
-use Rattle.exchange_law.proofs.Mirrors.{IsMirrored, mirrored, no_first, none_begun, none_removed, passes_said}
+use Rattle.exchange_law.proofs.Mirrors.{IsMirrored, mirrored, no_first, none_begun, none_removed}
+use Rattle.honest_line.proofs.Passings.{passing_said}
 use Rattle.exchange_law.proofs.Starting.{AtRest, RunsAtStart, StartedRests, going_at, rests_events, runs_events, unmarked_still}
 use Rattle.exchange_law.proofs.Resettling.{IsOver, Settling, lost_grows, over_move, settling_move, untouched_same}
 
@@ -59,14 +62,14 @@ use Rattle.exchange_law.proofs.Resettling.{IsOver, Settling, lost_grows, over_mo
 -- the stub runs, and `Z` is under way to it or was lost; so many mishaps are paid
 pub record Sounding (mishaps : ℕ) (x : Link) : Type 0 where
   pub stub : Stub
-  pub runs : x.station.stub ≡ Some stub
+  pub runs : x.machine.stub ≡ Some stub
   pub silent : x.up ≡ []
   pub down : ((x.down ≡ []) × (mishaps + 1 ≤ x.lost)) ⊎ ((x.down ≡ 90 ∷ []) × (mishaps ≤ x.lost))
 
 -- the stub has halted, and what ODT printed then is under way
 pub record Stopped (mishaps : ℕ) (x : Link) : Type 0 where
-  pub none : x.station.stub ≡ None
-  pub prompt : x.station.machine.mode ≡ Prompt
+  pub none : x.machine.stub ≡ None
+  pub prompt : x.machine.odt.mode ≡ Prompt
   pub none_down : x.down ≡ []
   pub halt : Each IsHaltCharacter x.up
   pub paid : mishaps ≤ x.lost
@@ -99,10 +102,10 @@ pub record Waiting (program : Program) (R : ℕ → Type 0) (before : List ℕ) 
 pub record Settled (program : Program) (R : ℕ → Type 0) (before : List ℕ) (paid : ℕ) (core : Core) (x : Link) : Type 0 where
   pub sync : core.phase ≡ Sync 0
   pub unmarked : core.going ≡ false
-  pub still : RunsWith false x.station.machine.mode
+  pub still : RunsWith false x.machine.odt.mode
   pub kept : IsKept (over core (wire_at x core.spent))
   pub just : IsJustAMachine program x
-  pub untouched : Untouched R before x.station.machine.memory
+  pub untouched : Untouched R before x.machine.odt.memory
   pub owed : core.spent + paid ≤ x.lost + 1
 
 -- ---- the first words stand all the while
@@ -124,13 +127,13 @@ waits_takes program mishaps x y t (inl s) = elim s.down [
       let both : 90 ∷ [] ≡ t.c ∷ t.rest = sym z.0 ∙ t.first in
       let key : 90 ≡ t.c = cc both in
       let rest : t.rest ≡ [] = none_behind t.c t.rest both in
-      let met : StubMeets false x.station.machine s.stub.left s.stub.half t.station' t.answer =
-      subst (λ c. StubMeets (is_nibble c) x.station.machine s.stub.left s.stub.half t.station' t.answer) (sym key)
-      (subst (λ stub. Meets program stub x.station.machine t.c t.station' t.answer) s.runs t.meets) in
-      let after : Link = record { station = halted x.station.machine x.station.machine.memory; down = []; up = t.answer; lost = x.lost } in
-      let now : y ≡ after = t.now ∙ (ap (λ (st : Station). record { station = st; down = t.rest; up = x.up ++ t.answer; lost = x.lost }) met.0
-      ∙ (ap (λ (down : List ℕ). record { station = halted x.station.machine x.station.machine.memory; down = down; up = x.up ++ t.answer; lost = x.lost }) rest
-      ∙ ap (λ (up : List ℕ). record { station = halted x.station.machine x.station.machine.memory; down = []; up = up ++ t.answer; lost = x.lost }) s.silent)) in
+      let met : StubMeets false x.machine.odt s.stub.left s.stub.half t.station' t.answer =
+      subst (λ c. StubMeets (is_nibble c) x.machine.odt s.stub.left s.stub.half t.station' t.answer) (sym key)
+      (subst (λ stub. Meets program stub x.machine.odt t.c t.station' t.answer) s.runs t.meets) in
+      let after : Link = record { machine = halted x.machine.odt x.machine.odt.memory; down = []; up = t.answer; lost = x.lost } in
+      let now : y ≡ after = t.now ∙ (ap (λ (st : Station). record { machine = st; down = t.rest; up = x.up ++ t.answer; lost = x.lost }) met.0
+      ∙ (ap (λ (down : List ℕ). record { machine = halted x.machine.odt x.machine.odt.memory; down = down; up = x.up ++ t.answer; lost = x.lost }) rest
+      ∙ ap (λ (up : List ℕ). record { machine = halted x.machine.odt x.machine.odt.memory; down = []; up = up ++ t.answer; lost = x.lost }) s.silent)) in
       inr (subst (Stopped mishaps) (sym now) (record { none = refl; prompt = refl; none_down = refl; halt = met.1; paid = z.1 }))
 ]
   where
@@ -158,11 +161,11 @@ waits_move program mishaps x y (inr (inr (k, below, now))) (inl s) = absurd (non
 waits_move program mishaps x y (inr (inr (k, below, now))) (inr s) =
     inr (subst (Stopped mishaps) (sym now) (record { none = s.none; prompt = s.prompt; none_down = s.none_down; halt = each_removed IsHaltCharacter x.up k s.halt; paid = paid_on mishaps x.lost s.paid }))
 
-owes_move : (program : Program) (R : ℕ → Type 0) (mishaps : ℕ) (x y : Link) → MayFill R x.station.machine.mode x.station.stub → Moves program x y → Owes mishaps x → Owes mishaps y
+owes_move : (program : Program) (R : ℕ → Type 0) (mishaps : ℕ) (x y : Link) → MayFill R x.machine.odt.mode x.machine.stub → Moves program x y → Owes mishaps x → Owes mishaps y
 owes_move program R mishaps x y may move (inl paid) = let grows = lost_grows program x y move in inl (omega (arith, paid, grows))
 owes_move program R mishaps x y may move (inr (done, paid)) = let grows = lost_grows program x y move in inr (over_move program R x y may move done, omega (arith, paid, grows))
 
-phase_move : (program : Program) (R : ℕ → Type 0) (phase : Phase) (patience paid spent used : ℕ) (x y : Link) → MayFill R x.station.machine.mode x.station.stub → Moves program x y → Waits phase patience paid spent used x → Waits phase patience paid spent used y
+phase_move : (program : Program) (R : ℕ → Type 0) (phase : Phase) (patience paid spent used : ℕ) (x y : Link) → MayFill R x.machine.odt.mode x.machine.stub → Moves program x y → Waits phase patience paid spent used x → Waits phase patience paid spent used y
 phase_move program R Settle patience paid spent used x y may move w = (w.0, owes_move program R (spent + paid) x y may move w.1)
 phase_move program R (Sync place) patience paid spent used x y may move w = (w.0, w.1, waits_move program (spent + paid) x y move w.2)
 phase_move program R (Ended GaveUp) patience paid spent used x y may move w = let grows = lost_grows program x y move in (let one = w.0 in omega (arith, one, grows), let one = w.1 in omega (arith, one, grows))
@@ -214,26 +217,26 @@ standing_is : (P : ℕ → Type 0) (going : Bool) (all verified : ℕ) → going
 standing_is P true all verified e h i below = absurd (cc)
 standing_is P false all verified e h i below = h i below
 
-settles : (program : Program) (R : ℕ → Type 0) (before : List ℕ) (paid : ℕ) (core : Core) (x : Link) → IsHost (record core { phase = Sync 0 }) → core.going ≡ false → Region R before core.plan core.verified → Settling program R before x → core.spent + 1 ≤ core.sent → core.spent + paid ≤ x.lost + 1 → x.station.stub ≡ None →
-    is_running x.station.machine.mode ≡ false → x.up ≡ [] → Settled program R before paid (record core { phase = Sync 0 }) (record x { down = 90 ∷ [] })
+settles : (program : Program) (R : ℕ → Type 0) (before : List ℕ) (paid : ℕ) (core : Core) (x : Link) → IsHost (record core { phase = Sync 0 }) → core.going ≡ false → Region R before core.plan core.verified → Settling program R before x → core.spent + 1 ≤ core.sent → core.spent + paid ≤ x.lost + 1 → x.machine.stub ≡ None →
+    is_running x.machine.odt.mode ≡ false → x.up ≡ [] → Settled program R before paid (record core { phase = Sync 0 }) (record x { down = 90 ∷ [] })
 settles program R before paid core x host unmarked region s few owed none stopped silent =
-    let first : FirstStand core.plan.words core.verified x.station.machine.memory = first_now R before x.station.machine.memory core.plan core.verified host.image host.within region s.untouched in record {
+    let first : FirstStand core.plan.words core.verified x.machine.odt.memory = first_now R before x.machine.odt.memory core.plan core.verified host.image host.within region s.untouched in record {
       sync = refl;
       unmarked = unmarked;
-      still = at_rest false x.station.machine.mode stopped;
+      still = at_rest false x.machine.odt.mode stopped;
       kept = record {
         machine = s.line.console;
         host = host;
         one_way = (refl, silent);
         few = omega (arith, ap length silent);
         words = standing_is _ core.going (length core.plan.words) core.verified unmarked
-            (λ i below. (first.lies i below, merged-Stands (word_nr core.plan.words i) (word_at x.station.machine.memory (word_nr core.plan.words i).address) (first.stands i below)));
-        running = at_rest core.going x.station.machine.mode stopped;
+            (λ i below. (first.lies i below, merged-Stands (word_nr core.plan.words i) (word_at x.machine.odt.memory (word_nr core.plan.words i).address) (first.stands i below)));
+        running = at_rest core.going x.machine.odt.mode stopped;
         spent = omega arith;
         characters = let none_up = ap length silent in omega (arith, none_up, few);
-        phase = record { key = (refl, refl, is_stopped x.station.machine.mode stopped); rest = rest_none x.up silent; paid = tt; facts = tt };
+        phase = record { key = (refl, refl, is_stopped x.machine.odt.mode stopped); rest = rest_none x.up silent; paid = tt; facts = tt };
       };
-      just = record { stub = none ∙ sym (none_begun program x.station.machine.memory x.station.machine.mode stopped); quiet = λ runs. absurd (both x.station.machine.mode runs stopped) };
+      just = record { stub = none ∙ sym (none_begun program x.machine.odt.memory x.machine.odt.mode stopped); quiet = λ runs. absurd (both x.machine.odt.mode runs stopped) };
       untouched = s.untouched;
       owed = owed;
     }
@@ -241,8 +244,8 @@ settles program R before paid core x host unmarked region s few owed none stoppe
     both : (mode : Mode) → is_running mode ≡ true → is_running mode ≡ false → ⊥
     both mode e f = cc
 
-    rest_none : (up : List ℕ) → up ≡ [] → RestFits Prompt (rest_of (Sync 0) (site (over (record core { phase = Sync 0 }) (wire_at (record x { down = 90 ∷ [] }) core.spent)))) x.station.machine.mode up
-    rest_none up none_up = subst (λ list. RestFits Prompt (rest_of (Sync 0) (site (over (record core { phase = Sync 0 }) (wire_at (record x { down = 90 ∷ [] }) core.spent)))) x.station.machine.mode list) (sym none_up) tt
+    rest_none : (up : List ℕ) → up ≡ [] → RestFits Prompt (rest_of (Sync 0) (site (over (record core { phase = Sync 0 }) (wire_at (record x { down = 90 ∷ [] }) core.spent)))) x.machine.odt.mode up
+    rest_none up none_up = subst (λ list. RestFits Prompt (rest_of (Sync 0) (site (over (record core { phase = Sync 0 }) (wire_at (record x { down = 90 ∷ [] }) core.spent)))) x.machine.odt.mode list) (sym none_up) tt
 
 -- ---- a thing heard
 
@@ -350,9 +353,9 @@ got program R before paid core (Start place) x w c rest first = absurd w.stands
 got program R before paid core Go x w c rest first = absurd w.stands
 
 -- while a stub runs losses pay for all
-runs_owes : (mishaps : ℕ) (x : Link) (stub : Stub) → x.station.stub ≡ Some stub → Owes mishaps x → mishaps ≤ x.lost
+runs_owes : (mishaps : ℕ) (x : Link) (stub : Stub) → x.machine.stub ≡ Some stub → Owes mishaps x → mishaps ≤ x.lost
 runs_owes mishaps x stub is (inl paid) = paid
-runs_owes mishaps x stub is (inr (done, paid)) = absurd (clash x.station.stub is done.none)
+runs_owes mishaps x stub is (inr (done, paid)) = absurd (clash x.machine.stub is done.none)
   where
     clash : (o : Option Stub) → o ≡ Some stub → o ≡ None → ⊥
     clash o e f = absurd (cc (sym e ∙ f))
@@ -362,7 +365,7 @@ owes_one mishaps x (inl paid) = omega (arith, paid)
 owes_one mishaps x (inr (done, paid)) = paid
 
 -- `Z` is sent over a silent line: a stub will take it, or a machine answers
-z_sent : (program : Program) (R : ℕ → Type 0) (before : List ℕ) (paid : ℕ) (core : Core) (v : Link) (stub : Option Stub) → v.station.stub ≡ stub → IsHost (record core { phase = Sync 0 }) → core.going ≡ false → Region R before core.plan core.verified → Settling program R before v → core.spent + 1 ≤ core.sent → Owes (core.spent + paid) v → v.down ≡ [] → v.up ≡ [] →
+z_sent : (program : Program) (R : ℕ → Type 0) (before : List ℕ) (paid : ℕ) (core : Core) (v : Link) (stub : Option Stub) → v.machine.stub ≡ stub → IsHost (record core { phase = Sync 0 }) → core.going ≡ false → Region R before core.plan core.verified → Settling program R before v → core.spent + 1 ≤ core.sent → Owes (core.spent + paid) v → v.down ≡ [] → v.up ≡ [] →
     Waiting program R before paid (record core { phase = Sync 0 }) (sent v (90 ∷ [])) ⊎ Settled program R before paid (record core { phase = Sync 0 }) (sent v (90 ∷ []))
 z_sent program R before paid core v (Some stub) is host unmarked region s few owes none silent =
     subst (λ (down : List ℕ). Waiting program R before paid (record core { phase = Sync 0 }) (record v { down = down ++ 90 ∷ [] }) ⊎ Settled program R before paid (record core { phase = Sync 0 }) (record v { down = down ++ 90 ∷ [] })) (sym none)
@@ -375,11 +378,11 @@ z_sent program R before paid core v (Some stub) is host unmarked region s few ow
     }))
 z_sent program R before paid core v None is host unmarked region s few owes none silent =
     subst (λ (down : List ℕ). Waiting program R before paid (record core { phase = Sync 0 }) (record v { down = down ++ 90 ∷ [] }) ⊎ Settled program R before paid (record core { phase = Sync 0 }) (record v { down = down ++ 90 ∷ [] })) (sym none)
-    (inr (settles program R before paid core v host unmarked region s few (owes_one (core.spent + paid) v owes) is (subst (MayFill R v.station.machine.mode) is s.line.stub) silent))
+    (inr (settles program R before paid core v host unmarked region s few (owes_one (core.spent + paid) v owes) is (subst (MayFill R v.machine.odt.mode) is s.line.stub) silent))
 
 quiet : (program : Program) (R : ℕ → Type 0) (before : List ℕ) (paid : ℕ) (core : Core) (phase : Phase) (x : Link) → Waiting program R before paid (record core { phase = phase }) x → x.down ≡ [] → x.up ≡ [] → Next' program R before paid (move (record core { phase = phase }) Silence) x
 quiet program R before paid core Settle x w none silent =
-    z_sent program R before paid (record core { sent = core.sent + 1; phase = Sync 0 }) x x.station.stub refl (kept (record core { phase = Settle }) Silence w.host) w.unmarked w.region w.settling (let few = w.stands.0 in omega (arith, few)) w.stands.1 none silent
+    z_sent program R before paid (record core { sent = core.sent + 1; phase = Sync 0 }) x x.machine.stub refl (kept (record core { phase = Settle }) Silence w.host) w.unmarked w.region w.settling (let few = w.stands.0 in omega (arith, few)) w.stands.1 none silent
 quiet program R before paid core (Sync place) x w none silent = by (ltb core.spent core.patience) refl (kept (record core { phase = Sync place }) Silence w.host)
   where
     -- a `Z` that was lost pays for its mishap, or the stub that has halted does
@@ -402,7 +405,7 @@ quiet program R before paid core (Sync place) x w none silent = by (ltb core.spe
 
     by : (test : Bool) → ltb core.spent core.patience ≡ test → IsHost (if test then sends (record core { spent = core.spent + 1; phase = Sync place }) 90 (Sync 0) else listens (record core { phase = Sync place }) (Ended GaveUp)).next →
         Next' program R before paid (if test then sends (record core { spent = core.spent + 1; phase = Sync place }) 90 (Sync 0) else listens (record core { phase = Sync place }) (Ended GaveUp)) x
-    by true e h = z_sent program R before paid (record core { spent = core.spent + 1; sent = core.sent + 1; phase = Sync 0 }) x x.station.stub refl h w.unmarked w.region w.settling (let few = w.stands.1 in omega (arith, few)) (owed w.stands.2) none silent
+    by true e h = z_sent program R before paid (record core { spent = core.spent + 1; sent = core.sent + 1; phase = Sync 0 }) x x.machine.stub refl h w.unmarked w.region w.settling (let few = w.stands.1 in omega (arith, few)) (owed w.stands.2) none silent
     by false e h = listens_on program R before paid (record core { phase = Sync place }) (Ended GaveUp) x
         (record { host = h; unmarked = w.unmarked; region = w.region; settling = w.settling; stands = used_up core.patience core.spent paid x.lost (not_below core.spent core.patience e) (enough w.stands.2) })
 quiet program R before paid core (Ended GaveUp) x w none silent = listens_on program R before paid (record core { phase = Ended GaveUp }) (Ended GaveUp) x w
@@ -489,14 +492,14 @@ record SafeBut (R : ℕ → Type 0) (before : List ℕ) (core : Core) (now : Lis
 
 -- what comes of a host that hears these things
 record Came (program : Program) (R : ℕ → Type 0) (before : List ℕ) (paid : ℕ) (core : Core) (keys : List ℕ) (y : Link) : Type 0 where
-  pub safe : SafeBut R before core y.station.machine.memory
+  pub safe : SafeBut R before core y.machine.odt.memory
   pub last : EndsAtGo keys
   pub marked : Contains keys 71 → core.going ≡ true
   pub typed : core.going ≡ true → Contains keys 71
   pub started : core.phase ≡ Ended Started → HasStarted program core y
   pub leaves : (IsUnsettled program R y × (core.going ≡ false) × ((i : ℕ) → i < core.verified → (b : ℕ) → gives (word_nr core.plan.words i) b ≡ true → R b → ⊥)) ⊎ IsInOrder program core y
   pub spent : core.spent + paid ≤ y.lost + 1
-  pub cause : HasCause core.phase y.station.machine.memory core.patience core.spent (y.lost + 1 - paid)
+  pub cause : HasCause core.phase y.machine.odt.memory core.patience core.spent (y.lost + 1 - paid)
 
 unset : (going : Bool) → going ≡ false → going ≡ true → ⊥
 unset going e f = absurd (cc (sym e ∙ f))
@@ -554,10 +557,10 @@ has_cause (Start place) memory patience spent lost more le h = tt
 has_cause Go memory patience spent lost more le h = tt
 
 -- all words stand under the mark
-all_stand : (core : Core) (y : Link) (lost : ℕ) → IsKept (over core (wire_at y lost)) → core.going ≡ true → FirstStand core.plan.words (length core.plan.words) y.station.machine.memory
+all_stand : (core : Core) (y : Link) (lost : ℕ) → IsKept (over core (wire_at y lost)) → core.going ≡ true → FirstStand core.plan.words (length core.plan.words) y.machine.odt.memory
 all_stand core y lost k set = record {
   lies = λ i below. (there i below).0;
-  stands = λ i below. Stands-unchanged (word_nr core.plan.words i) (word_at y.station.machine.memory (word_nr core.plan.words i).address) (there i below).1;
+  stands = λ i below. Stands-unchanged (word_nr core.plan.words i) (word_at y.machine.odt.memory (word_nr core.plan.words i).address) (there i below).1;
 }
   where
     every : (P : ℕ → Type 0) (going : Bool) (all verified : ℕ) → going ≡ true → ((i : ℕ) → i < (if going then all else verified) → P i) → (i : ℕ) → i < all → P i
@@ -570,7 +573,7 @@ all_stand core y lost k set = record {
 came_waiting : (program : Program) (R : ℕ → Type 0) (before : List ℕ) (paid : ℕ) (core : Core) (y : Link) → Waiting program R before paid core y → Came program R before paid core [] y
 came_waiting program R before paid core y w = record {
   safe = record {
-    verified = first_now R before y.station.machine.memory core.plan core.verified w.host.image w.host.within w.region w.settling.untouched;
+    verified = first_now R before y.machine.odt.memory core.plan core.verified w.host.image w.host.within w.region w.settling.untouched;
     size = w.settling.untouched.size;
     outside = λ b low not none. w.settling.untouched.bytes b not;
     going = λ set. absurd (unset core.going w.unmarked set);
@@ -580,8 +583,8 @@ came_waiting program R before paid core y w = record {
   typed = λ set. absurd (unset core.going w.unmarked set);
   started = λ e. absurd (not_started core.phase core.patience paid core.spent core.sent y w.stands e);
   leaves = inl (w.settling.line, w.unmarked, w.region.others);
-  spent = (waits_paid core.phase core.patience paid core.spent core.sent y.station.machine.memory y w.stands).0;
-  cause = (waits_paid core.phase core.patience paid core.spent core.sent y.station.machine.memory y w.stands).1;
+  spent = (waits_paid core.phase core.patience paid core.spent core.sent y.machine.odt.memory y w.stands).0;
+  cause = (waits_paid core.phase core.patience paid core.spent core.sent y.machine.odt.memory y w.stands).1;
 }
 
 came_settled : (program : Program) (R : ℕ → Type 0) (before : List ℕ) (paid : ℕ) (core : Core) (things : List Heard) (x y : Link) → Settled program R before paid core x → Passes program x (dialogue core things) y →
@@ -594,14 +597,14 @@ came_settled program R before paid core things x y s passes =
     let run : Leads w (replay core things) end = dialogue_leads things core (wire_at x core.spent) (wire_at y m.lost') m.crosses in
     let order : IsKept end = subst IsKept run.world (kept_events w run.events s.kept) in
     let starts : StartsOnce core last (replay core things) = subst (λ keys. StartsOnce core last keys) run.keys_are (subst (λ (z : Scene). StartsOnce core z.core (typed w run.events)) run.world (starts_events w run.events s.kept)) in
-    let safe : IsSafe x.station.machine.memory last y.station.machine.memory = subst (λ (z : Scene). IsSafe x.station.machine.memory z.core z.machine.memory) run.world (safe_events w run.events s.kept) in
-    let from_start : RunsAtStart end = subst RunsAtStart run.world (runs_events w run.events s.kept (unmarked_still x.station.machine.mode s.still (start_of core))) in
+    let safe : IsSafe x.machine.odt.memory last y.machine.odt.memory = subst (λ (z : Scene). IsSafe x.machine.odt.memory z.core z.machine.memory) run.world (safe_events w run.events s.kept) in
+    let from_start : RunsAtStart end = subst RunsAtStart run.world (runs_events w run.events s.kept (unmarked_still x.machine.odt.mode s.still (start_of core))) in
     let rest : StartedRests end = subst StartedRests run.world (rests_events w run.events s.kept (λ e. absurd (not_now core.phase s.sync e))) in
     record {
       safe = record {
         verified = safe.verified;
         size = safe.bytes.size ∙ s.untouched.size;
-        outside = λ b low not none. same_or (get last.plan.image b) (byte_of y.station.machine.memory b) (byte_of x.station.machine.memory b) none (safe.bytes.bytes b (let size = s.untouched.size in omega (arith, low, size))) ∙ s.untouched.bytes b not;
+        outside = λ b low not none. same_or (get last.plan.image b) (byte_of y.machine.odt.memory b) (byte_of x.machine.odt.memory b) none (safe.bytes.bytes b (let size = s.untouched.size in omega (arith, low, size))) ∙ s.untouched.bytes b not;
         going = λ set. all_stand last y m.lost' order set;
       };
       last = starts.last;
@@ -613,11 +616,11 @@ came_settled program R before paid core things x y s passes =
         silent = r.silent;
         console = order.machine;
         runs = r.runs;
-        stub = m.just.stub ∙ ap (begins program false y.station.machine.memory) r.runs;
+        stub = m.just.stub ∙ ap (begins program false y.machine.odt.memory) r.runs;
       };
       leaves = inr (record { lost = m.lost'; kept = order; just = m.just; from_start = from_start });
       spent = paid_by last.spent m.lost' core.spent x.lost y.lost paid order.spent m.losses s.owed;
-      cause = has_cause last.phase y.station.machine.memory last.patience last.spent m.lost' (y.lost + 1 - paid) (within_by m.lost' core.spent x.lost y.lost paid m.losses s.owed) (tame_of end order).cause;
+      cause = has_cause last.phase y.machine.odt.memory last.patience last.spent m.lost' (y.lost + 1 - paid) (within_by m.lost' core.spent x.lost y.lost paid m.losses s.owed) (tame_of end order).cause;
     }
   where
     paid_by : (last lost' spent lost now paid : ℕ) → last ≤ lost' → lost' + lost ≡ spent + now → spent + paid ≤ lost + 1 → last + paid ≤ now + 1
@@ -642,7 +645,7 @@ came program R before paid (what ∷ things) core x y w (z, v, moved, gives, pas
     let there : Waiting program R before paid core z = waiting_times program R before paid core moved.0 x z w moved.1 in
     let key : Option ℕ = (move core what).key in
     let next : Core = (move core what).next in
-    let rest : Passes program (sent v (option_to_list key)) (dialogue next things) y = passes_said program key (dialogue next things) v y passes in
+    let rest : Passes program (sent v (option_to_list key)) (dialogue next things) y = passing_said (Moves program) key (dialogue next things) v y passes in
     let only : OnlyZ key = z_only program core core.phase what R before paid z v there gives in
     let later : Came program R before paid (led next things) (replay next things) y = elim (heard_waiting program R before paid core what z v there gives) [
       | inl waits ↦ came program R before paid things next (sent v (option_to_list key)) y waits rest
@@ -667,23 +670,23 @@ begins_waiting plan k patience x = by (k == length plan.words && is_none plan.st
     by true = omega arith
     by false = (omega arith, inl (omega arith))
 
-pub waiting_at_first : (program : Program) (R : ℕ → Type 0) (plan : PlanValue) (k patience : ℕ) (x : Link) → IsHost (begun plan k false patience) → Region R x.station.machine.memory plan k → IsUnsettled program R x →
-    Waiting program R x.station.machine.memory x.lost (begun plan k false patience) x
+pub waiting_at_first : (program : Program) (R : ℕ → Type 0) (plan : PlanValue) (k patience : ℕ) (x : Link) → IsHost (begun plan k false patience) → Region R x.machine.odt.memory plan k → IsUnsettled program R x →
+    Waiting program R x.machine.odt.memory x.lost (begun plan k false patience) x
 waiting_at_first program R plan k patience x host region line = record {
   host = host;
   unmarked = refl;
   region = region;
-  settling = record { line = line; untouched = untouched_same R x.station.machine.memory };
+  settling = record { line = line; untouched = untouched_same R x.machine.odt.memory };
   stands = begins_waiting plan k patience x;
 }
 
 pub hosts_recover : HostsRecover
 hosts_recover at core things y may passes =
     let x = at.found in
-    let waits : Waiting at.program (IsLaterAt at) x.station.machine.memory x.lost core x =
-    subst (λ c. Waiting at.program (IsLaterAt at) x.station.machine.memory x.lost c x) (sym may.at_first)
+    let waits : Waiting at.program (IsLaterAt at) x.machine.odt.memory x.lost core x =
+    subst (λ c. Waiting at.program (IsLaterAt at) x.machine.odt.memory x.lost c x) (sym may.at_first)
     (waiting_at_first at.program (IsLaterAt at) core.plan core.verified core.patience x (subst IsHost may.at_first may.host) (record { others = may.beside; first = may.stand }) may.line) in
-    let c = came at.program (IsLaterAt at) x.station.machine.memory x.lost things core x y waits passes in record {
+    let c = came at.program (IsLaterAt at) x.machine.odt.memory x.lost things core x y waits passes in record {
       safe = record { verified = c.safe.verified; size = c.safe.size; outside = c.safe.outside; going = c.safe.going };
       last = subst EndsAtGo (sym (keys_of-dialogue things core)) c.last;
       marked = λ h. c.marked (subst (λ keys. Contains keys 71) (keys_of-dialogue things core) h);

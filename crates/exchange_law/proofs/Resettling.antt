@@ -69,19 +69,19 @@ stub_key_refused m c for stopped = subst (λ key. IsRefused m.memory (row m.styl
 
 -- the station behind it: only such bytes changed, and only such may still change
 pub record Stays (R : ℕ → Type 0) (before : List ℕ) (s : Station) : Type 0 where
-  pub untouched : Untouched R before s.machine.memory
-  pub console : IsMachine s.machine
-  pub stub : MayFill R s.machine.mode s.stub
+  pub untouched : Untouched R before s.odt.memory
+  pub console : IsMachine s.odt
+  pub stub : MayFill R s.odt.mode s.stub
 
-at_prompt : (R : ℕ → Type 0) (m : Machine) (s : Station) → s.machine.memory ≡ m.memory → s.machine.mode ≡ Prompt → s.stub ≡ None → IsMachine m → Stays R m.memory s
+at_prompt : (R : ℕ → Type 0) (m : Machine) (s : Station) → s.odt.memory ≡ m.memory → s.odt.mode ≡ Prompt → s.stub ≡ None → IsMachine m → Stays R m.memory s
 at_prompt R m s same prompt none is = record {
   untouched = record { size = ap length same; bytes = λ b _. ap (λ memory. byte_of memory b) same };
   console = record {
     size = subst (λ memory. length memory ≤ 28672) (sym same) is.size;
     wide = subst IsWide (sym same) is.wide;
-    mode = subst (ModeFits s.machine.memory) (sym prompt) tt;
+    mode = subst (ModeFits s.odt.memory) (sym prompt) tt;
   };
-  stub = subst (MayFill R s.machine.mode) (sym none) (ap is_running prompt);
+  stub = subst (MayFill R s.odt.mode) (sym none) (ap is_running prompt);
 }
 
 runs_fit : (memory : List ℕ) (mode : Mode) → is_running mode ≡ true → ModeFits memory mode
@@ -139,21 +139,21 @@ odt_stays program R m c for stopped is =
 
 -- no stub runs any more, and none will: no key is under way that could start one
 pub record IsOver (x : Link) : Type 0 where
-  pub none : x.station.stub ≡ None
+  pub none : x.machine.stub ≡ None
   pub keys : Each IsForStub x.down
 
-over_takes : (program : Program) (R : ℕ → Type 0) (x y : Link) → MayFill R x.station.machine.mode x.station.stub → Takes program x y → IsOver x → IsOver y
+over_takes : (program : Program) (R : ℕ → Type 0) (x y : Link) → MayFill R x.machine.odt.mode x.machine.stub → Takes program x y → IsOver x → IsOver y
 over_takes program R x y may t o =
     let all : Each IsForStub (t.c ∷ t.rest) = subst (Each IsForStub) t.first o.keys in
-    let stopped : is_running x.station.machine.mode ≡ false = subst (MayFill R x.station.machine.mode) o.none may in
-    let met = subst (λ stub. Meets program stub x.station.machine t.c t.station' t.answer) o.none t.meets in
-    let refused = stub_key_refused x.station.machine t.c all.0 stopped in
+    let stopped : is_running x.machine.odt.mode ≡ false = subst (MayFill R x.machine.odt.mode) o.none may in
+    let met = subst (λ stub. Meets program stub x.machine.odt t.c t.station' t.answer) o.none t.meets in
+    let refused = stub_key_refused x.machine.odt t.c all.0 stopped in
     subst IsOver (sym t.now) (record {
-      none = ap (λ (s : Station). s.stub) met.0 ∙ none_begins program (is_running x.station.machine.mode) (after_key x.station.machine t.c).memory (after_key x.station.machine t.c).mode refused.mode;
+      none = ap (λ (s : Station). s.stub) met.0 ∙ none_begins program (is_running x.machine.odt.mode) (after_key x.machine.odt t.c).memory (after_key x.machine.odt t.c).mode refused.mode;
       keys = all.1;
     })
 
-pub over_move : (program : Program) (R : ℕ → Type 0) (x y : Link) → MayFill R x.station.machine.mode x.station.stub → Moves program x y → IsOver x → IsOver y
+pub over_move : (program : Program) (R : ℕ → Type 0) (x y : Link) → MayFill R x.machine.odt.mode x.machine.stub → Moves program x y → IsOver x → IsOver y
 over_move program R x y may (inl t) o = over_takes program R x y may t o
 over_move program R x y may (inr (inl (k, below, now))) o = subst IsOver (sym now) (record { none = o.none; keys = each_removed IsForStub x.down k o.keys })
 over_move program R x y may (inr (inr (k, below, now))) o = subst IsOver (sym now) (record { none = o.none; keys = o.keys })
@@ -173,22 +173,22 @@ meets_stays program R (Some stub) m c s' answer for may is met = stub_stays R (i
 -- the line is unsettled, and only such bytes changed
 pub record Settling (program : Program) (R : ℕ → Type 0) (before : List ℕ) (x : Link) : Type 0 where
   pub line : IsUnsettled program R x
-  pub untouched : Untouched R before x.station.machine.memory
+  pub untouched : Untouched R before x.machine.odt.memory
 
 -- the earlier host's key is taken
 last_taken : (program : Program) (R : ℕ → Type 0) (before : List ℕ) (x y : Link) → Settling program R before x → IsLastKey program R x → (t : Takes program x y) → Settling program R before y
 last_taken program R before x y s k t =
     let both : k.key ∷ [] ≡ t.c ∷ t.rest = sym k.down ∙ t.first in
     let key : k.key ≡ t.c = heads k.key t.c t.rest both in
-    let met = subst (λ stub. Meets program stub x.station.machine t.c t.station' t.answer) k.none t.meets in
-    let station : t.station' ≡ after_odt program x.station.machine k.key = met.0 ∙ ap (after_odt program x.station.machine) (sym key) in
+    let met = subst (λ stub. Meets program stub x.machine.odt t.c t.station' t.answer) k.none t.meets in
+    let station : t.station' ≡ after_odt program x.machine.odt k.key = met.0 ∙ ap (after_odt program x.machine.odt) (sym key) in
     subst (Settling program R before) (sym t.now) (record {
       line = record {
-        console = subst (λ (st : Station). IsMachine st.machine) (sym station) k.console;
-        stub = subst (λ (st : Station). MayFill R st.machine.mode st.stub) (sym station) k.stub;
+        console = subst (λ (st : Station). IsMachine st.odt) (sym station) k.console;
+        stub = subst (λ (st : Station). MayFill R st.odt.mode st.stub) (sym station) k.stub;
         down = inl (subst (Each IsForStub) (sym (tails k.key t.c t.rest both)) tt);
       };
-      untouched = untouched_then R before x.station.machine.memory t.station'.machine.memory s.untouched (subst (λ (st : Station). Untouched R x.station.machine.memory st.machine.memory) (sym station) k.untouched);
+      untouched = untouched_then R before x.machine.odt.memory t.station'.odt.memory s.untouched (subst (λ (st : Station). Untouched R x.machine.odt.memory st.odt.memory) (sym station) k.untouched);
     })
   where
     heads : (a b : ℕ) (rest : List ℕ) → a ∷ [] ≡ b ∷ rest → a ≡ b
@@ -200,10 +200,10 @@ last_taken program R before x y s k t =
 settling_takes : (program : Program) (R : ℕ → Type 0) (before : List ℕ) (x y : Link) → Settling program R before x → Each IsForStub x.down → (t : Takes program x y) → Settling program R before y
 settling_takes program R before x y s for t =
     let all : Each IsForStub (t.c ∷ t.rest) = subst (Each IsForStub) t.first for in
-    let stays = meets_stays program R x.station.stub x.station.machine t.c t.station' t.answer all.0 s.line.stub s.line.console t.meets in
+    let stays = meets_stays program R x.machine.stub x.machine.odt t.c t.station' t.answer all.0 s.line.stub s.line.console t.meets in
     subst (Settling program R before) (sym t.now) (record {
       line = record { console = stays.console; stub = stays.stub; down = inl all.1 };
-      untouched = untouched_then R before x.station.machine.memory t.station'.machine.memory s.untouched stays.untouched;
+      untouched = untouched_then R before x.machine.odt.memory t.station'.odt.memory s.untouched stays.untouched;
     })
 
 pub one_removed : (xs : List ℕ) (c k : ℕ) → xs ≡ c ∷ [] → k < length xs → remove xs k ≡ []

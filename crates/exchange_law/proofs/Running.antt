@@ -8,7 +8,6 @@ use Rattle.tape_image.specs.Plan.{PlanValue}
 use Rattle.odt_machine.specs.Machine.{IsWide}
 use Rattle.host_core.specs.declared.heard.Heard.{Heard}
 use Rattle.host_core.specs.declared.heard.Heard.TheVariants.{Got, Quiet}
-use Rattle.host_devices.specs.declared.item.Item.{Item}
 use Rattle.exchange_core.specs.declared.chunk.Chunk.{Chunk}
 use Rattle.exchange_core.specs.declared.duplex.Duplex.{Duplex}
 use Rattle.exchange_core.specs.declared.exchange.Exchange.{Exchange}
@@ -20,10 +19,13 @@ use Rattle.exchange_core.specs.Exchange.{ExchangeStep, advance, begun, led, list
 use Rattle.exchange_core.proofs.Chunks.{chunks_apart}
 use Rattle.exchange_core.proofs.Keys.{keys_more, keys_through, sent_reaches, sent_rises, sent_within}
 use Rattle.exchange_core.proofs.Steps.{below, not_below, on_step}
-use Rattle.exchange_law.specs.Law.{Holds, bytes_of, dialogue, said_all}
+use Rattle.exchange_law.specs.Law.{Holds, bytes_of, dialogue}
 use Rattle.exchange_law.proofs.Texts.{some_is, told_small}
 use Rattle.stub.specs.Filling.{Filling, after, taken}
-use Rattle.exchange_law.specs.Cable.{Cable, CleanLinesBringAllIn, Gives, GoesWell, IsOnItsWay, Passes, Takes, TakesTimes, still}
+use Rattle.line_world.specs.Wire.{Times}
+use Rattle.honest_line.specs.Moves.{Gives}
+use Rattle.exchange_law.proofs.Links.{passing_keys}
+use Rattle.exchange_law.specs.Cable.{Cable, CleanLinesBringAllIn, GoesWell, IsOnItsWay, Passes, Takes, still}
 use Rattle.exchange_law.proofs.Filled.{AreBytes, AreInside, all_in, all_length, all_other, all_written, answered_by, chunk_taken, midway, told_text, written, written_length, written_wide, after_then}
 use Rattle.exchange_law.proofs.Standing.{left_at, left_first}
 use Rattle.exchange_law.proofs.CleanHearing.{awaits, ends_chunk, goes_on, told_awaits}
@@ -76,7 +78,7 @@ record Amidst (duplex : Duplex) (image : Image) (chunks : List Chunk) (memory : 
   pub answers : List ℕ
   pub n : ℕ
   pub few : n ≤ sent_at duplex (chunk_nr chunks k) place
-  pub stub_is : x.stub ≡ after (start image chunks memory k answers) (chunk_keys image (chunk_nr chunks k) n)
+  pub stub_is : x.machine ≡ after (start image chunks memory k answers) (chunk_keys image (chunk_nr chunks k) n)
   pub keys : x.down ≡ keys_from image (chunk_nr chunks k) n (sent_at duplex (chunk_nr chunks k) place - n)
   pub order : place ≤ 2 * (n / 2)
   pub less : place < 2 * (chunk_nr chunks k).size
@@ -84,7 +86,7 @@ record Amidst (duplex : Duplex) (image : Image) (chunks : List Chunk) (memory : 
 
 abbrev Stands : Duplex → Image → List Chunk → List ℕ → Phase → ℕ → Cable → Type 0
 Stands duplex image chunks memory (Answer place) k x = (k < length chunks) × Amidst duplex image chunks memory k place x
-Stands duplex image chunks memory (Ended Complete) k x = (k ≡ length chunks) × (x.down ≡ []) × (x.up ≡ []) × IsAt image chunks memory k x.stub
+Stands duplex image chunks memory (Ended Complete) k x = (k ≡ length chunks) × (x.down ≡ []) × (x.up ≡ []) × IsAt image chunks memory k x.machine
 Stands duplex image chunks memory phase k x = ⊥
 
 -- what is known of image, chunks and memory
@@ -203,14 +205,14 @@ amidst_takes duplex image chunks memory k place x y known below a t = elim (next
   | inl less ↦ subst (Amidst duplex image chunks memory k place) (sym t.now) (taken_one less)
 ]
   where
-    taken_one : a.n < sent_at duplex (chunk_nr chunks k) place → Amidst duplex image chunks memory k place (record { stub = taken x.stub t.c; down = t.rest; up = x.up ++ t.text })
+    taken_one : a.n < sent_at duplex (chunk_nr chunks k) place → Amidst duplex image chunks memory k place (record { machine = taken x.machine t.c; down = t.rest; up = x.up ++ t.text; lost = x.lost })
     taken_one less =
         let c : Chunk = chunk_nr chunks k in
         let n : ℕ = a.n in
         let both : t.c ∷ t.rest ≡ key_at image (chunk_nr chunks k) a.n ∷ keys_from image (chunk_nr chunks k) (a.n + 1) (sent_at duplex (chunk_nr chunks k) place - (a.n + 1)) =
         sym t.first ∙ (a.keys ∙ keys_first image (chunk_nr chunks k) a.n (sent_at duplex (chunk_nr chunks k) place) less) in
-        let now : taken x.stub t.c ≡ after (start image chunks memory k a.answers) (chunk_keys image (chunk_nr chunks k) (a.n + 1)) =
-        ap (taken x.stub) (heads both)
+        let now : taken x.machine t.c ≡ after (start image chunks memory k a.answers) (chunk_keys image (chunk_nr chunks k) (a.n + 1)) =
+        ap (taken x.machine) (heads both)
         ∙ (ap (λ f. taken f (key_at image (chunk_nr chunks k) a.n)) a.stub_is
         ∙ (sym (after_then (start image chunks memory k a.answers) (chunk_keys image (chunk_nr chunks k) a.n) (key_at image (chunk_nr chunks k) a.n ∷ []))
         ∙ ap (after (start image chunks memory k a.answers)) (sym (keys_more image (chunk_nr chunks k) a.n)))) in
@@ -244,7 +246,7 @@ stands_takes duplex image chunks memory Leave k x y known s t = absurd s
 stands_takes duplex image chunks memory (Ended Complete) k x y known s t = absurd (clash x.down t.rest t.c s.1 t.first)
 stands_takes duplex image chunks memory (Ended Broken) k x y known s t = absurd s
 
-stands_times : (duplex : Duplex) (image : Image) (chunks : List Chunk) (memory : List ℕ) (phase : Phase) (k n : ℕ) (x y : Cable) → Known image chunks memory → Stands duplex image chunks memory phase k x → TakesTimes n x y → Stands duplex image chunks memory phase k y
+stands_times : (duplex : Duplex) (image : Image) (chunks : List Chunk) (memory : List ℕ) (phase : Phase) (k n : ℕ) (x y : Cable) → Known image chunks memory → Stands duplex image chunks memory phase k x → Times Takes n x y → Stands duplex image chunks memory phase k y
 stands_times duplex image chunks memory phase k zero x y known s same = subst (Stands duplex image chunks memory phase k) (sym same) s
 stands_times duplex image chunks memory phase k (suc n) x y known s (z, t, more) = stands_times duplex image chunks memory phase k n z y known (stands_takes duplex image chunks memory phase k x z known s t) more
 
@@ -256,7 +258,7 @@ Goes image chunks memory s v = Stands s.next.duplex image chunks memory s.next.p
 goes_listen : (image : Image) (chunks : List Chunk) (memory : List ℕ) (e : Exchange) (phase : Phase) (v : Cable) → Stands e.duplex image chunks memory phase e.done v → Goes image chunks memory (listens e phase) v
 goes_listen image chunks memory e phase v s = subst (λ down. Stands e.duplex image chunks memory phase e.done (record v { down = down })) (sym (append-nil v.down)) s
 
-goes_next : (image : Image) (chunks : List Chunk) (memory : List ℕ) (e : Exchange) (v : Cable) → Known image chunks memory → e.done ≤ length chunks → v.down ≡ [] → v.up ≡ [] → IsAt image chunks memory e.done v.stub →
+goes_next : (image : Image) (chunks : List Chunk) (memory : List ℕ) (e : Exchange) (v : Cable) → Known image chunks memory → e.done ≤ length chunks → v.down ≡ [] → v.up ≡ [] → IsAt image chunks memory e.done v.machine →
     Goes image chunks memory (next_chunk image chunks e) v
 goes_next image chunks memory e v known within none silent (answers, is) =
     on_step (λ s. Goes image chunks memory s v) (nat_lt e.done (length chunks)) _ (listens e (Ended Complete))
@@ -370,21 +372,16 @@ hears image chunks memory e Quiet x v known s (none, silent, now) = subst (Goes 
 
 -- ---- a whole run
 
-passes_said : (keys : List ℕ) (items : List Item) (x y : Cable) → Passes x (said_all keys ++ items) y → Passes (record x { down = x.down ++ keys }) items y
-passes_said [] items x y passes = subst (λ down. Passes (record x { down = down }) items y) (sym (append-nil x.down)) passes
-passes_said (key ∷ keys) items x y passes =
-    subst (λ down. Passes (record x { down = down }) items y) (append_assoc x.down (key ∷ []) keys) (passes_said keys items (record x { down = x.down ++ key ∷ [] }) y passes)
-
 run : (image : Image) (chunks : List Chunk) (memory : List ℕ) (things : List Heard) (e : Exchange) (x y : Cable) → Known image chunks memory → Stands e.duplex image chunks memory e.phase e.done x → Passes x (dialogue image chunks e things) y →
     Stands (led image chunks e things).duplex image chunks memory (led image chunks e things).phase (led image chunks e things).done y
 run image chunks memory [] e x y known s (n, times) = stands_times e.duplex image chunks memory e.phase e.done n x y known s times
 run image chunks memory (what ∷ things) e x y known s (z, v, (n, times), gives, passes) =
     let there = stands_times e.duplex image chunks memory e.phase e.done n x z known s times in
     let next : ExchangeStep = advance image chunks e what in
-    run image chunks memory things next.next (record v { down = v.down ++ next.keys }) y known (hears image chunks memory e what z v known there gives) (passes_said next.keys (dialogue image chunks next.next things) v y passes)
+    run image chunks memory things next.next (record v { down = v.down ++ next.keys }) y known (hears image chunks memory e what z v known there gives) (passing_keys Takes next.keys (dialogue image chunks next.next things) v y passes)
 
 -- nothing is taken where nothing is under way
-still_takes : (n : ℕ) (x y : Cable) → x.down ≡ [] → TakesTimes n x y → y ≡ x
+still_takes : (n : ℕ) (x y : Cable) → x.down ≡ [] → Times Takes n x y → y ≡ x
 still_takes zero x y none same = same
 still_takes (suc n) x y none (z, t, more) = absurd (clash x.down t.rest t.c none t.first)
 
@@ -402,7 +399,7 @@ on_its_way duplex image chunks memory Leave k y s = absurd s
 on_its_way duplex image chunks memory (Ended Complete) k y s = tt
 on_its_way duplex image chunks memory (Ended Broken) k y s = absurd s
 
-is_complete : (duplex : Duplex) (image : Image) (chunks : List Chunk) (memory : List ℕ) (phase : Phase) (k : ℕ) (y : Cable) → Stands duplex image chunks memory phase k y → y.down ≡ [] → y.up ≡ [] → (phase ≡ Ended Complete) × (k ≡ length chunks) × IsAt image chunks memory k y.stub
+is_complete : (duplex : Duplex) (image : Image) (chunks : List Chunk) (memory : List ℕ) (phase : Phase) (k : ℕ) (y : Cable) → Stands duplex image chunks memory phase k y → y.down ≡ [] → y.up ≡ [] → (phase ≡ Ended Complete) × (k ≡ length chunks) × IsAt image chunks memory k y.machine
 is_complete duplex image chunks memory Settle k y s none silent = absurd s
 is_complete duplex image chunks memory (Answer place) k y s none silent = absurd (never_still duplex image chunks memory k place y s.1 none silent)
 is_complete duplex image chunks memory Leave k y s none silent = absurd s
@@ -417,12 +414,12 @@ goes_well plan from duplex chunks memory (what ∷ things) y are known (z, v, (n
     let same : z ≡ still memory chunks = still_takes n (still memory chunks) z refl times in
     let next : ExchangeStep = advance plan.image chunks (begun from duplex) what in
     let s = run plan.image chunks memory things next.next (record v { down = v.down ++ next.keys }) y known
-    (first_heard plan.image chunks memory from duplex what v known (subst (λ x. Gives x what v) same gives)) (passes_said next.keys (dialogue plan.image chunks next.next things) v y passes) in
+    (first_heard plan.image chunks memory from duplex what v known (subst (λ x. Gives x what v) same gives)) (passing_keys Takes next.keys (dialogue plan.image chunks next.next things) v y passes) in
     let e : Exchange = led plan.image chunks next.next things in record {
       on_its_way = on_its_way e.duplex plan.image chunks memory e.phase e.done y s;
       all_in = λ some none silent.
           let c = is_complete e.duplex plan.image chunks memory e.phase e.done y s none silent in
-          let now : y.stub.memory ≡ all_written plan.image chunks memory = ap (λ (f : Filling). f.memory) c.2.1 ∙ (ap (mems plan.image chunks memory) c.1 ∙ mems_all plan.image chunks memory) in record {
+          let now : y.machine.memory ≡ all_written plan.image chunks memory = ap (λ (f : Filling). f.memory) c.2.1 ∙ (ap (mems plan.image chunks memory) c.1 ∙ mems_all plan.image chunks memory) in record {
             complete = c.0;
             all = c.1;
             holds = subst (Holds plan.image chunks memory (length chunks)) (sym now) (record {

@@ -25,13 +25,13 @@ use Rattle.exchange_law.proofs.Texts.{IsNibble, TextFits, each_append, nibbles, 
 
 -- a stub runs that has these bytes left
 pub record StubAt (left : List ℕ) (half : Bool) (s : Station) : Type 0 where
-  pub runs : is_running s.machine.mode ≡ true
+  pub runs : is_running s.odt.mode ≡ true
   pub is : s.stub ≡ Some (record { left = left; half = half })
 
 -- no stub runs, and ODT is at its prompt
 pub record AtPrompt (s : Station) : Type 0 where
   pub none : s.stub ≡ None
-  pub prompt : s.machine.mode ≡ Prompt
+  pub prompt : s.odt.mode ≡ Prompt
 
 -- the stub has these bytes left, or has halted behind the last
 abbrev pub Stood : List ℕ → Bool → Station → Type 0
@@ -47,7 +47,7 @@ left_at chunks done bytes = places_from ((chunk_nr chunks done).size - bytes) ((
 pub record Amid (chunks : List Chunk) (done most : ℕ) (x : Link) : Type 0 where
   pub bytes : ℕ
   pub half : Bool
-  pub at : Stood (left_at chunks done bytes) half x.station
+  pub at : Stood (left_at chunks done bytes) half x.machine
   pub keys : Each IsNibble x.down
   pub few : 2 * bytes + one_if half + length x.down ≤ most
 
@@ -71,16 +71,16 @@ abbrev pub Answers_are : Image → List Chunk → (done place bytes : ℕ) → L
 Answers_are image chunks done place bytes memory up = Intact image chunks done place bytes memory up ⊎ (place + nibbles up < 2 * bytes)
 
 abbrev pub Stands : Duplex → Image → List Chunk → ℕ → Phase → Link → Type 0
-Stands duplex image chunks done Settle x = (x.down ≡ []) × (x.up ≡ []) × Stood (bytes_of (drop done chunks)) false x.station
-Stands duplex image chunks done (Answer place) x = (a : Amid chunks done (sent_at duplex (chunk_nr chunks done) place) x) × Answers_are image chunks done place a.bytes x.station.machine.memory x.up
+Stands duplex image chunks done Settle x = (x.down ≡ []) × (x.up ≡ []) × Stood (bytes_of (drop done chunks)) false x.machine
+Stands duplex image chunks done (Answer place) x = (a : Amid chunks done (sent_at duplex (chunk_nr chunks done) place) x) × Answers_are image chunks done place a.bytes x.machine.odt.memory x.up
 Stands duplex image chunks done Leave x = Amid chunks done (2 * (chunk_nr chunks done).size) x
-Stands duplex image chunks done (Ended Complete) x = (x.down ≡ []) × AtPrompt x.station
-Stands duplex image chunks done (Ended Broken) x = Each IsZ x.down × IsParted chunks done x.station
+Stands duplex image chunks done (Ended Complete) x = (x.down ≡ []) × AtPrompt x.machine
+Stands duplex image chunks done (Ended Broken) x = Each IsZ x.down × IsParted chunks done x.machine
 
 -- what holds of an exchange and its line, with so many chunks done, in a phase
 pub record Kept (duplex : Duplex) (image : Image) (chunks : List Chunk) (before : List ℕ) (done : ℕ) (phase : Phase) (x : Link) : Type 0 where
-  pub holds : Holds image chunks before done x.station.machine.memory
-  pub wide : IsWide x.station.machine.memory
+  pub holds : Holds image chunks before done x.machine.odt.memory
+  pub wide : IsWide x.machine.odt.memory
   pub stands : Stands duplex image chunks done phase x
 
 -- ---- lists
@@ -167,8 +167,8 @@ stood_parted chunks done (a ∷ left) half s each at = inr (a ∷ left, half, ea
 pub first_parted : (chunks : List Chunk) (done : ℕ) (s : Station) → Stood (bytes_of (drop done chunks)) false s → IsParted chunks done s
 first_parted chunks done s at = stood_parted chunks done (bytes_of (drop done chunks)) false s (bytes_among (drop done chunks)) at
 
-pub amid_parted : (chunks : List Chunk) (done most : ℕ) (x : Link) → done < length chunks → most ≤ 2 * (chunk_nr chunks done).size → Amid chunks done most x → IsParted chunks done x.station
-amid_parted chunks done most x below room a = stood_parted chunks done (left_at chunks done a.bytes) a.half x.station (left_among chunks done a.bytes below (inside a.bytes (one_if a.half) (length x.down) most (chunk_nr chunks done).size a.few room)) a.at
+pub amid_parted : (chunks : List Chunk) (done most : ℕ) (x : Link) → done < length chunks → most ≤ 2 * (chunk_nr chunks done).size → Amid chunks done most x → IsParted chunks done x.machine
+amid_parted chunks done most x below room a = stood_parted chunks done (left_at chunks done a.bytes) a.half x.machine (left_among chunks done a.bytes below (inside a.bytes (one_if a.half) (length x.down) most (chunk_nr chunks done).size a.few room)) a.at
   where
     inside : (b h n most size : ℕ) → 2 * b + h + n ≤ most → most ≤ 2 * size → b ≤ size
     inside b h n most size few room = omega (arith, few, room)
@@ -177,7 +177,7 @@ amid_parted chunks done most x below room a = stood_parted chunks done (left_at 
 
 -- what is left behind a byte
 record Left (memory text : List ℕ) (more : List ℕ) (s' : Station) (answer : List ℕ) : Type 0 where
-  pub memory_is : s'.machine.memory ≡ memory
+  pub memory_is : s'.odt.memory ≡ memory
   pub at : Stood more false s'
   pub extra : List ℕ
   pub fits : TextFits more extra
@@ -185,15 +185,15 @@ record Left (memory text : List ℕ) (more : List ℕ) (s' : Station) (answer : 
 
 answers_left : (m : Machine) (memory text : List ℕ) (more : List ℕ) (s' : Station) (answer : List ℕ) → is_running m.mode ≡ true → Answers m memory text more s' answer → Left memory text more s' answer
 answers_left m memory text [] s' answer runs (is, (extra, halts, whole)) = record {
-  memory_is = ap (λ (s : Station). s.machine.memory) is;
-  at = record { none = ap (λ (s : Station). s.stub) is; prompt = ap (λ (s : Station). s.machine.mode) is };
+  memory_is = ap (λ (s : Station). s.odt.memory) is;
+  at = record { none = ap (λ (s : Station). s.stub) is; prompt = ap (λ (s : Station). s.odt.mode) is };
   extra = extra;
   fits = halts;
   answer_is = whole;
 }
 answers_left m memory text (a ∷ left) s' answer runs (is, whole) = record {
-  memory_is = ap (λ (s : Station). s.machine.memory) is;
-  at = record { runs = ap (λ (s : Station). is_running s.machine.mode) is ∙ runs; is = ap (λ (s : Station). s.stub) is };
+  memory_is = ap (λ (s : Station). s.odt.memory) is;
+  at = record { runs = ap (λ (s : Station). is_running s.odt.mode) is ∙ runs; is = ap (λ (s : Station). s.stub) is };
   extra = [];
   fits = refl;
   answer_is = whole ∙ sym (append-nil text);
@@ -201,22 +201,22 @@ answers_left m memory text (a ∷ left) s' answer runs (is, whole) = record {
 
 -- the line behind that
 abbrev pub met : Link → Station → List ℕ → List ℕ → Link
-met x s' rest answer = record { station = s'; down = rest; up = x.up ++ answer; lost = x.lost }
+met x s' rest answer = record { machine = s'; down = rest; up = x.up ++ answer; lost = x.lost }
 
 -- the first character of a byte, or the second: the byte is answered, and what ODT prints may follow
 abbrev pub Does : List Chunk → ℕ → ℕ → List ℕ → ℕ → Station → List ℕ → Type 0
 Does chunks done bytes memory now s' answer =
-    ((now ≡ bytes) × (s'.machine.memory ≡ memory) × (answer ≡ []))
-    ⊎ ((now ≡ bytes + 1) × (bytes < (chunk_nr chunks done).size) × ChangesAt ((chunk_nr chunks done).address + bytes) memory s'.machine.memory
-    × ((extra : List ℕ) × TextFits (left_at chunks done (bytes + 1)) extra × (answer ≡ answer_text s'.machine.memory ((chunk_nr chunks done).address + bytes) ++ extra)))
+    ((now ≡ bytes) × (s'.odt.memory ≡ memory) × (answer ≡ []))
+    ⊎ ((now ≡ bytes + 1) × (bytes < (chunk_nr chunks done).size) × ChangesAt ((chunk_nr chunks done).address + bytes) memory s'.odt.memory
+    × ((extra : List ℕ) × TextFits (left_at chunks done (bytes + 1)) extra × (answer ≡ answer_text s'.odt.memory ((chunk_nr chunks done).address + bytes) ++ extra)))
 
 pub record Took (chunks : List Chunk) (done most : ℕ) (x : Link) (bytes : ℕ) (s' : Station) (rest answer : List ℕ) : Type 0 where
   pub next : Amid chunks done most (met x s' rest answer)
-  pub how : Does chunks done bytes x.station.machine.memory next.bytes s' answer
+  pub how : Does chunks done bytes x.machine.odt.memory next.bytes s' answer
 
 pub takes_amid : (program : Program) (chunks : List Chunk) (done most : ℕ) (x : Link) → most ≤ 2 * (chunk_nr chunks done).size → (a : Amid chunks done most x) → (c : ℕ) (rest : List ℕ) (s' : Station) (answer : List ℕ) → x.down ≡ c ∷ rest →
-    Meets program x.station.stub x.station.machine c s' answer → Took chunks done most x a.bytes s' rest answer
-takes_amid program chunks done most x room a c rest s' answer first meets = by_half a.half refl (subst (λ b. StubMeets b x.station.machine here a.half s' answer) all.0 stub)
+    Meets program x.machine.stub x.machine.odt c s' answer → Took chunks done most x a.bytes s' rest answer
+takes_amid program chunks done most x room a c rest s' answer first meets = by_half a.half refl (subst (λ b. StubMeets b x.machine.odt here a.half s' answer) all.0 stub)
   where
     all : Each IsNibble (c ∷ rest)
     all = subst (Each IsNibble) first a.keys
@@ -230,35 +230,35 @@ takes_amid program chunks done most x room a c rest s' answer first meets = by_h
     here : List ℕ
     here = ((chunk_nr chunks done).address + a.bytes) ∷ left_at chunks done (a.bytes + 1)
 
-    stands : StubAt (((chunk_nr chunks done).address + a.bytes) ∷ left_at chunks done (a.bytes + 1)) a.half x.station
-    stands = subst (λ left. Stood left a.half x.station) (left_next chunks done a.bytes less) a.at
+    stands : StubAt (((chunk_nr chunks done).address + a.bytes) ∷ left_at chunks done (a.bytes + 1)) a.half x.machine
+    stands = subst (λ left. Stood left a.half x.machine) (left_next chunks done a.bytes less) a.at
 
-    stub : StubMeets (is_nibble c) x.station.machine (((chunk_nr chunks done).address + a.bytes) ∷ left_at chunks done (a.bytes + 1)) a.half s' answer
-    stub = subst (λ stub. Meets program stub x.station.machine c s' answer) stands.is meets
+    stub : StubMeets (is_nibble c) x.machine.odt (((chunk_nr chunks done).address + a.bytes) ∷ left_at chunks done (a.bytes + 1)) a.half s' answer
+    stub = subst (λ stub. Meets program stub x.machine.odt c s' answer) stands.is meets
 
-    by_half : (half : Bool) → a.half ≡ half → Fills a.half x.station.machine ((chunk_nr chunks done).address + a.bytes) (left_at chunks done (a.bytes + 1)) s' answer → Took chunks done most x a.bytes s' rest answer
-    by_half half is fills = go half (subst (λ h. Fills h x.station.machine ((chunk_nr chunks done).address + a.bytes) (left_at chunks done (a.bytes + 1)) s' answer) is fills) (subst (λ h. 2 * a.bytes + one_if h + length x.down ≤ most) is a.few)
+    by_half : (half : Bool) → a.half ≡ half → Fills a.half x.machine.odt ((chunk_nr chunks done).address + a.bytes) (left_at chunks done (a.bytes + 1)) s' answer → Took chunks done most x a.bytes s' rest answer
+    by_half half is fills = go half (subst (λ h. Fills h x.machine.odt ((chunk_nr chunks done).address + a.bytes) (left_at chunks done (a.bytes + 1)) s' answer) is fills) (subst (λ h. 2 * a.bytes + one_if h + length x.down ≤ most) is a.few)
       where
-        go : (half : Bool) → Fills half x.station.machine ((chunk_nr chunks done).address + a.bytes) (left_at chunks done (a.bytes + 1)) s' answer → 2 * a.bytes + one_if half + length x.down ≤ most → Took chunks done most x a.bytes s' rest answer
+        go : (half : Bool) → Fills half x.machine.odt ((chunk_nr chunks done).address + a.bytes) (left_at chunks done (a.bytes + 1)) s' answer → 2 * a.bytes + one_if half + length x.down ≤ most → Took chunks done most x a.bytes s' rest answer
         go false (now, none) few = record {
           next = record {
             bytes = a.bytes;
             half = true;
             at = subst (λ left. Stood left true s') (sym (left_next chunks done a.bytes less))
-                (record { runs = ap (λ (s : Station). is_running s.machine.mode) now ∙ stands.runs; is = ap (λ (s : Station). s.stub) now });
+                (record { runs = ap (λ (s : Station). is_running s.odt.mode) now ∙ stands.runs; is = ap (λ (s : Station). s.stub) now });
             keys = all.1;
             few = omega (arith, few, long);
           };
-          how = inl (refl, ap (λ (s : Station). s.machine.memory) now, none);
+          how = inl (refl, ap (λ (s : Station). s.odt.memory) now, none);
         }
         go true (memory, changes, answers) few =
             let l : Left memory (answer_text memory ((chunk_nr chunks done).address + a.bytes)) (left_at chunks done (a.bytes + 1)) s' answer =
-            answers_left x.station.machine memory (answer_text memory ((chunk_nr chunks done).address + a.bytes)) (left_at chunks done (a.bytes + 1)) s' answer stands.runs answers in record {
+            answers_left x.machine.odt memory (answer_text memory ((chunk_nr chunks done).address + a.bytes)) (left_at chunks done (a.bytes + 1)) s' answer stands.runs answers in record {
               next = record { bytes = a.bytes + 1; half = false; at = l.at; keys = all.1; few = omega (arith, few, long) };
               how = inr (
                 refl,
                 less,
-                subst (λ m. ChangesAt ((chunk_nr chunks done).address + a.bytes) x.station.machine.memory m) (sym l.memory_is) changes,
+                subst (λ m. ChangesAt ((chunk_nr chunks done).address + a.bytes) x.machine.odt.memory m) (sym l.memory_is) changes,
                 (l.extra, l.fits, subst (λ m. answer ≡ answer_text m ((chunk_nr chunks done).address + a.bytes) ++ l.extra) (sym l.memory_is) l.answer_is),
               );
             }
@@ -267,35 +267,35 @@ takes_amid program chunks done most x room a c rest s' answer first meets = by_h
 
 -- a station that ODT has, or on which a stub runs, is at its prompt behind `Z`, over the same memory
 pub record IsHalted (s s' : Station) : Type 0 where
-  pub memory : s'.machine.memory ≡ s.machine.memory
+  pub memory : s'.odt.memory ≡ s.odt.memory
   pub back : AtPrompt s'
 
-pub z_halts : (program : Program) (chunks : List Chunk) (done : ℕ) (s s' : Station) (answer : List ℕ) → IsParted chunks done s → Meets program s.stub s.machine 90 s' answer → IsHalted s s'
-z_halts program chunks done s s' answer (inl at) meets = at_odt s.machine.mode at.prompt (subst (λ stub. Meets program stub s.machine 90 s' answer) at.none meets)
+pub z_halts : (program : Program) (chunks : List Chunk) (done : ℕ) (s s' : Station) (answer : List ℕ) → IsParted chunks done s → Meets program s.stub s.odt 90 s' answer → IsHalted s s'
+z_halts program chunks done s s' answer (inl at) meets = at_odt s.odt.mode at.prompt (subst (λ stub. Meets program stub s.odt 90 s' answer) at.none meets)
   where
     -- the machine's parts, so that its mode can be replaced
-    key : (mode : Mode) → mode ≡ Prompt → (row s.machine.style s.machine.memory mode Other 90).memory ≡ s.machine.memory
-    key mode is = subst (λ m. (row s.machine.style s.machine.memory m Other 90).memory ≡ s.machine.memory) (sym is) refl
+    key : (mode : Mode) → mode ≡ Prompt → (row s.odt.style s.odt.memory mode Other 90).memory ≡ s.odt.memory
+    key mode is = subst (λ m. (row s.odt.style s.odt.memory m Other 90).memory ≡ s.odt.memory) (sym is) refl
 
-    goes : (mode : Mode) → mode ≡ Prompt → (row s.machine.style s.machine.memory mode Other 90).mode ≡ Prompt
-    goes mode is = subst (λ m. (row s.machine.style s.machine.memory m Other 90).mode ≡ Prompt) (sym is) refl
+    goes : (mode : Mode) → mode ≡ Prompt → (row s.odt.style s.odt.memory mode Other 90).mode ≡ Prompt
+    goes mode is = subst (λ m. (row s.odt.style s.odt.memory m Other 90).mode ≡ Prompt) (sym is) refl
 
     none_begins : (test : Bool) (memory : List ℕ) (mode : Mode) → mode ≡ Prompt → begins program test memory mode ≡ None
     none_begins true memory mode is = refl
     none_begins false memory mode is = ap (begins program false memory) is
 
-    at_odt : (mode : Mode) → s.machine.mode ≡ Prompt → Meets program None s.machine 90 s' answer → IsHalted s s'
+    at_odt : (mode : Mode) → s.odt.mode ≡ Prompt → Meets program None s.odt 90 s' answer → IsHalted s s'
     at_odt mode is (now, said) = record {
-      memory = ap (λ (t : Station). t.machine.memory) now ∙ key s.machine.mode is;
+      memory = ap (λ (t : Station). t.odt.memory) now ∙ key s.odt.mode is;
       back = record {
-        none = ap (λ (t : Station). t.stub) now ∙ none_begins (is_running s.machine.mode) (after_key s.machine 90).memory (after_key s.machine 90).mode (goes s.machine.mode is);
-        prompt = ap (λ (t : Station). t.machine.mode) now ∙ goes s.machine.mode is;
+        none = ap (λ (t : Station). t.stub) now ∙ none_begins (is_running s.odt.mode) (after_key s.odt 90).memory (after_key s.odt 90).mode (goes s.odt.mode is);
+        prompt = ap (λ (t : Station). t.odt.mode) now ∙ goes s.odt.mode is;
       };
     }
-z_halts program chunks done s s' answer (inr (left, half, each, at)) meets = by_stub (subst (λ stub. Meets program stub s.machine 90 s' answer) at.is meets)
+z_halts program chunks done s s' answer (inr (left, half, each, at)) meets = by_stub (subst (λ stub. Meets program stub s.odt 90 s' answer) at.is meets)
   where
-    by_stub : StubMeets false s.machine left half s' answer → IsHalted s s'
+    by_stub : StubMeets false s.odt left half s' answer → IsHalted s s'
     by_stub (now, halts) = record {
-      memory = ap (λ (t : Station). t.machine.memory) now;
-      back = record { none = ap (λ (t : Station). t.stub) now; prompt = ap (λ (t : Station). t.machine.mode) now };
+      memory = ap (λ (t : Station). t.odt.memory) now;
+      back = record { none = ap (λ (t : Station). t.stub) now; prompt = ap (λ (t : Station). t.odt.mode) now };
     }

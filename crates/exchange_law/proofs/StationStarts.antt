@@ -42,9 +42,9 @@ pub left_so : (start : StubStart) → StartsStub start → start.stretch.from < 
     after_odt program start.odt start.key ≡ station (left_by start) (begun (left_by start).memory (start.stretch ∷ start.stretches))
 left_so start starts rising =
     let now : OdtMachine = left_by start in
-    ap (λ b. record { machine = now; stub = begins program b now.memory now.mode }) starts.still
-    ∙ (ap (λ mode. record { machine = now; stub = begins program false now.memory mode }) starts.goes
-    ∙ (ap (λ (stub : Option (List Stretch)). record { machine = now; stub = fresh (bytes_in stub) }) starts.found
+    ap (λ b. record { odt = now; stub = begins program b now.memory now.mode }) starts.still
+    ∙ (ap (λ mode. record { odt = now; stub = begins program false now.memory mode }) starts.goes
+    ∙ (ap (λ (stub : Option (List Stretch)). record { odt = now; stub = fresh (bytes_in stub) }) starts.found
     ∙ sym (begin_fresh now now.memory (start.stretch ∷ start.stretches) start.stretch.from (behind_first start.stretch start.stretches) (some_bytes start.stretch start.stretches rising))))
 
 pub started_are_stations : StartedStubsAreStations
@@ -57,7 +57,7 @@ started_are_stations start run starts by may =
     let some = some_bytes start.stretch start.stretches rising in
     let passed = are_stations program start.place all now run is may in
     let same : as_line now run.farewell (opened all x) ≡ line_of (after_odt program start.odt start.key) x =
-    ap (λ up. record { station = station now (begun x.machine.memory all); down = held x.machine.console ++ x.down; up = up; lost = x.lost })
+    ap (λ up. record { machine = station now (begun x.machine.memory all); down = held x.machine.console ++ x.down; up = up; lost = x.lost })
     (ap (λ those. (x.up ++ waiting x.machine.console) ++ goodbye those run.farewell) some ∙ append-nil (x.up ++ waiting x.machine.console))
     ∙ ap (λ s. line_of s x) (ap (λ memory. station now (begun memory all)) by.memory ∙ sym (left_so start starts rising)) in
     record { link = passed.link; passes = subst (λ (l : Line). Passes program l (items_of run.what) (as_line now run.farewell passed.link)) same passed.passes; shows = passed.shows }

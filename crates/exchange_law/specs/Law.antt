@@ -48,10 +48,10 @@ bytes_of chunks = places (pieces_of chunks)
 pub record MayExchange (chunks : List Chunk) (x : Link) : Type 0 where
   pub none_down : x.down ≡ []
   pub silent : x.up ≡ []
-  pub console : IsMachine x.station.machine
-  pub runs : is_running x.station.machine.mode ≡ true
-  pub stub : x.station.stub ≡ Some (record { left = bytes_of chunks; half = false })
-  pub room : (k : ℕ) → k < length chunks → (chunk_nr chunks k).address + (chunk_nr chunks k).size ≤ top_of x.station.machine.memory
+  pub console : IsMachine x.machine.odt
+  pub runs : is_running x.machine.odt.mode ≡ true
+  pub stub : x.machine.stub ≡ Some (record { left = bytes_of chunks; half = false })
+  pub room : (k : ℕ) → k < length chunks → (chunk_nr chunks k).address + (chunk_nr chunks k).size ≤ top_of x.machine.odt.memory
 
 -- the first chunks, so many, stand in memory, and outside of all chunks it is what it was
 pub record Holds (image : Image) (chunks : List Chunk) (before : List ℕ) (done : ℕ) (now : List ℕ) : Type 0 where
@@ -61,8 +61,8 @@ pub record Holds (image : Image) (chunks : List Chunk) (before : List ℕ) (done
 
 -- ODT is at its prompt, no stub runs, and no key is under way
 pub record IsBack (x : Link) : Type 0 where
-  pub no_stub : x.station.stub ≡ None
-  pub prompt : x.station.machine.mode ≡ Prompt
+  pub no_stub : x.machine.stub ≡ None
+  pub prompt : x.machine.odt.mode ≡ Prompt
   pub none_down : x.down ≡ []
 
 -- what came of an exchange over a memory
@@ -70,9 +70,9 @@ pub record IsExchanged (program : Program) (plan : PlanValue) (chunks : List Chu
   -- its phase and its counts fit
   pub is : IsExchange chunks e
   -- the chunks that are done stand, and nothing changed outside of all chunks
-  pub holds : Holds plan.image chunks before e.done y.station.machine.memory
+  pub holds : Holds plan.image chunks before e.done y.machine.odt.memory
   -- where the words before it stood, each word that counts as verified stands
-  pub words : FirstStand plan.words e.from before → FirstStand plan.words e.verified y.station.machine.memory
+  pub words : FirstStand plan.words e.from before → FirstStand plan.words e.verified y.machine.odt.memory
   -- a complete one leads back to ODT
   pub back : e.phase ≡ Ended Complete → IsBack y
   -- from now on only bytes of the chunks that are not done may change
@@ -106,4 +106,4 @@ pub record IsExchanging (program : Program) (x : Link) (o : Exchanging) (y : Lin
 abbrev pub ExchangesAreTrue : Type 0
 ExchangesAreTrue =
     (program : Program) (x y : Link) (o : Exchanging) → IsExchanging program x o y →
-    IsExchanged program o.plan o.chunks x.station.machine.memory (exchange_of o) y
+    IsExchanged program o.plan o.chunks x.machine.odt.memory (exchange_of o) y

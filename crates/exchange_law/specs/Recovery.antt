@@ -47,7 +47,7 @@ IsLaterAt at = IsLater at.tape at.verified
 pub record MayRecover (at : LineBehind) (core : Core) : Type 0 where
   pub host : IsHost core
   pub at_first : core ≡ begun core.plan core.verified false core.patience
-  pub stand : FirstStand core.plan.words core.verified at.found.station.machine.memory
+  pub stand : FirstStand core.plan.words core.verified at.found.machine.odt.memory
   pub beside : IsBeside at.tape at.verified core.plan core.verified
   pub line : IsUnsettled at.program (IsLaterAt at) at.found
 
@@ -64,7 +64,7 @@ pub record IsInOrder (program : Program) (core : Core) (y : Link) : Type 0 where
   pub lost : ℕ
   pub kept : IsKept (over core (wire_at y lost))
   pub just : IsJustAMachine program y
-  pub from_start : (p : ℕ) → y.station.machine.mode ≡ Running p → p ≡ start_of core
+  pub from_start : (p : ℕ) → y.machine.odt.mode ≡ Running p → p ≡ start_of core
 
 -- what a host leaves: a line that is still unsettled, where it verified nothing and marked nothing; or one at which a machine stands and it is in order
 abbrev pub Leaves : Program → PlanValue → ℕ → Core → Link → Type 0
@@ -73,12 +73,12 @@ Leaves program tape verified core y =
 
 -- the program was seen to start: every word stands, the machine runs it, nothing is under way, and where it is a stub it has taken nothing yet
 pub record HasStarted (program : Program) (core : Core) (y : Link) : Type 0 where
-  pub all : FirstStand core.plan.words (length core.plan.words) y.station.machine.memory
+  pub all : FirstStand core.plan.words (length core.plan.words) y.machine.odt.memory
   pub none_down : y.down ≡ []
   pub silent : y.up ≡ []
-  pub console : IsMachine y.station.machine
-  pub runs : y.station.machine.mode ≡ Running (start_of core)
-  pub stub : y.station.stub ≡ fresh (program y.station.machine.memory (start_of core))
+  pub console : IsMachine y.machine.odt
+  pub runs : y.machine.odt.mode ≡ Running (start_of core)
+  pub stub : y.machine.stub ≡ fresh (program y.machine.odt.memory (start_of core))
 
 -- so many losses pay for the mishaps of a host, and for its end
 pub record IsPaid (core : Core) (now : List ℕ) (lost : ℕ) : Type 0 where
@@ -87,7 +87,7 @@ pub record IsPaid (core : Core) (now : List ℕ) (lost : ℕ) : Type 0 where
 
 -- what came of a host that began at such a line, became a core, sent these keys and left the line so
 pub record IsTrustedBehind (at : LineBehind) (core : Core) (keys : List ℕ) (left : Link) : Type 0 where
-  pub safe : IsSafeBut at.tape at.verified at.found.station.machine.memory core left.station.machine.memory
+  pub safe : IsSafeBut at.tape at.verified at.found.machine.odt.memory core left.machine.odt.memory
   -- `G` is the last of its keys if it is one of them, and exactly then the mark is set
   pub last : EndsAtGo keys
   pub marked : Contains keys go → core.going ≡ true
@@ -95,7 +95,7 @@ pub record IsTrustedBehind (at : LineBehind) (core : Core) (keys : List ℕ) (le
   pub started : core.phase ≡ Ended Started → HasStarted at.program core left
   pub leaves : Leaves at.program at.tape at.verified core left
   -- its losses pay, and one more: a stub that it finds running halts at the first `Z`, which nobody answers
-  pub paid : IsPaid core left.station.machine.memory (left.lost + 1 - at.found.lost)
+  pub paid : IsPaid core left.machine.odt.memory (left.lost + 1 - at.found.lost)
 
 -- an ordinary host may be trusted that begins over such a line, whatever the stub is in the middle of and whatever is under way
 abbrev pub HostsRecover : Type 0

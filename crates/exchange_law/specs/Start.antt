@@ -55,7 +55,7 @@ pub record IsStartedBy (odt : OdtMachine) (place : ℕ) (m : Machine) : Type 0 w
 -- the line of a bench, with this station at its end: what the machine holds is under way
 abbrev pub line_of : Station → Bench → Line
 line_of station x =
-    record { station = station; down = held x.machine.console ++ x.down; up = x.up ++ waiting x.machine.console; lost = x.lost }
+    record { machine = station; down = held x.machine.console ++ x.down; up = x.up ++ waiting x.machine.console; lost = x.lost }
 
 -- from the key on that starts a stub, whatever happens between a host and the machine: what the host sends and hears passes over a line at whose end
 -- the station stands that ODT leaves at that key, and that line ends as the machine's looks

@@ -20,7 +20,7 @@ pub record Stub : Type 0 where
 
 -- a machine, and the stub that runs on it, where one does
 pub record Station : Type 0 where
-  pub machine : Machine
+  pub odt : Machine
   pub stub : Option Stub
 
 -- memory changed at one address alone
@@ -53,11 +53,11 @@ answer_text memory a = answer_for (byte_of memory a) 0 ∷ answer_for (byte_of m
 
 -- the stub halted over this memory: ODT is at its prompt
 abbrev pub halted : Machine → List ℕ → Station
-halted m memory = record { machine = record m { memory = memory; mode = Prompt }; stub = None }
+halted m memory = record { odt = record m { memory = memory; mode = Prompt }; stub = None }
 
 -- the stub runs on
 abbrev pub running : Machine → List ℕ → List ℕ → Bool → Station
-running m memory left half = record { machine = record m { memory = memory }; stub = Some (record { left = left; half = half }) }
+running m memory left half = record { odt = record m { memory = memory }; stub = Some (record { left = left; half = half }) }
 
 -- behind the last character for a byte: its answer, and then the next byte, or the halt
 abbrev pub Answers : Machine → List ℕ → List ℕ → List ℕ → Station → List ℕ → Type 0
@@ -92,7 +92,7 @@ begins program false memory mode = None
 
 -- what ODT makes of a key, by the key table
 abbrev pub after_odt : Program → Machine → ℕ → Station
-after_odt program m c = record { machine = after_key m c; stub = begins program (is_running m.mode) (after_key m c).memory (after_key m c).mode }
+after_odt program m c = record { odt = after_key m c; stub = begins program (is_running m.mode) (after_key m c).memory (after_key m c).mode }
 
 -- what a station makes of a character, and what it answers
 abbrev pub Meets : Program → Option Stub → Machine → ℕ → Station → List ℕ → Type 0

@@ -27,7 +27,7 @@ goodbye (a ∷ left) farewell = []
 
 -- the line at whose end that station stands
 abbrev pub as_line : OdtMachine → List ℕ → Link → Line
-as_line odt farewell x = record { station = station odt x.stub; down = x.down; up = x.up ++ goodbye x.stub.left farewell; lost = x.lost }
+as_line odt farewell x = record { machine = station odt x.machine; down = x.down; up = x.up ++ goodbye x.machine.left farewell; lost = x.lost }
 
 -- what the host sends and hears, and that it heard nothing for its quiet time
 abbrev pub items_of : List Happening → List Item

@@ -38,13 +38,13 @@ pub record Untouched (R : ℕ → Type 0) (before now : List ℕ) : Type 0 where
 pub record IsLastKey (program : Program) (R : ℕ → Type 0) (x : Link) : Type 0 where
   pub key : ℕ
   pub down : x.down ≡ key ∷ []
-  pub none : x.station.stub ≡ None
-  pub untouched : Untouched R x.station.machine.memory (after_odt program x.station.machine key).machine.memory
-  pub console : IsMachine (after_odt program x.station.machine key).machine
-  pub stub : MayFill R (after_odt program x.station.machine key).machine.mode (after_odt program x.station.machine key).stub
+  pub none : x.machine.stub ≡ None
+  pub untouched : Untouched R x.machine.odt.memory (after_odt program x.machine.odt key).odt.memory
+  pub console : IsMachine (after_odt program x.machine.odt key).odt
+  pub stub : MayFill R (after_odt program x.machine.odt key).odt.mode (after_odt program x.machine.odt key).stub
 
 -- a line on which only such bytes may still change: a stub may run that fills them, and what is under way are characters for a stub, or such a key
 pub record IsUnsettled (program : Program) (R : ℕ → Type 0) (x : Link) : Type 0 where
-  pub console : IsMachine x.station.machine
-  pub stub : MayFill R x.station.machine.mode x.station.stub
+  pub console : IsMachine x.machine.odt
+  pub stub : MayFill R x.machine.odt.mode x.machine.stub
   pub down : Each IsForStub x.down ⊎ IsLastKey program R x

@@ -1,4 +1,6 @@
+pub mod Passings
 pub mod Wires
+pub mod Leading
 pub mod Runs
 pub mod Trusted
 mod Lines

@@ -1,116 +1,26 @@
--- What passes over an honest line is a run of the world: some events lead from the host's beginning to the host that it became.
-use Rattle.std.proofs.Common.{◌≡◌, ℕ, zero, suc, ◌<◌, Bool, true, false, ltb, List, [], ◌∷◌, ◌++◌, length, Option, Some, None, unwrap_or, inl, inr, refl, arith, ap, sym, subst, ◌∙◌, append_assoc, append-nil}
-use Rattle.std.proofs.lemmas.Bool.Decides.{nat_tests}
-use Rattle.std.specs.Prelude.{if◌then◌else◌, option_to_list}
-use Rattle.odt_machine.specs.KeyTable.{take_of}
+-- What passes over an honest line while the loading host hears things is a run of its world.
+use Rattle.std.proofs.Common.{ℕ, List, [], ◌∷◌, ◌++◌}
+use Rattle.std.specs.Prelude.{option_to_list}
 use Rattle.host_core.specs.declared.heard.Heard.{Heard}
-use Rattle.host_core.specs.declared.heard.Heard.TheVariants.{Got, Quiet as Silence}
 use Rattle.host_core.specs.Core.{Core}
 use Rattle.host_core.specs.Laws.{led, replay}
 use Rattle.host_core.specs.PhaseTable.{move}
-use Rattle.line_world.specs.declared.event.Event.{Event}
-use Rattle.line_world.specs.declared.event.Event.TheVariants.{Take, Hear, LoseDown, LoseUp, Quiet}
 use Rattle.line_world.specs.Scene.{Scene, over}
-use Rattle.line_world.specs.Wire.{Wire, with_answer, without_down, without_up, heard, sent}
-use Rattle.line_world.specs.World.{takes, host_hears, times_out, happens, after, typed_hearing, typed_timeout, typed_in, typed}
-use Rattle.host_devices.specs.declared.item.Item.{Item}
-use Rattle.host_devices.specs.Dialogue.{said, dialogue}
-use Rattle.honest_line.specs.Moves.{Moves, MovesTimes, MovesOn, Gives, Passes}
+use Rattle.line_world.specs.Wire.{Wire, sent}
+use Rattle.line_world.specs.World.{loading}
+use Rattle.host_devices.specs.Dialogue.{dialogue}
+use Rattle.honest_line.specs.Moves.{Moves, Passes}
+use Rattle.honest_line.proofs.Leading.{Leads as AnyLeads, gives_lead, leads_then, moves_lead}
+use Rattle.honest_line.proofs.Passings.{passing_said}
 
--- some events lead from one world to another, and these keys are typed in them
-pub record Leads (w : Scene) (keys : List ℕ) (next : Scene) : Type 0 where
-  pub events : List Event
-  pub world : after w events ≡ next
-  pub keys_are : typed w events ≡ keys
-
--- ---- events one after another
-
-leads_none : (w : Scene) → Leads w [] w
-leads_none w = record { events = []; world = refl; keys_are = refl }
-
-leads_one : (w : Scene) (event : Event) (keys : List ℕ) (next : Scene) → happens w event ≡ next → typed_in w event ≡ keys → Leads w keys next
-leads_one w event keys next world typing = record { events = event ∷ []; world = world; keys_are = append-nil (typed_in w event) ∙ typing }
-
-after_then : (w : Scene) (events more : List Event) → after w (events ++ more) ≡ after (after w events) more
-after_then w [] more = refl
-after_then w (event ∷ events) more = after_then (happens w event) events more
-
-typed_then : (w : Scene) (events more : List Event) → typed w (events ++ more) ≡ typed w events ++ typed (after w events) more
-typed_then w [] more = refl
-typed_then w (event ∷ events) more =
-    ap (λ keys. typed_in w event ++ keys) (typed_then (happens w event) events more) ∙ sym (append_assoc (typed_in w event) (typed (happens w event) events) (typed (after (happens w event) events) more))
-
-leads_then : (a b c : Scene) (keys more : List ℕ) → Leads a keys b → Leads b more c → Leads a (keys ++ more) c
-leads_then a b c keys more first next = record {
-  events = first.events ++ next.events;
-  world = after_then a first.events next.events ∙ (ap (λ w. after w next.events) first.world ∙ next.world);
-  keys_are = typed_then a first.events next.events ∙ (ap (λ w. typed a first.events ++ typed w next.events) first.world ∙ both first.keys_are next.keys_are);
-}
-  where
-    both : {p q r s : List ℕ} → p ≡ q → r ≡ s → p ++ r ≡ q ++ s
-    both e f = cc
-
--- ---- a move is an event
-
-taking : (core : Core) (x : Wire) (c : ℕ) (rest down : List ℕ) → down ≡ c ∷ rest → unwrap_or (takes (over core x) down) (over core x) ≡ over core (with_answer x rest (take_of x.machine c))
-taking core x c rest down is = rw is refl
-
-losing : (w next : Scene) (k n : ℕ) → k < n → unwrap_or (if ltb k n then Some next else None) w ≡ next
-losing w next k n below = here (ltb k n) (under k n below)
-  where
-    under : (k n : ℕ) → k < n → ltb k n ≡ true
-    under k n below = grind (arith, nat_tests)
-
-    here : (test : Bool) → test ≡ true → unwrap_or (if test then Some next else None) w ≡ next
-    here true e = refl
-    here false e = absurd (cc)
-
-move_leads : (core : Core) (x y : Wire) → Moves x y → Leads (over core x) [] (over core y)
-move_leads core x y (inl (c, rest, is, now)) = leads_one (over core x) Take [] (over core y) (taking core x c rest x.down is ∙ ap (over core) (sym now)) refl
-move_leads core x y (inr (inl (k, below, now))) =
-    leads_one (over core x) (LoseDown k) [] (over core y) (losing (over core x) (over core (without_down x k)) k (length x.down) below ∙ ap (over core) (sym now)) refl
-move_leads core x y (inr (inr (k, below, now))) =
-    leads_one (over core x) (LoseUp k) [] (over core y) (losing (over core x) (over core (without_up x k)) k (length x.up) below ∙ ap (over core) (sym now)) refl
-
-times_lead : (core : Core) (n : ℕ) (x y : Wire) → MovesTimes n x y → Leads (over core x) [] (over core y)
-times_lead core zero x y same = subst (λ z. Leads (over core x) [] (over core z)) (sym same) (leads_none (over core x))
-times_lead core (suc n) x y (z, move, rest) = leads_then (over core x) (over core z) (over core y) [] [] (move_leads core x z move) (times_lead core n z y rest)
-
-moves_lead : (core : Core) (x y : Wire) → MovesOn x y → Leads (over core x) [] (over core y)
-moves_lead core x y moves = times_lead core moves.0 x y moves.1
-
--- ---- a thing heard is an event, in which its key is sent
-
-hearing : (core : Core) (x : Wire) (c : ℕ) (rest up : List ℕ) → up ≡ c ∷ rest → unwrap_or (host_hears (over core x) up) (over core x) ≡ over (move core (Got c)).next (sent (heard x rest) (option_to_list (move core (Got c)).key))
-hearing core x c rest up is = rw is refl
-
-hearing_types : (core : Core) (x : Wire) (c : ℕ) (rest up : List ℕ) → up ≡ c ∷ rest → typed_hearing (over core x) up ≡ option_to_list (move core (Got c)).key
-hearing_types core x c rest up is = rw is refl
-
-waiting : (core : Core) (x : Wire) (down up : List ℕ) → down ≡ [] → up ≡ [] → unwrap_or (times_out (over core x) down up) (over core x) ≡ over (move core Silence).next (sent (heard x up) (option_to_list (move core Silence).key))
-waiting core x down up none empty = rw (none, empty) refl
-
-waiting_types : (core : Core) (x : Wire) (down up : List ℕ) → down ≡ [] → up ≡ [] → typed_timeout (over core x) down up ≡ option_to_list (move core Silence).key
-waiting_types core x down up none empty = rw (none, empty) refl
-
-gives_lead : (core : Core) (what : Heard) (x y : Wire) → Gives x what y →
-    Leads (over core x) (option_to_list (move core what).key) (over (move core what).next (sent y (option_to_list (move core what).key)))
-gives_lead core (Got c) x y (rest, is, now) =
-    leads_one (over core x) Hear _ _ (hearing core x c rest x.up is ∙ ap (λ z. over (move core (Got c)).next (sent z (option_to_list (move core (Got c)).key))) (sym now)) (hearing_types core x c rest x.up is)
-gives_lead core Silence x y (none, empty, now) =
-    leads_one (over core x) Quiet _ _ (waiting core x x.down x.up none empty ∙ ap (λ z. over (move core Silence).next (sent z (option_to_list (move core Silence).key))) (sym now)) (waiting_types core x x.down x.up none empty)
-
--- ---- a dialogue is a run of the world
-
-passes_said : (key : Option ℕ) (items : List Item) (x y : Wire) → Passes x (said key ++ items) y → Passes (sent x (option_to_list key)) items y
-passes_said None items x y passes = subst (λ down. Passes (record x { down = down }) items y) (sym (append-nil x.down)) passes
-passes_said (Some key) items x y passes = passes
+abbrev pub Leads : Scene → List ℕ → Scene → Type 0
+Leads w keys next = AnyLeads loading w keys next
 
 pub dialogue_leads : (things : List Heard) (core : Core) (x y : Wire) → Passes x (dialogue core things) y → Leads (over core x) (replay core things) (over (led core things) y)
-dialogue_leads [] core x y moves = moves_lead core x y moves
+dialogue_leads [] core x y moves = moves_lead loading core x y moves
 dialogue_leads (what ∷ things) core x y (z, v, before, gives, passes) =
     let key = (move core what).key in
     let next = (move core what).next in
-    leads_then (over core x) (over core z) (over (led next things) y) [] (option_to_list key ++ replay next things) (moves_lead core x z before)
-    (leads_then (over core z) (over next (sent v (option_to_list key))) (over (led next things) y) (option_to_list key) (replay next things) (gives_lead core what z v gives)
-    (dialogue_leads things next (sent v (option_to_list key)) y (passes_said key (dialogue next things) v y passes)))
+    leads_then loading (over core x) (over core z) (over (led next things) y) [] (option_to_list key ++ replay next things) (moves_lead loading core x z before)
+    (leads_then loading (over core z) (over next (sent v (option_to_list key))) (over (led next things) y) (option_to_list key) (replay next things) (gives_lead loading core what z v gives)
+    (dialogue_leads things next (sent v (option_to_list key)) y (passing_said Moves key (dialogue next things) v y passes)))

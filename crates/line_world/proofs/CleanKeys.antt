@@ -24,7 +24,8 @@ use Rattle.host_core.specs.PhaseTable.{Move, move, taken, sends, after_words, he
 use Rattle.line_world.specs.Scene.{Scene}
 use Rattle.tape_image.specs.Plan.{PlanValue}
 use Rattle.line_world.specs.declared.event.Event.{Event}
-use Rattle.line_world.specs.World.{answered, stepped, happens, typed_in, typed, first_of, first_event, IsCleanRun}
+use Rattle.line_world.specs.World.{happens, typed_in, typed, first_of, first_event, IsCleanRun}
+use Rattle.line_world.proofs.Stepped.{answered, stepped}
 use Rattle.line_world.specs.Pending.{Live, BrokenIsPaid, rest_of}
 use Rattle.line_world.specs.Invariant.{IsKept}
 use Rattle.line_world.specs.CleanLine.{LiesIn, IsAtOpening}

@@ -17,7 +17,7 @@ use Rattle.host_core.specs.Core.{Core, word_under_way, start_of}
 use Rattle.host_core.specs.Host.{IsHost}
 use Rattle.host_core.specs.PhaseTable.{taken, after_words, sends, listens}
 use Rattle.line_world.specs.Scene.{Scene}
-use Rattle.line_world.specs.World.{stepped}
+use Rattle.line_world.proofs.Stepped.{stepped}
 use Rattle.line_world.specs.Site.{site, site_of, IsThere, number_mode, ground}
 use Rattle.line_world.specs.Pending.{IsStopped, IsOpened}
 use Rattle.line_world.specs.Invariant.{IsKept, InPhase, EndIsPaid, RunsWith, standing}

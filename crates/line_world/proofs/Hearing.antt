@@ -23,7 +23,7 @@ use Rattle.host_core.specs.Answers.{first_digit}
 use Rattle.host_core.specs.declared.answers.Echo.{Echo}
 use Rattle.host_core.specs.declared.answers.Reading.TheVariants.{Number, NoReading}
 use Rattle.host_core.specs.PhaseTable.{move, hears, synced, sync_hears, echoed, address_hears, slash_hears, reads, before_hears, differs, value_hears, deposit_hears, returned, returns, return_hears, start_hears, go_hears}
-use Rattle.line_world.specs.World.{stepped}
+use Rattle.line_world.proofs.Stepped.{stepped}
 use Rattle.line_world.specs.Site.{Site, site, held_number, Lies, number_mode, typing_mode, opened_mode, prompt_from, last_digits, reading}
 use Rattle.line_world.specs.Pending.{Live, Fits as MeetsKey, IsRemnant, IsOpened, Checked, Facts, after_of, rest_of}
 use Rattle.line_world.specs.Invariant.{IsKept}

@@ -1,3 +1,4 @@
+pub mod Stepped
 mod Parts
 mod Digits
 mod Rows

@@ -11,7 +11,7 @@ use Rattle.host_core.specs.declared.heard.Heard.TheVariants.{Quiet}
 use Rattle.host_core.specs.Core.{Core}
 use Rattle.host_core.specs.Host.{IsHost, MarkFits, IsPastMark}
 use Rattle.host_core.specs.PhaseTable.{move, waits}
-use Rattle.line_world.specs.World.{stepped}
+use Rattle.line_world.proofs.Stepped.{stepped}
 use Rattle.line_world.specs.Site.{Site, site, held_number, reading, refusal_from, prompt_from, last_digits}
 use Rattle.line_world.specs.Pending.{IsStopped, BrokenIsPaid}
 use Rattle.line_world.specs.Invariant.{IsKept, RunsWith}

@@ -18,7 +18,8 @@ use Rattle.host_core.proofs.Frame.{moved, silent, on_move}
 use Rattle.line_world.specs.declared.event.Event.{Event}
 use Rattle.line_world.specs.declared.event.Event.TheVariants.{Take, Hear, LoseDown, LoseUp, Quiet, Restart}
 use Rattle.line_world.specs.Scene.{Scene}
-use Rattle.line_world.specs.World.{takes, host_hears, times_out, stepped, happens, after, typed_hearing, typed_timeout, typed_in, typed}
+use Rattle.line_world.specs.World.{takes, host_hears, times_out, happens, after, typed_hearing, typed_timeout, typed_in, typed}
+use Rattle.line_world.proofs.Stepped.{stepped}
 use Rattle.line_world.specs.Site.{Ground, ground}
 use Rattle.line_world.specs.Lawful.{LawfulBefore, LawfulKey}
 use Rattle.line_world.specs.Invariant.{IsKept}

@@ -11,7 +11,7 @@ use Rattle.host_core.specs.declared.phase.Phase.{Phase}
 use Rattle.host_core.specs.declared.phase.Phase.TheVariants.{Settle, Value, Return, Ended}
 use Rattle.host_core.specs.Core.{Core}
 use Rattle.host_core.specs.Host.{PhaseFits, basis_of}
-use Rattle.line_world.specs.World.{answered}
+use Rattle.line_world.proofs.Stepped.{answered}
 use Rattle.line_world.specs.Site.{Site, site, wanted, Lies, prompt_from, Ground, ground}
 use Rattle.line_world.specs.Pending.{Live, RestFits, Facts, after_of, rest_of}
 use Rattle.line_world.specs.Invariant.{IsKept, EndIsPaid}

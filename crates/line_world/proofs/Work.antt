@@ -16,7 +16,8 @@ use Rattle.host_core.proofs.Turns.{kept, within_bound}
 use Rattle.host_core.proofs.Frame.{moved, on_move}
 use Rattle.line_world.specs.declared.event.Event.{Event}
 use Rattle.line_world.specs.Scene.{Scene}
-use Rattle.line_world.specs.World.{stepped, occurs, happens, first_of, first_event, work_left}
+use Rattle.line_world.specs.World.{occurs, happens, first_of, first_event, work_left}
+use Rattle.line_world.proofs.Stepped.{stepped}
 use Rattle.line_world.specs.Invariant.{IsKept}
 use Rattle.line_world.proofs.Frame.{scene}
 use Rattle.line_world.proofs.Taking.{key_takes}

@@ -1,5 +1,6 @@
 pub mod Wire
 pub mod Scene
+pub mod Happening
 pub mod World
 pub mod Site
 pub mod Pending

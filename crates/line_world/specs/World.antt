@@ -1,82 +1,54 @@
--- The events of the world, the world after them, and the keys that the host types on the way.
-use Rattle.std.specs.Prelude.{◌≡◌, ℕ, ◌+◌, ◌-◌, ◌*◌, Bool, false, nat_lt, if◌then◌else◌, ◌||◌, List, [], ◌∷◌, ◌++◌, length}
-use Rattle.std.specs.Prelude.{Option, Some, None, unwrap_or, option_to_list, is_some, IsSome}
-use Rattle.odt_machine.specs.KeyTable.{Taken, take_of}
-use Rattle.host_core.specs.declared.heard.Heard.TheVariants.{Got, Quiet as Silence}
-use Rattle.host_core.specs.Core.{ended, restarted}
+-- The world of the loading host, and the events of a line that loses nothing.
+use Rattle.std.specs.Prelude.{◌≡◌, ℕ, ◌+◌, ◌-◌, ◌*◌, Bool, false, if◌then◌else◌, ◌||◌, List, [], ◌∷◌, length}
+use Rattle.std.specs.Prelude.{Option, None, is_some, IsSome}
+use Rattle.host_core.specs.Core.{Core, ended, restarted}
 use Rattle.host_core.specs.Bound.{character_bound}
-use Rattle.host_core.specs.PhaseTable.{Move, move}
+use Rattle.host_core.specs.PhaseTable.{move}
 use Rattle.line_world.specs.declared.event.Event.{Event}
-use Rattle.line_world.specs.declared.event.Event.TheVariants.{Take, Hear, LoseDown, LoseUp, Quiet, Restart}
-use Rattle.line_world.specs.Scene.{Scene, wire_of, over}
-use Rattle.line_world.specs.Wire.{with_answer, without_down, without_up, heard, sent, forgiven}
+use Rattle.line_world.specs.declared.event.Event.TheVariants.{Take, Hear, Quiet}
+use Rattle.line_world.specs.Scene.{Scene}
+use Rattle.line_world.specs.Happening.{Kind, takes as any_takes, host_hears as any_hears, times_out as any_timeout, occurs as any_occurs, happens as any_happens, after as any_after}
+use Rattle.line_world.specs.Happening.{typed_hearing as any_typed_hearing, typed_timeout as any_typed_timeout, typed_in as any_typed_in, typed as any_typed}
 
--- the world after ODT took the first of `down`, of which `rest` is left
-abbrev pub answered : Scene → List ℕ → Taken → Scene
-answered w rest t = over w.core (with_answer (wire_of w) rest t)
+-- the loading host
+abbrev pub loading : Kind Core
+loading = record { next = λ core what. (move core what).next; key = λ core what. (move core what).key; restarted = restarted }
 
--- the world after a step of the host: what it sends stands at the end of `down`
-abbrev pub stepped : Scene → List ℕ → Move → Scene
-stepped w rest m = over m.next (sent (heard (wire_of w) rest) (option_to_list m.key))
-
--- Take, where a key is under way
+-- each of the world's events and what comes of it, with this host
 abbrev pub takes : Scene → List ℕ → Option Scene
-takes w [] = None
-takes w (c ∷ rest) = Some (answered w rest (take_of w.machine c))
+takes w down = any_takes w down
 
--- Hear, where an answer character is under way
 abbrev pub host_hears : Scene → List ℕ → Option Scene
-host_hears w [] = None
-host_hears w (c ∷ rest) = Some (stepped w rest (move w.core (Got c)))
+host_hears w up = any_hears loading w up
 
--- Quiet, where nothing is under way
 abbrev pub times_out : Scene → List ℕ → List ℕ → Option Scene
-times_out w [] [] = Some (stepped w [] (move w.core Silence))
-times_out w down up = None
+times_out w down up = any_timeout loading w down up
 
--- the world after an event, or none where the event is not possible
 abbrev pub occurs : Scene → Event → Option Scene
-occurs w Take = takes w w.down
-occurs w Hear = host_hears w w.up
-occurs w (LoseDown k) = if nat_lt k (length w.down) then Some (over w.core (without_down (wire_of w) k)) else None
-occurs w (LoseUp k) = if nat_lt k (length w.up) then Some (over w.core (without_up (wire_of w) k)) else None
-occurs w Quiet = times_out w w.down w.up
-occurs w (Restart kept) = Some (over (restarted w.core kept) (forgiven (wire_of w)))
+occurs w event = any_occurs loading w event
 
--- the world after an event, an impossible one skipped
 abbrev pub happens : Scene → Event → Scene
-happens w event = unwrap_or (occurs w event) w
+happens w event = any_happens loading w event
 
--- the world after a list of events, the impossible ones skipped
 abbrev pub after : Scene → List Event → Scene
-after w [] = w
-after w (event ∷ events) = after (happens w event) events
+after w events = any_after loading w events
+
+abbrev pub typed_hearing : Scene → List ℕ → List ℕ
+typed_hearing w up = any_typed_hearing loading w up
+
+abbrev pub typed_timeout : Scene → List ℕ → List ℕ → List ℕ
+typed_timeout w down up = any_typed_timeout loading w down up
+
+abbrev pub typed_in : Scene → Event → List ℕ
+typed_in w event = any_typed_in loading w event
+
+abbrev pub typed : Scene → List Event → List ℕ
+typed w events = any_typed loading w events
 
 -- how many of the events were possible, each in its turn
 abbrev pub possible_count : Scene → List Event → ℕ
 possible_count w [] = 0
 possible_count w (event ∷ events) = (if is_some (occurs w event) then 1 else 0) + possible_count (happens w event) events
-
--- what the host sends on hearing
-abbrev pub typed_hearing : Scene → List ℕ → List ℕ
-typed_hearing w [] = []
-typed_hearing w (c ∷ rest) = option_to_list (move w.core (Got c)).key
-
--- what the host sends at a timeout
-abbrev pub typed_timeout : Scene → List ℕ → List ℕ → List ℕ
-typed_timeout w [] [] = option_to_list (move w.core Silence).key
-typed_timeout w down up = []
-
--- the keys that the host sends in an event
-abbrev pub typed_in : Scene → Event → List ℕ
-typed_in w Hear = typed_hearing w w.up
-typed_in w Quiet = typed_timeout w w.down w.up
-typed_in w event = []
-
--- the keys of all the events, in the order in which they are sent
-abbrev pub typed : Scene → List Event → List ℕ
-typed w [] = []
-typed w (event ∷ events) = typed_in w event ++ typed (happens w event) events
 
 -- this event is a timeout that is possible
 abbrev pub is_timeout : Scene → Event → Bool

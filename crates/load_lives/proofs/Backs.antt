@@ -6,8 +6,10 @@ use Rattle.host_core.specs.declared.heard.Heard.TheVariants.{Got, Quiet}
 use Rattle.host_devices.specs.declared.item.Item.{Item}
 use Rattle.host_devices.specs.declared.item.Item.TheVariants.{Sent, Heard as Came}
 use Rattle.exchange_law.specs.Station.{Program}
-use Rattle.exchange_law.specs.Line.{Gives, Link, Moves, MovesOn, MovesTimes, Passes}
-use Rattle.exchange_law.proofs.Links.{later, passes_then}
+use Rattle.honest_line.specs.Moves.{Gives}
+use Rattle.exchange_law.specs.Line.{Link, Moves, MovesOn, MovesTimes, Passes}
+use Rattle.honest_line.proofs.Passings.{later}
+use Rattle.exchange_law.proofs.Links.{passes_then}
 
 heard_last : (program : Program) (front : List Item) (last : Heard) (x y : Link) → Passes program x (front ++ Came last ∷ []) y → (z : Link) × (v : Link) × Passes program x front z × Gives z last v × MovesOn program v y
 heard_last program [] last x y (z, v, moves, gives, after) = (z, v, moves, gives, after)

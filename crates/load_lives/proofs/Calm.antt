@@ -19,7 +19,8 @@ use Rattle.line_world.proofs.Taking.{key_takes}
 use Rattle.host_devices.specs.declared.item.Item.{Item}
 use Rattle.host_devices.specs.declared.item.Item.TheVariants.{Heard as Came, Sent}
 use Rattle.host_devices.specs.Dialogue.{keys_of}
-use Rattle.exchange_law.specs.Line.{Gives, Link, Moves, MovesTimes, Passes}
+use Rattle.honest_line.specs.Moves.{Gives}
+use Rattle.exchange_law.specs.Line.{Link, Moves, MovesTimes, Passes}
 use Rattle.exchange_law.specs.Station.{Meets, Program, Station, Stub, after_odt, begins}
 use Rattle.exchange_law.specs.Unsettled.{IsUnsettled, Untouched}
 use Rattle.exchange_law.proofs.Words.{lies_same, still_stands}
@@ -65,9 +66,9 @@ kept_on tape v before now later u kept = kept_then tape.image before now later k
 pub between_passes : (program : Program) (tape : PlanValue) (v : ℕ) (before : List ℕ) (items : List Item) (x y : Link) → IsPlan tape → v ≤ length tape.words → keys_of items ≡ [] → Between program tape v before x → Passes program x items y →
     Between program tape v before y
 between_passes program tape v before items x y is within none b passes =
-    let s = settling_passes program (IsLater tape v) x.station.machine.memory items x y none (record { line = b.line; untouched = untouched_same (IsLater tape v) x.station.machine.memory }) passes in record {
-      stand = stands_on tape v x.station.machine.memory y.station.machine.memory is within s.untouched b.stand;
-      kept = kept_on tape v before x.station.machine.memory y.station.machine.memory s.untouched b.kept;
+    let s = settling_passes program (IsLater tape v) x.machine.odt.memory items x y none (record { line = b.line; untouched = untouched_same (IsLater tape v) x.machine.odt.memory }) passes in record {
+      stand = stands_on tape v x.machine.odt.memory y.machine.odt.memory is within s.untouched b.stand;
+      kept = kept_on tape v before x.machine.odt.memory y.machine.odt.memory s.untouched b.kept;
       line = s.line;
     }
 
@@ -77,15 +78,15 @@ between_passes program tape v before items x y is within none b passes =
 pub record IsIdleKey (program : Program) (R : ℕ → Type 0) (x : Link) : Type 0 where
   pub key : ℕ
   pub down : x.down ≡ key ∷ []
-  pub none : x.station.stub ≡ None
-  pub untouched : Untouched R x.station.machine.memory (after_odt program x.station.machine key).machine.memory
+  pub none : x.machine.stub ≡ None
+  pub untouched : Untouched R x.machine.odt.memory (after_odt program x.machine.odt key).odt.memory
 
 abbrev pub IsIdle : Program → (ℕ → Type 0) → Link → Type 0
 IsIdle program R x = (x.down ≡ []) ⊎ IsIdleKey program R x
 
 record Idling (program : Program) (R : ℕ → Type 0) (before : List ℕ) (x : Link) : Type 0 where
   pub idle : IsIdle program R x
-  pub untouched : Untouched R before x.station.machine.memory
+  pub untouched : Untouched R before x.machine.odt.memory
 
 tails : (a b : ℕ) (rest : List ℕ) → a ∷ [] ≡ b ∷ rest → rest ≡ []
 tails a b rest e = cc e
@@ -98,11 +99,11 @@ idling_move program R before x y s (inl t) = elim s.idle [
   | inl none ↦ absurd (no_first x.down t.rest t.c none t.first)
   | inr k ↦
       let both : k.key ∷ [] ≡ t.c ∷ t.rest = sym k.down ∙ t.first in
-      let met = subst (λ stub. Meets program stub x.station.machine t.c t.station' t.answer) k.none t.meets in
-      let station : t.station' ≡ after_odt program x.station.machine k.key = met.0 ∙ ap (after_odt program x.station.machine) (sym (heads k.key t.c t.rest both)) in
+      let met = subst (λ stub. Meets program stub x.machine.odt t.c t.station' t.answer) k.none t.meets in
+      let station : t.station' ≡ after_odt program x.machine.odt k.key = met.0 ∙ ap (after_odt program x.machine.odt) (sym (heads k.key t.c t.rest both)) in
       subst (Idling program R before) (sym t.now) (record {
         idle = inl (tails k.key t.c t.rest both);
-        untouched = untouched_then R before x.station.machine.memory t.station'.machine.memory s.untouched (subst (λ (st : Station). Untouched R x.station.machine.memory st.machine.memory) (sym station) k.untouched);
+        untouched = untouched_then R before x.machine.odt.memory t.station'.odt.memory s.untouched (subst (λ (st : Station). Untouched R x.machine.odt.memory st.odt.memory) (sym station) k.untouched);
       })
 ]
 idling_move program R before x y s (inr (inl (k, below, now))) = subst (Idling program R before) (sym now) (record {
@@ -146,7 +147,7 @@ stopped_or P true h k = h refl
 stopped_or P false h k = k refl
 
 idle_key : (program : Program) (core : Core) (m : Machine) (stub : Option Stub) (c : ℕ) (rest up : List ℕ) (lost own : ℕ) → IsKept (scene m core (c ∷ rest) up lost) → core.going ≡ true → stub ≡ begins program false m.memory m.mode →
-    (is_running m.mode ≡ true → c ∷ rest ≡ []) → IsIdleKey program (IsLater core.plan (length core.plan.words)) (record { station = record { machine = m; stub = stub }; down = c ∷ rest; up = up; lost = own })
+    (is_running m.mode ≡ true → c ∷ rest ≡ []) → IsIdleKey program (IsLater core.plan (length core.plan.words)) (record { machine = record { odt = m; stub = stub }; down = c ∷ rest; up = up; lost = own })
 idle_key program core m stub c rest up lost own k set is quiet = stopped_or _ (is_running m.mode)
     (λ runs. absurd (no_first (c ∷ rest) rest c (quiet runs) refl))
     (λ stopped. let one : rest ≡ [] = k.one_way.0 in record {
@@ -157,15 +158,15 @@ idle_key program core m stub c rest up lost own k set is quiet = stopped_or _ (i
     })
 
 idle_by : (program : Program) (core : Core) (m : Machine) (stub : Option Stub) (down up : List ℕ) (lost own : ℕ) → IsKept (scene m core down up lost) → core.going ≡ true → stub ≡ begins program false m.memory m.mode →
-    (is_running m.mode ≡ true → down ≡ []) → IsIdle program (IsLater core.plan (length core.plan.words)) (record { station = record { machine = m; stub = stub }; down = down; up = up; lost = own })
+    (is_running m.mode ≡ true → down ≡ []) → IsIdle program (IsLater core.plan (length core.plan.words)) (record { machine = record { odt = m; stub = stub }; down = down; up = up; lost = own })
 idle_by program core m stub [] up lost own k set is quiet = inl refl
 idle_by program core m stub (c ∷ rest) up lost own k set is quiet = inr (idle_key program core m stub c rest up lost own k set is quiet)
 
 pub idle_behind : (program : Program) (core : Core) (y : Link) → IsInOrder program core y → core.going ≡ true → IsIdle program (IsLater core.plan (length core.plan.words)) y
-idle_behind program core y o set = idle_by program core y.station.machine y.station.stub y.down y.up o.lost y.lost o.kept set o.just.stub o.just.quiet
+idle_behind program core y o set = idle_by program core y.machine.odt y.machine.stub y.down y.up o.lost y.lost o.kept set o.just.stub o.just.quiet
 
-pub all_in_order : (program : Program) (core : Core) (y : Link) → IsInOrder program core y → core.going ≡ true → FirstStand core.plan.words (length core.plan.words) y.station.machine.memory
-all_in_order program core y o set = all_stand y.station.machine core y.down y.up o.lost o.kept set
+pub all_in_order : (program : Program) (core : Core) (y : Link) → IsInOrder program core y → core.going ≡ true → FirstStand core.plan.words (length core.plan.words) y.machine.odt.memory
+all_in_order program core y o set = all_stand y.machine.odt core y.down y.up o.lost o.kept set
 
 -- ---- under the mark
 
@@ -175,12 +176,12 @@ Rested program tape keys x = IsUnsettled program (IsLater tape (length tape.word
 
 pub record StaysRested (program : Program) (tape : PlanValue) (keys : List ℕ) (x y : Link) : Type 0 where
   pub rested : Rested program tape keys y
-  pub untouched : Untouched (IsLater tape (length tape.words)) x.station.machine.memory y.station.machine.memory
+  pub untouched : Untouched (IsLater tape (length tape.words)) x.machine.odt.memory y.machine.odt.memory
 
 pub rested_passes : (program : Program) (tape : PlanValue) (keys : List ℕ) (items : List Item) (x y : Link) → keys_of items ≡ [] → Rested program tape keys x → Passes program x items y → StaysRested program tape keys x y
 rested_passes program tape keys items x y none (inl u) passes =
     let R : ℕ → Type 0 = IsLater tape (length tape.words) in
-    let s = settling_passes program R x.station.machine.memory items x y none (record { line = u; untouched = untouched_same R x.station.machine.memory }) passes in record { rested = inl s.line; untouched = s.untouched }
+    let s = settling_passes program R x.machine.odt.memory items x y none (record { line = u; untouched = untouched_same R x.machine.odt.memory }) passes in record { rested = inl s.line; untouched = s.untouched }
 rested_passes program tape keys items x y none (inr (has, idle)) passes =
     let R : ℕ → Type 0 = IsLater tape (length tape.words) in
-    let s = idling_passes program R x.station.machine.memory items x y none (record { idle = idle; untouched = untouched_same R x.station.machine.memory }) passes in record { rested = inr (has, s.idle); untouched = s.untouched }
+    let s = idling_passes program R x.machine.odt.memory items x y none (record { idle = idle; untouched = untouched_same R x.machine.odt.memory }) passes in record { rested = inr (has, s.idle); untouched = s.untouched }

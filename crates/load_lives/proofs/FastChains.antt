@@ -63,11 +63,11 @@ use Rattle.load_lives.proofs.Storing.{fewer_stand}
 pub record Stood (program : Program) (tape : PlanValue) (before keys : List ℕ) (now : LinkAndRecord) : Type 0 where
   pub progress : Progress
   pub says : Says tape now.text (Ok progress)
-  pub stand : FirstStand tape.words progress.verified now.link.station.machine.memory
-  pub kept : KeepsOutside before tape.image now.link.station.machine.memory
+  pub stand : FirstStand tape.words progress.verified now.link.machine.odt.memory
+  pub kept : KeepsOutside before tape.image now.link.machine.odt.memory
   pub last : EndsAtGo keys
   pub marked : Contains keys go → progress.going ≡ true
-  pub all : progress.going ≡ true → FirstStand tape.words (length tape.words) now.link.station.machine.memory
+  pub all : progress.going ≡ true → FirstStand tape.words (length tape.words) now.link.machine.odt.memory
   pub rested : progress.going ≡ true → Rested program tape keys now.link
   pub next : progress.going ≡ false → Between program tape progress.verified before now.link
 
@@ -77,7 +77,7 @@ not_both b e f = cc
 -- one more life
 pub record Went (program : Program) (tape : PlanValue) (before keys : List ℕ) (life : FastLife) (new : LinkAndRecord) : Type 0 where
   pub stood : Stood program tape before (keys ++ keys_of life.rest) new
-  pub paid : IsPaid (last_core tape life) new.link.station.machine.memory (length life.unsent + new.link.lost + 1)
+  pub paid : IsPaid (last_core tape life) new.link.machine.odt.memory (length life.unsent + new.link.lost + 1)
 
 -- ---- a life that sends nothing and leaves the record alone
 
@@ -102,7 +102,7 @@ stood_quiet program tape before keys old items new is s line none same = by s.pr
     within : s.progress.verified ≤ length tape.words
     within = (says_sound tape old.text s.progress s.says).within
 
-    station : line.found.station ≡ old.link.station
+    station : line.found.machine ≡ old.link.machine
     station = station_reopened old.link line.found line.reopens
 
     by : (test : Bool) → s.progress.going ≡ test → Stood program tape before keys new
@@ -121,12 +121,12 @@ stood_quiet program tape before keys old items new is s line none same = by s.pr
         }
     by true e =
         let r : StaysRested program tape keys line.found new.link = rested_passes program tape keys items line.found new.link none (rested_reopened program tape keys old.link line.found line.reopens (s.rested e)) line.passes in
-        let all : FirstStand tape.words (length tape.words) new.link.station.machine.memory =
-        stands_on tape (length tape.words) line.found.station.machine.memory new.link.station.machine.memory is (omega arith) r.untouched (subst (λ (st : Station). FirstStand tape.words (length tape.words) st.machine.memory) (sym station) (s.all e)) in record {
+        let all : FirstStand tape.words (length tape.words) new.link.machine.odt.memory =
+        stands_on tape (length tape.words) line.found.machine.odt.memory new.link.machine.odt.memory is (omega arith) r.untouched (subst (λ (st : Station). FirstStand tape.words (length tape.words) st.odt.memory) (sym station) (s.all e)) in record {
           progress = s.progress;
           says = says;
-          stand = fewer_stand tape.words s.progress.verified (length tape.words) new.link.station.machine.memory within all;
-          kept = kept_on tape (length tape.words) before line.found.station.machine.memory new.link.station.machine.memory r.untouched (subst (λ (st : Station). KeepsOutside before tape.image st.machine.memory) (sym station) s.kept);
+          stand = fewer_stand tape.words s.progress.verified (length tape.words) new.link.machine.odt.memory within all;
+          kept = kept_on tape (length tape.words) before line.found.machine.odt.memory new.link.machine.odt.memory r.untouched (subst (λ (st : Station). KeepsOutside before tape.image st.odt.memory) (sym station) s.kept);
           last = s.last;
           marked = s.marked;
           all = λ _. all;
@@ -193,7 +193,7 @@ went_marked program tape before keys between life new is s l =
     let first : Core = begun tape (verified_by tape life.progress.verified life.stubs) true life.patience in record {
       stood = subst (λ list. Stood program tape before list new) (same_keys keys (keys_of life.rest) (rest_none life.front life.rest none))
           (stood_quiet program tape before keys between (life.front ++ life.rest) new is s l.line none (l.left.alone refl));
-      paid = subst (λ core. IsPaid core new.link.station.machine.memory (length life.unsent + new.link.lost + 1)) (sym (stays first life.heard)) (record { spent = omega arith; cause = tt });
+      paid = subst (λ core. IsPaid core new.link.machine.odt.memory (length life.unsent + new.link.lost + 1)) (sym (stays first life.heard)) (record { spent = omega arith; cause = tt });
     }
 
 -- ---- the load of a life over a record without the mark
@@ -369,11 +369,11 @@ stood_told : (program : Program) (tape : PlanValue) (before keys : List ℕ) (li
 stood_told program tape before keys life x new o passes stops host last never c r = record {
   progress = r.progress;
   says = r.says;
-  stand = fewer_stand tape.words r.progress.verified (led (bare tape life) life.heard).verified new.link.station.machine.memory r.few c.on.stand;
+  stand = fewer_stand tape.words r.progress.verified (led (bare tape life) life.heard).verified new.link.machine.odt.memory r.few c.on.stand;
   kept = c.on.kept;
   last = ends_join keys (keys_of life.rest) last c.last (λ h. absurd (never h));
   marked = λ h. elim (Contains-append_cases keys (keys_of life.rest) go h) [ inl early ↦ absurd (never early) | inr now ↦ r.sent now ];
-  all = λ set. subst (λ (p : PlanValue). FirstStand p.words (length p.words) new.link.station.machine.memory) (led_plan (bare tape life) life.heard)
+  all = λ set. subst (λ (p : PlanValue). FirstStand p.words (length p.words) new.link.machine.odt.memory) (led_plan (bare tape life) life.heard)
       (all_in_order program (led (bare tape life) life.heard) new.link (c.on.in_order (r.marked set)) (r.marked set));
   rested = λ set. (at (r.marked set)).rested keys;
   next = λ none. by (led (bare tape life) life.heard).going refl none;
@@ -451,7 +451,7 @@ latest : (program : Program) (tape : PlanValue) (before : List ℕ) (lives : Lis
 latest program tape before [] old new is s lived = tt
 latest program tape before (life ∷ earlier) old new is s lived = (went program tape before (typed earlier) lived.0 life new is (stood program tape before earlier old lived.0 is s lived.1) lived.2).paid
 
-pub opens : (program : Program) (tape : PlanValue) (old : LinkAndRecord) → MayOpenAt tape old → Stood program tape old.link.station.machine.memory [] old
+pub opens : (program : Program) (tape : PlanValue) (old : LinkAndRecord) → MayOpenAt tape old → Stood program tape old.link.machine.odt.memory [] old
 opens program tape old may = record {
   progress = may.progress;
   says = may.says;
@@ -464,7 +464,7 @@ opens program tape old may = record {
   next = λ unset. record {
     stand = may.stand;
     kept = record { size = refl; bytes = λ b low none. refl };
-    line = record { console = may.console; stub = subst (λ stub. MayFill (IsLater tape may.progress.verified) old.link.station.machine.mode stub) (sym may.no_stub) may.stopped; down = inl (subst (Each IsForStub) (sym may.none_down) tt) };
+    line = record { console = may.console; stub = subst (λ stub. MayFill (IsLater tape may.progress.verified) old.link.machine.odt.mode stub) (sym may.no_stub) may.stopped; down = inl (subst (Each IsForStub) (sym may.none_down) tt) };
   };
 }
 
@@ -473,13 +473,13 @@ still : (R : ℕ → Type 0) (mode : Mode) (stub : Option Stub) → MayFill R mo
 still R mode stub may none runs = not_both (is_running mode) runs (subst (MayFill R mode) none may)
 
 -- a program that is no stub was started by `G`
-started : (program : Program) (tape : PlanValue) (before keys : List ℕ) (new : LinkAndRecord) → Stood program tape before keys new → new.link.station.stub ≡ None → RunsByGo new.link.station.machine keys
+started : (program : Program) (tape : PlanValue) (before keys : List ℕ) (new : LinkAndRecord) → Stood program tape before keys new → new.link.machine.stub ≡ None → RunsByGo new.link.machine.odt keys
 started program tape before keys new s none runs = by s.progress.going refl
   where
     by : (test : Bool) → s.progress.going ≡ test → Contains keys go
-    by false e = absurd (still (IsLater tape s.progress.verified) new.link.station.machine.mode new.link.station.stub (s.next e).line.stub none runs)
+    by false e = absurd (still (IsLater tape s.progress.verified) new.link.machine.odt.mode new.link.machine.stub (s.next e).line.stub none runs)
     by true e = elim (s.rested e) [
-      | inl u ↦ absurd (still (IsLater tape (length tape.words)) new.link.station.machine.mode new.link.station.stub u.stub none runs)
+      | inl u ↦ absurd (still (IsLater tape (length tape.words)) new.link.machine.odt.mode new.link.machine.stub u.stub none runs)
       | inr (has, idle) ↦ has
     ]
 
@@ -492,17 +492,17 @@ trusted program tape before keys now is s = record {
   kept = s.kept;
   last = s.last;
   marked = s.marked;
-  loaded = λ set. loaded_by tape before now.link.station.machine.memory is s.kept (s.all set);
+  loaded = λ set. loaded_by tape before now.link.machine.odt.memory is s.kept (s.all set);
   unsettled = λ unset. (s.next unset).line;
   by_go = started program tape before keys now s;
 }
 
 any_lives : (program : Program) (tape : PlanValue) (old new : LinkAndRecord) (lives : List FastLife) → IsPlan tape → MayOpenAt tape old → AreFastLives program tape old lives new →
-    AreFastTrusted program tape old.link.station.machine.memory (typed lives) new × IsLatestPaid tape lives new.link
+    AreFastTrusted program tape old.link.machine.odt.memory (typed lives) new × IsLatestPaid tape lives new.link
 any_lives program tape old new lives is may lived =
     let first = opens program tape old may in (
-      trusted program tape old.link.station.machine.memory (typed lives) new is (stood program tape old.link.station.machine.memory lives old new is first lived),
-      latest program tape old.link.station.machine.memory lives old new is first lived,
+      trusted program tape old.link.machine.odt.memory (typed lives) new is (stood program tape old.link.machine.odt.memory lives old new is first lived),
+      latest program tape old.link.machine.odt.memory lives old new is first lived,
     )
 
 pub fast_lives_are_trusted : FastLivesAreTrusted

@@ -15,9 +15,12 @@ use Rattle.load_record.specs.Reading.{Says}
 use Rattle.load_lives.proofs.Records.{says_once, says_sound}
 use Rattle.looking_law.specs.RecordLook.{HasLooked}
 use Rattle.looking_law.proofs.Never.{looked_never, never_ends, none_in}
-use Rattle.exchange_law.specs.Line.{Gives, Link, Moves, MovesOn, MovesTimes, Passes, sent}
+use Rattle.line_world.specs.Wire.{sent}
+use Rattle.honest_line.specs.Moves.{Gives}
+use Rattle.exchange_law.specs.Line.{Link, Moves, MovesOn, MovesTimes, Passes}
 use Rattle.exchange_law.specs.Station.{Program}
-use Rattle.exchange_law.proofs.Links.{later, passes_split}
+use Rattle.honest_line.proofs.Passings.{later}
+use Rattle.exchange_law.proofs.Links.{passes_split}
 use Rattle.exchange_law.specs.Recovery.{IsLater, IsPaid}
 use Rattle.exchange_law.specs.Start.{program as stub_program}
 use Rattle.load_lives.specs.Between.{Between}
@@ -39,7 +42,7 @@ one_lost k n = omega arith
 
 move_fewer : (program : Program) (k : ℕ) (x y : Link) → Moves program (later k x) y → Fewer k y (Moves program x)
 move_fewer program k x y (inl t) = (
-  record { station = t.station'; down = t.rest; up = x.up ++ t.answer; lost = x.lost },
+  record { machine = t.station'; down = t.rest; up = x.up ++ t.answer; lost = x.lost },
   t.now,
   inl (record { c = t.c; rest = t.rest; first = t.first; station' = t.station'; answer = t.answer; meets = t.meets; now = refl }),
 )
@@ -82,10 +85,10 @@ looked program tape before keys between recorded looks z is s says h line =
     let within : v ≤ length tape.words = (says_sound tape between.text s.progress s.says).within in
     let x : Link = line.found in
     let b : Between program tape v before x = between_reopened program tape v before between.link x line.reopens (s.next unset) in
-    let l : IsLeft program (IsLater tape v) x.station.machine.memory z = looks_leave program (IsLater tape v) h.addresses h.patience h.heard looks x z h.asked h.patient h.told b.line line.passes in
+    let l : IsLeft program (IsLater tape v) x.machine.odt.memory z = looks_leave program (IsLater tape v) h.addresses h.patience h.heard looks x z h.asked h.patient h.told b.line line.passes in
     let there : Between program tape v before z = record {
-      stand = stands_on tape v x.station.machine.memory z.station.machine.memory is within l.untouched b.stand;
-      kept = kept_on tape v before x.station.machine.memory z.station.machine.memory l.untouched b.kept;
+      stand = stands_on tape v x.machine.odt.memory z.machine.odt.memory is within l.untouched b.stand;
+      kept = kept_on tape v before x.machine.odt.memory z.machine.odt.memory l.untouched b.kept;
       line = l.line;
     } in record {
       progress = s.progress;
@@ -105,7 +108,7 @@ record WentOn (program : Program) (tape : PlanValue) (before keys : List ℕ) (l
   pub stood : Stood program tape before (keys ++ (keys_of l.looks ++ keys_of l.life.rest)) new
   pub lost : ℕ
   pub fewer : lost ≤ new.link.lost
-  pub paid : IsPaid (last_core tape l.life) new.link.station.machine.memory (length l.life.unsent + lost + 1)
+  pub paid : IsPaid (last_core tape l.life) new.link.machine.odt.memory (length l.life.unsent + lost + 1)
 
 rested_later : (program : Program) (tape : PlanValue) (keys : List ℕ) (k : ℕ) (y : Link) → Rested program tape keys y → Rested program tape keys (later k y)
 rested_later program tape keys k y (inl u) = inl (losses_aside program (IsLater tape (length tape.words)) (later k y) y.lost u)
@@ -153,7 +156,7 @@ went_behind program tape before keys between recorded looks life new is s says h
           (subst (λ x. Stood program tape before all (record { link = x; text = new.text })) (sym f.1) (later_stood program tape before all z.lost y new.text w.stood));
       lost = y.lost;
       fewer = omega (arith, ap (λ (x : Link). x.lost) f.1);
-      paid = subst (λ (x : Link). IsPaid (last_core tape life) x.station.machine.memory (length life.unsent + y.lost + 1)) (sym f.1) w.paid;
+      paid = subst (λ (x : Link). IsPaid (last_core tape life) x.machine.odt.memory (length life.unsent + y.lost + 1)) (sym f.1) w.paid;
     }
 
 went_plain : (program : Program) (tape : PlanValue) (before keys : List ℕ) (between : LinkAndRecord) (looks : List Item) (life : FastLife) (new : LinkAndRecord) → IsPlan tape → Stood program tape before keys between → looks ≡ [] →
@@ -194,6 +197,6 @@ latest program tape before (l ∷ earlier) old new is s lived =
 pub come_first : FastLivesMayLookFirst
 come_first tape old new lives is may lived =
     let first = opens stub_program tape old may in (
-      trusted stub_program tape old.link.station.machine.memory (typed lives) new is (stood stub_program tape old.link.station.machine.memory lives old new is first lived),
-      latest stub_program tape old.link.station.machine.memory lives old new is first lived,
+      trusted stub_program tape old.link.machine.odt.memory (typed lives) new is (stood stub_program tape old.link.machine.odt.memory lives old new is first lived),
+      latest stub_program tape old.link.machine.odt.memory lives old new is first lived,
     )

@@ -78,17 +78,17 @@ brought program tape stub from before chunks core keys x y is within for plan ho
   between = record {
     stand = record {
       lies = λ i less. lies i less;
-      stands = λ i less. still_stands x.station.machine.memory y.station.machine.memory (word_nr tape.words i) (is.each i no_word (omega (arith, less, within))).even
-          (λ k g. t.safe.outside k (gives_below x.station.machine.memory (word_nr tape.words i) k (b.stand.lies i less) g) (λ later. later.later i less g) (subst (λ (p : PlanValue). get p.image k ≡ None) (sym plan) (for.behind i less k g)))
+      stands = λ i less. still_stands x.machine.odt.memory y.machine.odt.memory (word_nr tape.words i) (is.each i no_word (omega (arith, less, within))).even
+          (λ k g. t.safe.outside k (gives_below x.machine.odt.memory (word_nr tape.words i) k (b.stand.lies i less) g) (λ later. later.later i less g) (subst (λ (p : PlanValue). get p.image k ≡ None) (sym plan) (for.behind i less k g)))
           (b.stand.stands i less);
     };
-    kept = kept_then tape.image before x.station.machine.memory y.station.machine.memory b.kept
+    kept = kept_then tape.image before x.machine.odt.memory y.machine.odt.memory b.kept
         (λ k low none. t.safe.outside k low (λ later. none_some (get tape.image k) none later.inside)
         (subst (λ (p : PlanValue). get p.image k ≡ None) (sym plan) (none_or (get stub.image k) (λ some. none_some (get tape.image k) none (for.inside k some))))) t.safe.size;
     line = elim t.leaves [
       | inl u ↦ u.0
       | inr o ↦ in_order_unsettled program (IsLater tape from) core y o (stub_starts program tape stub from chunks core for plan)
-          (λ lost down up memory k stores. stub_stores tape from (ground (scene y.station.machine core down up lost)) memory k.host.image (λ j some. for.inside j (subst (λ (p : PlanValue). IsSome (get p.image j)) plan some))
+          (λ lost down up memory k stores. stub_stores tape from (ground (scene y.machine.odt core down up lost)) memory k.host.image (λ j some. for.inside j (subst (λ (p : PlanValue). IsSome (get p.image j)) plan some))
           (λ i less j g. subst (λ (p : PlanValue). get p.image j ≡ None) (sym plan) (for.behind i less j g)) stores)
     ];
   };
@@ -97,20 +97,20 @@ brought program tape stub from before chunks core keys x y is within for plan ho
     silent = s.silent;
     console = s.console;
     runs = ap is_running s.runs;
-    stub = s.stub ∙ ap fresh (ap (λ (p : PlanValue). program y.station.machine.memory (unwrap_or p.start 0)) plan ∙ for.code.lies y.station.machine.memory (all s));
+    stub = s.stub ∙ ap fresh (ap (λ (p : PlanValue). program y.machine.odt.memory (unwrap_or p.start 0)) plan ∙ for.code.lies y.machine.odt.memory (all s));
     room = λ k below. room s k below (for.code.above k below);
   };
 }
   where
-    lies : (i : ℕ) → i < from → is_word y.station.machine.memory (word_nr tape.words i).address ≡ true
+    lies : (i : ℕ) → i < from → is_word y.machine.odt.memory (word_nr tape.words i).address ≡ true
     lies i less = subst (λ n. ((word_nr tape.words i).address % 2 == 0 && nat_lt (word_nr tape.words i).address (2 * n)) ≡ true) (sym t.safe.size) (b.stand.lies i less)
 
-    all : HasStarted program core y → FirstStand stub.words (length stub.words) y.station.machine.memory
-    all s = subst (λ (p : PlanValue). FirstStand p.words (length p.words) y.station.machine.memory) plan s.all
+    all : HasStarted program core y → FirstStand stub.words (length stub.words) y.machine.odt.memory
+    all s = subst (λ (p : PlanValue). FirstStand p.words (length p.words) y.machine.odt.memory) plan s.all
 
     room : HasStarted program core y → (k : ℕ) → k < length chunks → (i : ℕ) × (i < length stub.words) × ((chunk_nr chunks k).address + (chunk_nr chunks k).size ≤ (word_nr stub.words i).address + 2) →
-        (chunk_nr chunks k).address + (chunk_nr chunks k).size ≤ top_of y.station.machine.memory
-    room s k below (i, less, le) = let low = lies_below y.station.machine.memory (word_nr stub.words i).address ((all s).lies i less) in omega (arith, le, low.0, low.1)
+        (chunk_nr chunks k).address + (chunk_nr chunks k).size ≤ top_of y.machine.odt.memory
+    room s k below (i, less, le) = let low = lies_below y.machine.odt.memory (word_nr stub.words i).address ((all s).lies i less) in omega (arith, le, low.0, low.1)
 
 none_stand : (plan : PlanValue) (memory : List ℕ) → FirstStand plan.words 0 memory
 none_stand plan memory = record { lies = λ i less. absurd (omega (arith, less)); stands = λ i less. absurd (omega (arith, less)) }
@@ -120,7 +120,7 @@ pub stub_brought : (program : Program) (tape : PlanValue) (part : StubPart) (fro
 stub_brought program tape part from before things x y for long between passes =
     let host = stub_host part for.plan long in
     let t = hosts_recover (record { program = program; tape = tape; verified = from; found = x }) (bringer part) things y
-    (record { host = host; at_first = refl; stand = none_stand part.stub x.station.machine.memory; beside = λ i less b g later. absurd (omega (arith, less)); line = between.line }) passes in
+    (record { host = host; at_first = refl; stand = none_stand part.stub x.machine.odt.memory; beside = λ i less b g later. absurd (omega (arith, less)); line = between.line }) passes in
     brought program tape part.stub from before part.chunks (led (bringer part) things) _ x y for.words.sound (begins_within tape from part.chunks for.words) for (led_plan (bringer part) things) (led_kept (bringer part) things host) between t
 
 -- ---- an exchange
@@ -129,11 +129,11 @@ pub exchange_went : (program : Program) (tape : PlanValue) (from : ℕ) (before 
     Passes program x (exchange_dialogue tape.image chunks (exchange_begun from duplex) things) y → Between program tape (exchange_led tape.image chunks (exchange_begun from duplex) things).verified before y
 exchange_went program tape from before duplex chunks things x y are may between passes =
     let e : Exchange = exchange_led tape.image chunks (exchange_begun from duplex) things in
-    let t : IsExchanged program tape chunks x.station.machine.memory e y = whole_exchange program tape from duplex chunks things x y are may passes in
+    let t : IsExchanged program tape chunks x.machine.odt.memory e y = whole_exchange program tape from duplex chunks things x y are may passes in
     let origin : e.from ≡ from = led_from tape.image chunks things (exchange_begun from duplex) in
     let words : e.verified ≡ words_behind from chunks e.done = t.is.words ∙ ap (λ n. words_behind n chunks e.done) origin in record {
-      stand = t.words (subst (λ n. FirstStand tape.words n x.station.machine.memory) (sym origin) between.stand);
-      kept = kept_then tape.image before x.station.machine.memory y.station.machine.memory between.kept
+      stand = t.words (subst (λ n. FirstStand tape.words n x.machine.odt.memory) (sym origin) between.stand);
+      kept = kept_then tape.image before x.machine.odt.memory y.machine.odt.memory between.kept
           (λ b low none. t.holds.others b (λ k below inside. none_some (get tape.image b) none ((are.each k below).bytes b inside))) t.holds.size;
       line = subst (λ n. IsUnsettled program (IsLater tape n) y) (sym words) (unsettled_weaker program _ (IsLater tape (words_behind from chunks e.done)) (left_later tape from chunks e.done are) y t.left);
     }
@@ -159,30 +159,30 @@ loaded_on program tape from before core keys x y is plan host b t = record {
   last = t.last;
   marked = t.marked;
   typed = t.typed;
-  loaded = λ set. loaded_by tape before y.station.machine.memory is kept (subst (λ (p : PlanValue). FirstStand p.words (length p.words) y.station.machine.memory) plan (t.safe.going set));
+  loaded = λ set. loaded_by tape before y.machine.odt.memory is kept (subst (λ (p : PlanValue). FirstStand p.words (length p.words) y.machine.odt.memory) plan (t.safe.going set));
   in_order = λ set. elim t.leaves [ inl u ↦ absurd (not_both core.going set u.1) | inr o ↦ o ];
   next = λ unset fewer le. record {
-    stand = fewer_stand tape.words fewer core.verified y.station.machine.memory le stand;
+    stand = fewer_stand tape.words fewer core.verified y.machine.odt.memory le stand;
     kept = kept;
     line = elim t.leaves [
       | inl u ↦ unsettled_weaker program (IsLater tape from) (IsLater tape fewer)
           (λ k later. record { inside = later.inside; later = λ i less g. u.2 i (omega (arith, less, le)) k (subst (λ (p : PlanValue). gives (word_nr p.words i) k ≡ true) (sym plan) g) later }) y u.0
       | inr o ↦ in_order_unsettled program (IsLater tape fewer) core y o (λ memory set all. absurd (not_both core.going set unset))
-          (λ lost down up memory k stores. subst (λ (p : PlanValue). Untouched (IsLater p fewer) y.station.machine.memory memory) plan
-          (tape_stores (ground (scene y.station.machine core down up lost)) fewer memory k.host.image (let w = host.within in omega (arith, le, w)) (fewer_stand core.plan.words fewer core.verified y.station.machine.memory le t.safe.verified) stores))
+          (λ lost down up memory k stores. subst (λ (p : PlanValue). Untouched (IsLater p fewer) y.machine.odt.memory memory) plan
+          (tape_stores (ground (scene y.machine.odt core down up lost)) fewer memory k.host.image (let w = host.within in omega (arith, le, w)) (fewer_stand core.plan.words fewer core.verified y.machine.odt.memory le t.safe.verified) stores))
     ];
   };
   paid = record {
     spent = let le = t.paid.spent in omega (arith, le);
-    cause = has_cause core.phase y.station.machine.memory core.patience core.spent (y.lost + 1 - x.lost) (y.lost + 1) (omega arith) t.paid.cause;
+    cause = has_cause core.phase y.machine.odt.memory core.patience core.spent (y.lost + 1 - x.lost) (y.lost + 1) (omega arith) t.paid.cause;
   };
 }
   where
-    stand : FirstStand tape.words core.verified y.station.machine.memory
-    stand = subst (λ (p : PlanValue). FirstStand p.words core.verified y.station.machine.memory) plan t.safe.verified
+    stand : FirstStand tape.words core.verified y.machine.odt.memory
+    stand = subst (λ (p : PlanValue). FirstStand p.words core.verified y.machine.odt.memory) plan t.safe.verified
 
-    kept : KeepsOutside before tape.image y.station.machine.memory
-    kept = kept_then tape.image before x.station.machine.memory y.station.machine.memory b.kept
+    kept : KeepsOutside before tape.image y.machine.odt.memory
+    kept = kept_then tape.image before x.machine.odt.memory y.machine.odt.memory b.kept
         (λ k low none. t.safe.outside k low (λ later. none_some (get tape.image k) none later.inside) (subst (λ (p : PlanValue). get p.image k ≡ None) (sym plan) none)) t.safe.size
 
 pub load_went : (program : Program) (tape : PlanValue) (from patience : ℕ) (before : List ℕ) (things : List Heard) (x y : Link) → IsPlan tape → from ≤ length tape.words → patience < 2 ^ 32 → Between program tape from before x →

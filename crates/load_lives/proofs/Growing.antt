@@ -68,7 +68,7 @@ parts_grow program tape v stubs within parts = (parts_verify program tape v stub
 
 pub between_fewer : (program : Program) (tape : PlanValue) (fewer more : ℕ) (before : List ℕ) (x : Link) → fewer ≤ more → Between program tape more before x → Between program tape fewer before x
 between_fewer program tape fewer more before x le b = record {
-  stand = fewer_stand tape.words fewer more x.station.machine.memory le b.stand;
+  stand = fewer_stand tape.words fewer more x.machine.odt.memory le b.stand;
   kept = b.kept;
   line = unsettled_weaker program (IsLater tape more) (IsLater tape fewer) (fewer_later tape fewer more le) x b.line;
 }
@@ -77,14 +77,14 @@ pub unsettled_reopened : (program : Program) (R : ℕ → Type 0) (left found : 
 unsettled_reopened program R left found (inl same) u = subst (IsUnsettled program R) (sym same) (losses_aside program R (record left { lost = 0 }) left.lost u)
 unsettled_reopened program R left found (inr (waiting, new)) u = subst (IsUnsettled program R) (sym new) (record { console = u.console; stub = u.stub; down = inl tt })
 
-pub station_reopened : (left found : Link) → ReopensAt left found → found.station ≡ left.station
-station_reopened left found (inl same) = ap (λ (x : Link). x.station) same
-station_reopened left found (inr (waiting, new)) = ap (λ (x : Link). x.station) new
+pub station_reopened : (left found : Link) → ReopensAt left found → found.machine ≡ left.machine
+station_reopened left found (inl same) = ap (λ (x : Link). x.machine) same
+station_reopened left found (inr (waiting, new)) = ap (λ (x : Link). x.machine) new
 
 pub between_reopened : (program : Program) (tape : PlanValue) (v : ℕ) (before : List ℕ) (left found : Link) → ReopensAt left found → Between program tape v before left → Between program tape v before found
 between_reopened program tape v before left found reopens b =
     let same = station_reopened left found reopens in record {
-      stand = subst (λ s. FirstStand tape.words v s.machine.memory) (sym same) b.stand;
-      kept = subst (λ s. KeepsOutside before tape.image s.machine.memory) (sym same) b.kept;
+      stand = subst (λ s. FirstStand tape.words v s.odt.memory) (sym same) b.stand;
+      kept = subst (λ s. KeepsOutside before tape.image s.odt.memory) (sym same) b.kept;
       line = unsettled_reopened program (IsLater tape v) left found reopens b.line;
     }

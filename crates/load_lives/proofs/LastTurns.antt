@@ -19,7 +19,8 @@ use Rattle.host_devices.specs.declared.item.Item.{Item}
 use Rattle.host_devices.specs.declared.item.Item.TheVariants.{Sent, Heard as Came}
 use Rattle.host_devices.specs.Dialogue.{said, dialogue}
 use Rattle.honest_line.specs.Moves.{Moves, MovesOn, Gives, Passes}
-use Rattle.honest_line.proofs.Wires.{one_first, moves_carried, later, later_carries, passes_then}
+use Rattle.honest_line.proofs.Passings.{later}
+use Rattle.honest_line.proofs.Wires.{one_first, moves_carried, later_carries, passes_then}
 
 -- ---- where a dialogue was broken off
 

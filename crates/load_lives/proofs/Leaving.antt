@@ -64,7 +64,7 @@ stopped_or P true h k = h refl
 stopped_or P false h k = k refl
 
 key_left : (program : Program) (R : ℕ → Type 0) (core : Core) (m : Machine) (stub : Option Stub) (c : ℕ) (rest up : List ℕ) (lost own : ℕ) → IsKept (scene m core (c ∷ rest) up lost) → stub ≡ begins program false m.memory m.mode → (is_running m.mode ≡ true → c ∷ rest ≡ []) →
-    StartsWithin program R core → StoresWithin R core m → IsLastKey program R (record { station = record { machine = m; stub = stub }; down = c ∷ rest; up = up; lost = own })
+    StartsWithin program R core → StoresWithin R core m → IsLastKey program R (record { machine = record { odt = m; stub = stub }; down = c ∷ rest; up = up; lost = own })
 key_left program R core m stub c rest up lost own k is quiet starts stores = stopped_or _ (is_running m.mode)
     (λ runs. absurd (no_first (c ∷ rest) rest c (quiet runs) refl))
     (λ stopped.
@@ -83,15 +83,15 @@ key_left program R core m stub c rest up lost own k is quiet starts stores = sto
     })
 
 left_by : (program : Program) (R : ℕ → Type 0) (core : Core) (m : Machine) (stub : Option Stub) (down up : List ℕ) (lost own : ℕ) → IsKept (scene m core down up lost) → stub ≡ begins program false m.memory m.mode → (is_running m.mode ≡ true → down ≡ []) →
-    StartsWithin program R core → StoresWithin R core m → Each IsForStub down ⊎ IsLastKey program R (record { station = record { machine = m; stub = stub }; down = down; up = up; lost = own })
+    StartsWithin program R core → StoresWithin R core m → Each IsForStub down ⊎ IsLastKey program R (record { machine = record { odt = m; stub = stub }; down = down; up = up; lost = own })
 left_by program R core m stub [] up lost own k is quiet starts stores = inl tt
 left_by program R core m stub (c ∷ rest) up lost own k is quiet starts stores = inr (key_left program R core m stub c rest up lost own k is quiet starts stores)
 
-pub in_order_unsettled : (program : Program) (R : ℕ → Type 0) (core : Core) (y : Link) → IsInOrder program core y → StartsWithin program R core → StoresWithin R core y.station.machine → IsUnsettled program R y
+pub in_order_unsettled : (program : Program) (R : ℕ → Type 0) (core : Core) (y : Link) → IsInOrder program core y → StartsWithin program R core → StoresWithin R core y.machine.odt → IsUnsettled program R y
 in_order_unsettled program R core y o starts stores = record {
   console = o.kept.machine;
-  stub = subst (MayFill R y.station.machine.mode) (sym o.just.stub)
-      (fills program R y.station.machine.memory y.station.machine.mode (start_of core) core.going o.kept.running o.from_start
-      (λ set. starts y.station.machine.memory set (all_stand y.station.machine core y.down y.up o.lost o.kept set)));
-  down = left_by program R core y.station.machine y.station.stub y.down y.up o.lost y.lost o.kept o.just.stub o.just.quiet starts stores;
+  stub = subst (MayFill R y.machine.odt.mode) (sym o.just.stub)
+      (fills program R y.machine.odt.memory y.machine.odt.mode (start_of core) core.going o.kept.running o.from_start
+      (λ set. starts y.machine.odt.memory set (all_stand y.machine.odt core y.down y.up o.lost o.kept set)));
+  down = left_by program R core y.machine.odt y.machine.stub y.down y.up o.lost y.lost o.kept o.just.stub o.just.quiet starts stores;
 }

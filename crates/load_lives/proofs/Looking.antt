@@ -28,20 +28,25 @@ use Rattle.reading_core.specs.Reader.{Reader, begun}
 use Rattle.reading_core.specs.ReadingTable.{ReaderStep, ask, taken, turn_of, values_after}
 use Rattle.reading_core.proofs.Lives.{asked}
 use Rattle.looking_law.specs.Belief.{dialogue}
-use Rattle.looking_law.specs.Inquiry.{over}
+use Rattle.line_world.specs.Scene.{over}
 use Rattle.looking_law.specs.Trying.{IsToldOf}
 use Rattle.looking_law.proofs.Believed.{run_mirrored, stopped_with}
-use Rattle.looking_law.proofs.Events.{dialogue_leads, gives_lead}
+use Rattle.looking_law.specs.Inquiry.{reading}
+use Rattle.looking_law.proofs.Events.{dialogue_leads}
+use Rattle.honest_line.proofs.Leading.{gives_lead}
 use Rattle.looking_law.proofs.Loading.{HearsRight, ReadsWord, begun_for, core_for, move_is, phase_for}
 use Rattle.looking_law.proofs.Mirrors.{IsMirrored, mirrored_event}
 use Rattle.looking_law.proofs.Saying.{is_plan, plan_for, words_for}
-use Rattle.exchange_law.specs.Line.{Gives, Link, MovesTimes, Passes, sent as sent_on}
+use Rattle.line_world.specs.Wire.{sent as sent_on}
+use Rattle.honest_line.specs.Moves.{Gives}
+use Rattle.exchange_law.specs.Line.{Link, Moves, MovesTimes, Passes}
 use Rattle.exchange_law.specs.Station.{Each, Program, Stub, begins}
 use Rattle.exchange_law.specs.Unsettled.{IsForStub, IsLastKey, IsUnsettled, MayFill, Untouched}
-use Rattle.exchange_law.proofs.Links.{later, passes_unsent}
+use Rattle.honest_line.proofs.Passings.{later, passing_said}
+use Rattle.exchange_law.proofs.Links.{passes_unsent}
 use Rattle.exchange_law.proofs.Passing.{losses_aside}
 use Rattle.exchange_law.specs.Mirror.{IsJustAMachine, wire_at}
-use Rattle.exchange_law.proofs.Mirrors.{gives_just, gives_mirrored, none_begun, passes_said, times_mirrored}
+use Rattle.exchange_law.proofs.Mirrors.{gives_just, gives_mirrored, none_begun, times_mirrored}
 use Rattle.exchange_law.proofs.Recovering.{Next', Settled, Waiting, Waits, heard_waiting, waiting_at_first, waiting_times}
 use Rattle.exchange_law.proofs.Resettling.{untouched_same}
 
@@ -140,11 +145,11 @@ answered before addresses patience spent count w are k = record {
   holds = λ i low. absurd (omega (arith, low));
 }
 
-at_machine : (program : Program) (R : ℕ → Type 0) (before : List ℕ) (paid : ℕ) (r : Reader) (x : Link) → AreAddresses r.addresses → r.values ≡ [] → Settled program R before paid (core_for before r) x → AtMachine program x.station.machine.memory r x
+at_machine : (program : Program) (R : ℕ → Type 0) (before : List ℕ) (paid : ℕ) (r : Reader) (x : Link) → AreAddresses r.addresses → r.values ≡ [] → Settled program R before paid (core_for before r) x → AtMachine program x.machine.odt.memory r x
 at_machine program R before paid r x are none s =
     let is : r ≡ syncing r.addresses r.patience r.spent r.sent = same_reader r none (sync_is r.phase s.sync) in record {
       lost = r.spent;
-      mirror = subst (λ one. IsMirrored x.station.machine.memory (over one (wire_at x r.spent))) (sym is)
+      mirror = subst (λ one. IsMirrored x.machine.odt.memory (over one (wire_at x r.spent))) (sym is)
           (answered before r.addresses r.patience r.spent r.sent (wire_at x r.spent) are (subst (λ one. IsKept (load_over (core_for before one) (wire_at x r.spent))) is s.kept));
       just = s.just;
     }
@@ -166,10 +171,10 @@ heard_there : (program : Program) (memory : List ℕ) (r : Reader) (what : Heard
 heard_there program memory r what x v a gives =
     let keys : List ℕ = option_to_list (ask r what).key in
     let next : IsMirrored memory (over (ask r what).next (sent (wire_at v a.lost) keys)) =
-    run_mirrored memory (over r (wire_at x a.lost)) (over (ask r what).next (sent (wire_at v a.lost) keys)) keys a.mirror (gives_lead r what (wire_at x a.lost) (wire_at v a.lost) (gives_mirrored what x v a.lost gives)) in record {
+    run_mirrored memory (over r (wire_at x a.lost)) (over (ask r what).next (sent (wire_at v a.lost) keys)) keys a.mirror (gives_lead reading r what (wire_at x a.lost) (wire_at v a.lost) (gives_mirrored what x v a.lost gives)) in record {
       lost = a.lost;
       mirror = next;
-      just = record { stub = (gives_just program what x v gives a.just).stub; quiet = λ runs. absurd (not_both (is_running v.station.machine.mode) runs (stopped_with v.station.machine.mode next.kept.running)) };
+      just = record { stub = (gives_just program what x v gives a.just).stub; quiet = λ runs. absurd (not_both (is_running v.machine.odt.mode) runs (stopped_with v.machine.odt.mode next.kept.running)) };
     }
 
 all_there : (program : Program) (memory : List ℕ) (things : List Heard) (r : Reader) (x y : Link) → AtMachine program memory r x → Passes program x (dialogue r things) y → AtMachine program memory (led r things) y
@@ -178,12 +183,12 @@ all_there program memory (what ∷ things) r x y a (z, v, moved, gives, passes) 
     let key : Option ℕ = (ask r what).key in
     let next : Reader = (ask r what).next in
     all_there program memory things next (sent_on v (option_to_list key)) y (heard_there program memory r what z v (still_there program memory r moved.0 x z a moved.1) gives)
-    (passes_said program key (dialogue next things) v y passes)
+    (passing_said (Moves program) key (dialogue next things) v y passes)
 
 -- ---- what it leaves
 
 key_left : (program : Program) (R : ℕ → Type 0) (memory : List ℕ) (r : Reader) (m : Machine) (stub : Option Stub) (c : ℕ) (rest up : List ℕ) (lost own : ℕ) → IsMirrored memory (over r (record { machine = m; down = c ∷ rest; up = up; lost = lost })) → stub ≡ None →
-    IsLastKey program R (record { station = record { machine = m; stub = stub }; down = c ∷ rest; up = up; lost = own })
+    IsLastKey program R (record { machine = record { odt = m; stub = stub }; down = c ∷ rest; up = up; lost = own })
 key_left program R memory r m stub c rest up lost own k none =
     let one : rest ≡ [] = k.kept.one_way.0 in
     let stopped : is_running m.mode ≡ false = stopped_with m.mode k.kept.running in
@@ -200,17 +205,17 @@ key_left program R memory r m stub c rest up lost own k none =
     }
 
 down_left : (program : Program) (R : ℕ → Type 0) (memory : List ℕ) (r : Reader) (m : Machine) (stub : Option Stub) (down up : List ℕ) (lost own : ℕ) → IsMirrored memory (over r (record { machine = m; down = down; up = up; lost = lost })) → stub ≡ None →
-    Each IsForStub down ⊎ IsLastKey program R (record { station = record { machine = m; stub = stub }; down = down; up = up; lost = own })
+    Each IsForStub down ⊎ IsLastKey program R (record { machine = record { odt = m; stub = stub }; down = down; up = up; lost = own })
 down_left program R memory r m stub [] up lost own k none = inl tt
 down_left program R memory r m stub (c ∷ rest) up lost own k none = inr (key_left program R memory r m stub c rest up lost own k none)
 
 machine_left : (program : Program) (R : ℕ → Type 0) (memory : List ℕ) (r : Reader) (y : Link) → AtMachine program memory r y → IsUnsettled program R y
 machine_left program R memory r y a =
-    let stopped : is_running y.station.machine.mode ≡ false = stopped_with y.station.machine.mode a.mirror.kept.running in
-    let none : y.station.stub ≡ None = a.just.stub ∙ none_begun program y.station.machine.memory y.station.machine.mode stopped in record {
+    let stopped : is_running y.machine.odt.mode ≡ false = stopped_with y.machine.odt.mode a.mirror.kept.running in
+    let none : y.machine.stub ≡ None = a.just.stub ∙ none_begun program y.machine.odt.memory y.machine.odt.mode stopped in record {
       console = a.mirror.kept.machine;
-      stub = subst (MayFill R y.station.machine.mode) (sym none) stopped;
-      down = down_left program R memory r y.station.machine y.station.stub y.down y.up a.lost y.lost a.mirror none;
+      stub = subst (MayFill R y.machine.odt.mode) (sym none) stopped;
+      down = down_left program R memory r y.machine.odt y.machine.stub y.down y.up a.lost y.lost a.mirror none;
     }
 
 -- ---- all of it
@@ -218,7 +223,7 @@ machine_left program R memory r y a =
 -- what looks leave: a line on which only such bytes may still change, of which a stub may have changed some
 pub record IsLeft (program : Program) (R : ℕ → Type 0) (before : List ℕ) (y : Link) : Type 0 where
   pub line : IsUnsettled program R y
-  pub untouched : Untouched R before y.station.machine.memory
+  pub untouched : Untouched R before y.machine.odt.memory
 
 came : (program : Program) (R : ℕ → Type 0) (before : List ℕ) (paid : ℕ) (things : List Heard) (r : Reader) (x y : Link) → AreAddresses r.addresses → r.values ≡ [] → Waiting program R before paid (core_for before r) x → Passes program x (dialogue r things) y → IsLeft program R before y
 came program R before paid [] r x y are none w moves =
@@ -228,23 +233,23 @@ came program R before paid (what ∷ things) r x y are none w (z, v, moved, give
     let key : Option ℕ = (ask r what).key in
     let next : Reader = (ask r what).next in
     let here : Link = sent_on v (option_to_list key) in
-    let rest : Passes program here (dialogue next things) y = passes_said program key (dialogue next things) v y passes in
+    let rest : Passes program here (dialogue next things) y = passing_said (Moves program) key (dialogue next things) v y passes in
     let asks : AreAddresses next.addresses = subst AreAddresses (sym (asked r what).addresses) are in
     elim (heard_look program R before paid r what z v there gives) [
       | inl waits ↦ came program R before paid things next here y asks (still_none r what next.patience paid next.spent next.sent here none (inl waits.stands)) waits rest
       | inr settled ↦
-          let a : AtMachine program here.station.machine.memory next here = at_machine program R before paid next here asks (still_none r what next.patience paid next.spent next.sent here none (inr settled.sync)) settled in
-          let end : AtMachine program here.station.machine.memory (led next things) y = all_there program here.station.machine.memory things next here y a rest in record {
-            line = machine_left program R here.station.machine.memory (led next things) y end;
+          let a : AtMachine program here.machine.odt.memory next here = at_machine program R before paid next here asks (still_none r what next.patience paid next.spent next.sent here none (inr settled.sync)) settled in
+          let end : AtMachine program here.machine.odt.memory (led next things) y = all_there program here.machine.odt.memory things next here y a rest in record {
+            line = machine_left program R here.machine.odt.memory (led next things) y end;
             untouched = subst (Untouched R before) (sym end.mirror.same) settled.untouched;
           }
     ]
 
 -- a host that begins to look there leaves it so, also where its last key was not sent
 pub looks_leave : (program : Program) (R : ℕ → Type 0) (addresses : List ℕ) (patience : ℕ) (things : List Heard) (looks : List Item) (x y : Link) → AreAddresses addresses → patience < 2 ^ 32 → IsToldOf (dialogue (begun addresses [] patience) things) looks → IsUnsettled program R x → Passes program x looks y →
-    IsLeft program R x.station.machine.memory y
+    IsLeft program R x.machine.odt.memory y
 looks_leave program R addresses patience things looks x y are long told line passes =
-    let memory : List ℕ = x.station.machine.memory in
+    let memory : List ℕ = x.machine.odt.memory in
     let plan : IsPlan (plan_for memory addresses) = is_plan memory addresses line.console.wide are in
     let host : IsHost (load_begun (plan_for memory addresses) 0 false patience) = begun_kept (plan_for memory addresses) 0 false patience plan (omega arith) long (λ set. absurd (cc set)) in
     let waits : Waiting program R memory x.lost (core_for memory (begun addresses [] patience)) x =
@@ -252,9 +257,9 @@ looks_leave program R addresses patience things looks x y are long told line pas
     (waiting_at_first program R (plan_for memory addresses) 0 patience x host (record { others = λ i below. absurd (omega (arith, below)); first = record { lies = λ i below. absurd (omega (arith, below)); stands = λ i below. absurd (omega (arith, below)) } }) line) in
     by waits told
   where
-    by : Waiting program R x.station.machine.memory x.lost (core_for x.station.machine.memory (begun addresses [] patience)) x → IsToldOf (dialogue (begun addresses [] patience) things) looks → IsLeft program R x.station.machine.memory y
-    by waits (inl whole) = came program R x.station.machine.memory x.lost things (begun addresses [] patience) x y are refl waits (subst (λ items. Passes program x items y) whole passes)
+    by : Waiting program R x.machine.odt.memory x.lost (core_for x.machine.odt.memory (begun addresses [] patience)) x → IsToldOf (dialogue (begun addresses [] patience) things) looks → IsLeft program R x.machine.odt.memory y
+    by waits (inl whole) = came program R x.machine.odt.memory x.lost things (begun addresses [] patience) x y are refl waits (subst (λ items. Passes program x items y) whole passes)
     by waits (inr (key, lacks)) =
-        let l : IsLeft program R x.station.machine.memory (later 1 y) =
-        came program R x.station.machine.memory x.lost things (begun addresses [] patience) x (later 1 y) are refl waits (subst (λ items. Passes program x items (later 1 y)) (sym lacks) (passes_unsent program (key ∷ []) looks x y passes)) in
+        let l : IsLeft program R x.machine.odt.memory (later 1 y) =
+        came program R x.machine.odt.memory x.lost things (begun addresses [] patience) x (later 1 y) are refl waits (subst (λ items. Passes program x items (later 1 y)) (sym lacks) (passes_unsent program (key ∷ []) looks x y passes)) in
         record { line = losses_aside program R y (1 + y.lost) l.line; untouched = l.untouched }

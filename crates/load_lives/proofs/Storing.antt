@@ -43,7 +43,7 @@ untouched_weaker R S f before now u = record { size = u.size; bytes = λ b none.
 pub unsettled_weaker : (program : Program) (R S : ℕ → Type 0) → ((b : ℕ) → R b → S b) → (x : Link) → IsUnsettled program R x → IsUnsettled program S x
 unsettled_weaker program R S f x u = record {
   console = u.console;
-  stub = fill_weaker R S f x.station.machine.mode x.station.stub u.stub;
+  stub = fill_weaker R S f x.machine.odt.mode x.machine.stub u.stub;
   down = elim u.down [
     | inl for ↦ inl for
     | inr k ↦ inr (record { key = k.key; down = k.down; none = k.none; untouched = untouched_weaker R S f _ _ k.untouched; console = k.console; stub = fill_weaker R S f _ _ k.stub })

@@ -18,6 +18,6 @@ pub record KeepsOutside (before : List ℕ) (image : Image) (now : List ℕ) : T
 -- so many of the tape's words count as verified: these stand; outside the image memory is what it was before all these hosts; and only bytes of the
 -- image's other words may still change
 pub record Between (program : Program) (tape : PlanValue) (verified : ℕ) (before : List ℕ) (x : Link) : Type 0 where
-  pub stand : FirstStand tape.words verified x.station.machine.memory
-  pub kept : KeepsOutside before tape.image x.station.machine.memory
+  pub stand : FirstStand tape.words verified x.machine.odt.memory
+  pub kept : KeepsOutside before tape.image x.machine.odt.memory
   pub line : IsUnsettled program (IsLater tape verified) x

@@ -65,7 +65,7 @@ pub record StopsBehindStubs (tape : PlanValue) (life : FastLife) : Type 0 where
 -- a life finds the line as it was left, or a new one to the same station, with no key under way. Its losses are counted from there
 abbrev pub ReopensAt : Link → Link → Type 0
 ReopensAt left found =
-    (found ≡ record left { lost = 0 }) ⊎ ((waiting : List ℕ) × (found ≡ record { station = left.station; down = []; up = waiting; lost = 0 }))
+    (found ≡ record left { lost = 0 }) ⊎ ((waiting : List ℕ) × (found ≡ record { machine = left.machine; down = []; up = waiting; lost = 0 }))
 
 -- what was said passed over the line that a life found, from how it was left to how the life leaves it
 pub record PassesAt (program : Program) (left : Link) (items : List Item) (left' : Link) : Type 0 where
@@ -108,40 +108,40 @@ typed (life ∷ earlier) = typed earlier ++ keys_of life.rest
 
 -- the first life may begin here: ODT listens, no program runs and no key is under way, and what the record says, which has no mark, is true of memory
 pub record MayOpenAt (tape : PlanValue) (old : LinkAndRecord) : Type 0 where
-  pub console : IsMachine old.link.station.machine
-  pub stopped : is_running old.link.station.machine.mode ≡ false
-  pub no_stub : old.link.station.stub ≡ None
+  pub console : IsMachine old.link.machine.odt
+  pub stopped : is_running old.link.machine.odt.mode ≡ false
+  pub no_stub : old.link.machine.stub ≡ None
   pub none_down : old.link.down ≡ []
   pub progress : Progress
   pub says : Says tape old.text (Ok progress)
   pub no_mark : progress.going ≡ false
-  pub stand : FirstStand tape.words progress.verified old.link.station.machine.memory
+  pub stand : FirstStand tape.words progress.verified old.link.machine.odt.memory
 
 -- of the latest life, where there was one: its host's mishaps, and its end, have their losses, but for one mishap, the halt of a stub that it found running
 abbrev pub IsLatestPaid : PlanValue → List FastLife → Link → Type 0
 IsLatestPaid tape [] now = ⊤
-IsLatestPaid tape (life ∷ earlier) now = IsPaid (last_core tape life) now.station.machine.memory (length life.unsent + now.lost + 1)
+IsLatestPaid tape (life ∷ earlier) now = IsPaid (last_core tape life) now.machine.odt.memory (length life.unsent + now.lost + 1)
 
 -- what came of lives that sent these keys behind their stubs; `before` is memory before the first
 pub record AreFastTrusted (program : Program) (tape : PlanValue) (before keys : List ℕ) (now : LinkAndRecord) : Type 0 where
   -- the record that is left says a progress, which is true of memory
   pub progress : Progress
   pub says : Says tape now.text (Ok progress)
-  pub stand : FirstStand tape.words progress.verified now.link.station.machine.memory
+  pub stand : FirstStand tape.words progress.verified now.link.machine.odt.memory
   -- outside the image memory is what it was
-  pub kept : KeepsOutside before tape.image now.link.station.machine.memory
+  pub kept : KeepsOutside before tape.image now.link.machine.odt.memory
   -- the program's `G`, if it was sent, was the last key of all, and then the record has the mark
   pub last : EndsAtGo keys
   pub marked : Contains keys go → progress.going ≡ true
   -- with the mark memory is the earlier one with the whole image laid over it
-  pub loaded : progress.going ≡ true → IsLoaded before tape now.link.station.machine.memory
+  pub loaded : progress.going ≡ true → IsLoaded before tape now.link.machine.odt.memory
   -- without it only bytes of words that do not count as verified may still change, by a stub
   pub unsettled : progress.going ≡ false → IsUnsettled program (IsLater tape progress.verified) now.link
   -- no program runs but a stub, or by that `G`
-  pub by_go : now.link.station.stub ≡ None → RunsByGo now.link.station.machine keys
+  pub by_go : now.link.machine.stub ≡ None → RunsByGo now.link.machine.odt keys
 
 -- lives may be trusted, however many they are and wherever each was stopped, with stubs or without: which stub stands at an address is read out of memory
 abbrev pub FastLivesAreTrusted : Type 0
 FastLivesAreTrusted =
     (tape : PlanValue) (old new : LinkAndRecord) (lives : List FastLife) → IsPlan tape → MayOpenAt tape old → AreFastLives stub_program tape old lives new →
-    AreFastTrusted stub_program tape old.link.station.machine.memory (typed lives) new × IsLatestPaid tape lives new.link
+    AreFastTrusted stub_program tape old.link.machine.odt.memory (typed lives) new × IsLatestPaid tape lives new.link

@@ -45,18 +45,18 @@ pub record IsFastLoad (program : Program) (tape : PlanValue) (before : List ℕ)
 
 -- what came of the host behind the stubs, which became a core and decided to send these keys
 pub record IsLoadedOn (program : Program) (tape : PlanValue) (before : List ℕ) (core : Core) (keys : List ℕ) (lost : ℕ) (y : Link) : Type 0 where
-  pub stand : FirstStand tape.words core.verified y.station.machine.memory
-  pub kept : KeepsOutside before tape.image y.station.machine.memory
+  pub stand : FirstStand tape.words core.verified y.machine.odt.memory
+  pub kept : KeepsOutside before tape.image y.machine.odt.memory
   -- `G` is the last of its keys if it is one of them, and exactly then the mark is set
   pub last : EndsAtGo keys
   pub marked : Contains keys go → core.going ≡ true
   pub typed : core.going ≡ true → Contains keys go
   -- with the mark memory is the earlier one with the whole image laid over it, and the host is in order at a machine
-  pub loaded : core.going ≡ true → IsLoaded before tape y.station.machine.memory
+  pub loaded : core.going ≡ true → IsLoaded before tape y.machine.odt.memory
   pub in_order : core.going ≡ true → IsInOrder program core y
   -- without it any host may go on behind the words that this one verified, or fewer
   pub next : core.going ≡ false → (fewer : ℕ) → fewer ≤ core.verified → Between program tape fewer before y
-  pub paid : IsPaid core y.station.machine.memory (lost + 1)
+  pub paid : IsPaid core y.machine.odt.memory (lost + 1)
 
 -- a load that brings in stubs may be trusted as every load, wherever it stops
 abbrev pub FastLoadsAreTrusted : Type 0

@@ -44,7 +44,7 @@ typed (l ∷ earlier) = typed earlier ++ (keys_of l.looks ++ keys_of l.life.rest
 abbrev pub IsLatestPaid : PlanValue → List FastLookingLife → Link → Type 0
 IsLatestPaid tape [] now = ⊤
 IsLatestPaid tape (l ∷ earlier) now =
-    (lost : ℕ) × (lost ≤ now.lost) × IsPaid (last_core tape l.life) now.station.machine.memory (length l.life.unsent + lost + 1)
+    (lost : ℕ) × (lost ≤ now.lost) × IsPaid (last_core tape l.life) now.machine.odt.memory (length l.life.unsent + lost + 1)
 
 -- lives in a row may be trusted, with stubs or without, also where each looks first, and a stub may still be at work then: the program's `G`, if it was
 -- sent, was the last of these keys, behind every look
@@ -52,4 +52,4 @@ abbrev pub FastLivesMayLookFirst : Type 0
 FastLivesMayLookFirst =
     (tape : PlanValue) (old new : LinkAndRecord) (lives : List FastLookingLife) →
     IsPlan tape → MayOpenAt tape old → AreFastLookingLives stub_program tape old lives new →
-    AreFastTrusted stub_program tape old.link.station.machine.memory (typed lives) new × IsLatestPaid tape lives new.link
+    AreFastTrusted stub_program tape old.link.machine.odt.memory (typed lives) new × IsLatestPaid tape lives new.link

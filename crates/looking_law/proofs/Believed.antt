@@ -18,7 +18,8 @@ use Rattle.reading_core.specs.Reader.{Reader}
 use Rattle.reading_core.specs.Invariant.{IsReader}
 use Rattle.reading_core.specs.Laws.{led, replay}
 use Rattle.reading_core.specs.ReadingTable.{ask}
-use Rattle.looking_law.specs.Inquiry.{Inquiry, over}
+use Rattle.line_world.specs.Scene.{over}
+use Rattle.looking_law.specs.Inquiry.{Inquiry}
 use Rattle.looking_law.specs.Harmless.{HoldsRead, HasCause, IsHarmless, OnlyLook}
 use Rattle.looking_law.specs.Belief.{dialogue, MayLook, IsReadyMachine, IsTrueReading, HonestReadingsAreTrue, ReadingsLeaveItReady, UnsaidReadingsAreTrue}
 use Rattle.looking_law.proofs.Harmless.{mirrored_events, harmless}
@@ -38,15 +39,15 @@ begin_mirrored r machine waiting is may few =
 pub run_mirrored : (memory : List ℕ) (w next : Inquiry) (typing : List ℕ) → IsMirrored memory w → Leads w typing next → IsMirrored memory next
 run_mirrored memory w next typing k run = subst (IsMirrored memory) run.world (mirrored_events memory w run.events k)
 
-run_true : (memory : List ℕ) (w next : Inquiry) (typing : List ℕ) → IsMirrored memory w → Leads w typing next → IsTrueReading memory next.reader next.machine.memory typing next.lost
+run_true : (memory : List ℕ) (w next : Inquiry) (typing : List ℕ) → IsMirrored memory w → Leads w typing next → IsTrueReading memory next.core next.machine.memory typing next.lost
 run_true memory w next typing k run =
     let fine : IsHarmless memory next = harmless memory next (run_mirrored memory w next typing k run) in
     record {
       same = fine.same;
-      read = subst (λ m. HoldsRead m next.reader) (sym fine.same) fine.read;
+      read = subst (λ m. HoldsRead m next.core) (sym fine.same) fine.read;
       looks = subst (OnlyLook false) run.keys_are (events_look false w run.events (λ e. absurd (cc e)));
       spent = fine.spent;
-      cause = subst (λ m. HasCause next.reader.phase m next.reader.patience next.lost) (sym fine.same) fine.cause;
+      cause = subst (λ m. HasCause next.core.phase m next.core.patience next.lost) (sym fine.same) fine.cause;
     }
 
 -- ---- the keys of a dialogue

@@ -22,8 +22,8 @@ pub mirrored_events : (memory : List ℕ) (w : Inquiry) (events : List Event) �
 mirrored_events memory w [] k = k
 mirrored_events memory w (event ∷ events) k = mirrored_events memory (happens w event) events (mirrored_event memory w event k)
 
-cause_of : (memory : List ℕ) (w : Inquiry) (phase : Phase) → w.machine.memory ≡ memory → InPhase (phase_for phase) (ground (as_load memory w)) (site (as_load memory w)) w.down w.up w.reader.patience w.reader.spent w.lost →
-    HasCause phase memory w.reader.patience w.lost
+cause_of : (memory : List ℕ) (w : Inquiry) (phase : Phase) → w.machine.memory ≡ memory → InPhase (phase_for phase) (ground (as_load memory w)) (site (as_load memory w)) w.down w.up w.core.patience w.core.spent w.lost →
+    HasCause phase memory w.core.patience w.lost
 cause_of memory w (Ended Complete) same h = tt
 cause_of memory w (Ended GaveUp) same h = h.1
 cause_of memory w (Ended (NoWord a)) same h = subst (λ m. top_of m ≤ a) same h.1
@@ -40,12 +40,12 @@ harmless memory w k = record {
   same = k.same;
   read = record {
     lies = λ i low.
-        let within : i < length w.reader.addresses = omega (arith, low, k.kept.host.within, length_for memory w.reader.addresses) in
-        ap (λ (x : WordValue). is_word memory x.address) (sym (nr_for memory w.reader.addresses i within)) ∙ subst (λ m. is_word m (word_nr (words_for memory w.reader.addresses) i).address ≡ true) k.same (k.kept.words i low).0;
+        let within : i < length w.core.addresses = omega (arith, low, k.kept.host.within, length_for memory w.core.addresses) in
+        ap (λ (x : WordValue). is_word memory x.address) (sym (nr_for memory w.core.addresses i within)) ∙ subst (λ m. is_word m (word_nr (words_for memory w.core.addresses) i).address ≡ true) k.same (k.kept.words i low).0;
     holds = k.holds;
   };
   spent = k.kept.spent;
-  cause = cause_of memory w w.reader.phase k.same k.kept.phase;
+  cause = cause_of memory w w.core.phase k.same k.kept.phase;
 }
 
 none_read : (memory addresses : List ℕ) (patience : ℕ) → HoldsRead memory (begun addresses [] patience)

@@ -19,7 +19,9 @@ use Rattle.reading_core.specs.declared.turn.Turn.TheVariants.{Listen, Key, Read,
 use Rattle.reading_core.specs.Laws.{replay}
 use Rattle.reading_core.specs.Reader.{Reader, address_under_way, restarted}
 use Rattle.reading_core.specs.ReadingTable.{ask, taken, turn_of, hears, waits, sends, listens, synced, addressed, reads, closed}
-use Rattle.looking_law.specs.Inquiry.{Inquiry, wire_of, over, takes, host_hears as world_hears, times_out, happens, typed_hearing, typed_timeout, typed_in, typed}
+use Rattle.line_world.specs.Scene.{wire_of, over}
+use Rattle.line_world.specs.Happening.{takes, host_hears as world_hears, times_out, typed_hearing, typed_timeout}
+use Rattle.looking_law.specs.Inquiry.{Inquiry, happens, typed_in, typed, reading}
 use Rattle.looking_law.specs.Harmless.{IsLooking, OnlyLook}
 
 -- a phase that may follow right after `/` was typed
@@ -147,22 +149,22 @@ looks_then slash (Some key) phase keys h more = (h.0, more (key == 47) h.1)
 
 -- what events may do: the keys that are typed look, and so do all keys that look from the host's phase on
 abbrev LooksStep : Bool → Inquiry → List ℕ → Type 0
-LooksStep slash next keys = (more : List ℕ) → ((s : Bool) → Agrees s next.reader.phase → OnlyLook s more) → OnlyLook slash (keys ++ more)
+LooksStep slash next keys = (more : List ℕ) → ((s : Bool) → Agrees s next.core.phase → OnlyLook s more) → OnlyLook slash (keys ++ more)
 
-hearing_looks : (slash : Bool) (w : Inquiry) (up : List ℕ) → Agrees slash w.reader.phase → LooksStep slash (unwrap_or (world_hears w up) w) (typed_hearing w up)
+hearing_looks : (slash : Bool) (w : Inquiry) (up : List ℕ) → Agrees slash w.core.phase → LooksStep slash (unwrap_or (world_hears reading w up) w) (typed_hearing reading w up)
 hearing_looks slash w [] a = λ more rest. rest slash a
-hearing_looks slash w (c ∷ up) a = λ more rest. looks_then slash (ask w.reader (Got c)).key (ask w.reader (Got c)).next.phase more (ask_looks slash w.reader (Got c) a) rest
+hearing_looks slash w (c ∷ up) a = λ more rest. looks_then slash (ask w.core (Got c)).key (ask w.core (Got c)).next.phase more (ask_looks slash w.core (Got c) a) rest
 
-silence_looks : (slash : Bool) (w : Inquiry) (down up : List ℕ) → Agrees slash w.reader.phase → LooksStep slash (unwrap_or (times_out w down up) w) (typed_timeout w down up)
-silence_looks slash w [] [] a = λ more rest. looks_then slash (ask w.reader Silence).key (ask w.reader Silence).next.phase more (ask_looks slash w.reader Silence a) rest
+silence_looks : (slash : Bool) (w : Inquiry) (down up : List ℕ) → Agrees slash w.core.phase → LooksStep slash (unwrap_or (times_out reading w down up) w) (typed_timeout reading w down up)
+silence_looks slash w [] [] a = λ more rest. looks_then slash (ask w.core Silence).key (ask w.core Silence).next.phase more (ask_looks slash w.core Silence a) rest
 silence_looks slash w (c ∷ down) up a = λ more rest. rest slash a
 silence_looks slash w [] (c ∷ up) a = λ more rest. rest slash a
 
-taking_looks : (slash : Bool) (w : Inquiry) (down : List ℕ) → Agrees slash w.reader.phase → LooksStep slash (unwrap_or (takes w down) w) []
+taking_looks : (slash : Bool) (w : Inquiry) (down : List ℕ) → Agrees slash w.core.phase → LooksStep slash (unwrap_or (takes w down) w) []
 taking_looks slash w [] a = λ more rest. rest slash a
 taking_looks slash w (c ∷ down) a = λ more rest. rest slash a
 
-losing_looks : (slash : Bool) (w next : Inquiry) (test : Bool) → Agrees slash w.reader.phase → Agrees slash next.reader.phase → LooksStep slash (unwrap_or (if test then Some next else None) w) []
+losing_looks : (slash : Bool) (w next : Inquiry) (test : Bool) → Agrees slash w.core.phase → Agrees slash next.core.phase → LooksStep slash (unwrap_or (if test then Some next else None) w) []
 losing_looks slash w next true a b = λ more rest. rest slash b
 losing_looks slash w next false a b = λ more rest. rest slash a
 
@@ -170,15 +172,15 @@ begun_agrees : (slash done : Bool) → Agrees slash (if done then Ended Complete
 begun_agrees slash true = λ _. tt
 begun_agrees slash false = λ _. tt
 
-event_looks : (slash : Bool) (w : Inquiry) (event : Event) → Agrees slash w.reader.phase → LooksStep slash (happens w event) (typed_in w event)
+event_looks : (slash : Bool) (w : Inquiry) (event : Event) → Agrees slash w.core.phase → LooksStep slash (happens w event) (typed_in w event)
 event_looks slash w Take a = taking_looks slash w w.down a
 event_looks slash w Hear a = hearing_looks slash w w.up a
-event_looks slash w (LoseDown k) a = losing_looks slash w (over w.reader (without_down (wire_of w) k)) (ltb k (length w.down)) a a
-event_looks slash w (LoseUp k) a = losing_looks slash w (over w.reader (without_up (wire_of w) k)) (ltb k (length w.up)) a a
+event_looks slash w (LoseDown k) a = losing_looks slash w (over w.core (without_down (wire_of w) k)) (ltb k (length w.down)) a a
+event_looks slash w (LoseUp k) a = losing_looks slash w (over w.core (without_up (wire_of w) k)) (ltb k (length w.up)) a a
 event_looks slash w Quiet a = silence_looks slash w w.down w.up a
-event_looks slash w (Restart kept) a = λ more rest. rest slash (begun_agrees slash (length (restarted w.reader kept).values == length w.reader.addresses))
+event_looks slash w (Restart kept) a = λ more rest. rest slash (begun_agrees slash (length (restarted w.core kept).values == length w.core.addresses))
 
-pub events_look : (slash : Bool) (w : Inquiry) (events : List Event) → Agrees slash w.reader.phase → OnlyLook slash (typed w events)
+pub events_look : (slash : Bool) (w : Inquiry) (events : List Event) → Agrees slash w.core.phase → OnlyLook slash (typed w events)
 events_look slash w [] a = tt
 events_look slash w (event ∷ events) a = event_looks slash w event a (typed (happens w event) events) (λ s agrees. events_look s (happens w event) events agrees)
 

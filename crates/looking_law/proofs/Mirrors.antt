@@ -18,7 +18,8 @@ use Rattle.line_world.specs.declared.event.Event.{Event}
 use Rattle.line_world.specs.declared.event.Event.TheVariants.{Take, Hear, LoseDown, LoseUp, Quiet, Restart}
 use Rattle.line_world.specs.Scene.{Scene, over as load_over}
 use Rattle.line_world.specs.Wire.{without_down, without_up, forgiven}
-use Rattle.line_world.specs.World.{stepped as load_stepped, takes as load_takes, host_hears as load_hears, times_out as load_times_out, happens as load_happens}
+use Rattle.line_world.specs.World.{takes as load_takes, host_hears as load_hears, times_out as load_times_out, happens as load_happens}
+use Rattle.line_world.proofs.Stepped.{stepped as load_stepped}
 use Rattle.line_world.specs.Opening.{opened as load_opened}
 use Rattle.line_world.specs.Site.{Site, site, site_of, held_number, IsThere, last_digits, ground}
 use Rattle.line_world.specs.Pending.{IsRemnant, RestFits}
@@ -35,7 +36,9 @@ use Rattle.reading_core.specs.Addresses.{AreAddresses}
 use Rattle.reading_core.specs.Reader.{Reader, address_under_way, begun, restarted}
 use Rattle.reading_core.specs.ReadingTable.{ask, turn_of, hears as hears_row, waits, values_after, synced, addressed, reads, closed}
 use Rattle.reading_core.proofs.Lives.{asked}
-use Rattle.looking_law.specs.Inquiry.{Inquiry, wire_of, over, takes, host_hears, times_out, happens, opened}
+use Rattle.line_world.specs.Scene.{wire_of, over}
+use Rattle.line_world.specs.Happening.{takes, host_hears, times_out}
+use Rattle.looking_law.specs.Inquiry.{Inquiry, happens, opened, reading}
 use Rattle.looking_law.specs.Harmless.{HoldsRead}
 use Rattle.looking_law.proofs.Saying.{plan_for, words_for, word_for, image_for, nr_for, length_for, is_plan, unchanged, merged_for}
 use Rattle.looking_law.proofs.Loading.{core_for, phase_for, move_is, HearsRight, ReadsWord, begun_for, restarted_for}
@@ -43,7 +46,7 @@ use borrow.Author.Tests.{eqb-true}
 
 -- the same world with a loading host at the end of the line
 abbrev pub as_load : List ℕ → Inquiry → Scene
-as_load memory w = record { machine = w.machine; core = core_for memory w.reader; down = w.down; up = w.up; lost = w.lost }
+as_load memory w = record { machine = w.machine; core = core_for memory w.core; down = w.down; up = w.up; lost = w.lost }
 
 -- each number that was read is what memory holds at its address
 abbrev Holds : List ℕ → Reader → Type 0
@@ -53,7 +56,7 @@ Holds memory r = (i : ℕ) → i < length r.values → get_or r.values i 0 ≡ w
 pub record IsMirrored (memory : List ℕ) (w : Inquiry) : Type 0 where
   pub same : w.machine.memory ≡ memory
   pub kept : IsKept (as_load memory w)
-  pub holds : Holds memory w.reader
+  pub holds : Holds memory w.core
 
 -- ---- a number that is about to be read is the word's
 
@@ -76,16 +79,16 @@ whole_value t v p mode new c up six fits value =
     value (last_of c up (last_digits (held_number t) (6 - p)) (ap (last_digits (held_number t)) none) fits.1) ∙ ap (head (held_number t)) six
 
 reads_word : (memory : List ℕ) (w : Inquiry) (phase : Phase) (c : ℕ) (up : List ℕ) → w.machine.memory ≡ memory →
-    PhaseFits (phase_for phase) (basis_of (core_for memory w.reader)) → InPhase (phase_for phase) (ground (as_load memory w)) (site (as_load memory w)) w.down (c ∷ up) w.reader.patience w.reader.spent w.lost →
-    ReadsWord phase c (word_nr (words_for memory w.reader.addresses) (length w.reader.values))
+    PhaseFits (phase_for phase) (basis_of (core_for memory w.core)) → InPhase (phase_for phase) (ground (as_load memory w)) (site (as_load memory w)) w.down (c ∷ up) w.core.patience w.core.spent w.lost →
+    ReadsWord phase c (word_nr (words_for memory w.core.addresses) (length w.core.values))
 reads_word memory w (Value v p) c up same fits live = λ six blank.
-    let below : length w.reader.values < length w.reader.addresses = subst (λ n. length w.reader.values < n) (length_for memory w.reader.addresses) fits.0 in
-    let word : WordValue = word_for memory (address_under_way w.reader) in
-    let is : word_nr (words_for memory w.reader.addresses) (length w.reader.values) ≡ word = nr_for memory w.reader.addresses (length w.reader.values) below in
+    let below : length w.core.values < length w.core.addresses = subst (λ n. length w.core.values < n) (length_for memory w.core.addresses) fits.0 in
+    let word : WordValue = word_for memory (address_under_way w.core) in
+    let is : word_nr (words_for memory w.core.addresses) (length w.core.values) ≡ word = nr_for memory w.core.addresses (length w.core.values) below in
     let number : v ≡ held_number (site (as_load memory w)) = whole_value (site (as_load memory w)) v p w.machine.mode _ c up (omega (arith, six, fits.1)) live.rest live.facts.2 in
     ap (λ (x : WordValue). merged x v) is
-    ∙ (merged_for memory (address_under_way w.reader) v
-    ∙ sym (number ∙ (ap (λ (x : WordValue). word_at w.machine.memory x.address) is ∙ ap (λ m. word_at m (address_under_way w.reader)) same)))
+    ∙ (merged_for memory (address_under_way w.core) v
+    ∙ sym (number ∙ (ap (λ (x : WordValue). word_at w.machine.memory x.address) is ∙ ap (λ m. word_at m (address_under_way w.core)) same)))
 reads_word memory w Settle c up same fits live = tt
 reads_word memory w (Sync p) c up same fits live = tt
 reads_word memory w (Address p) c up same fits live = tt
@@ -94,10 +97,10 @@ reads_word memory w Before c up same fits live = tt
 reads_word memory w (Close p) c up same fits live = tt
 reads_word memory w (Ended end) c up same fits live = tt
 
-hears_right : (memory : List ℕ) (w : Inquiry) (c : ℕ) (up : List ℕ) → w.up ≡ c ∷ up → IsMirrored memory w → HearsRight memory w.reader (Got c)
+hears_right : (memory : List ℕ) (w : Inquiry) (c : ℕ) (up : List ℕ) → w.up ≡ c ∷ up → IsMirrored memory w → HearsRight memory w.core (Got c)
 hears_right memory w c up is k =
-    reads_word memory w w.reader.phase c up k.same k.kept.host.fits
-    (subst (λ xs. InPhase (phase_for w.reader.phase) (ground (as_load memory w)) (site (as_load memory w)) w.down xs w.reader.patience w.reader.spent w.lost) is k.kept.phase)
+    reads_word memory w w.core.phase c up k.same k.kept.host.fits
+    (subst (λ xs. InPhase (phase_for w.core.phase) (ground (as_load memory w)) (site (as_load memory w)) w.down xs w.core.patience w.core.spent w.lost) is k.kept.phase)
 
 -- ---- the events
 
@@ -105,12 +108,12 @@ takes_as : (memory : List ℕ) (w : Inquiry) (down : List ℕ) → unwrap_or (lo
 takes_as memory w [] = refl
 takes_as memory w (c ∷ down) = refl
 
-hears_as : (memory : List ℕ) (w : Inquiry) (up : List ℕ) → ((c : ℕ) (rest : List ℕ) → up ≡ c ∷ rest → HearsRight memory w.reader (Got c)) → unwrap_or (load_hears (as_load memory w) up) (as_load memory w) ≡ as_load memory (unwrap_or (host_hears w up) w)
+hears_as : (memory : List ℕ) (w : Inquiry) (up : List ℕ) → ((c : ℕ) (rest : List ℕ) → up ≡ c ∷ rest → HearsRight memory w.core (Got c)) → unwrap_or (load_hears (as_load memory w) up) (as_load memory w) ≡ as_load memory (unwrap_or (host_hears reading w up) w)
 hears_as memory w [] right = refl
-hears_as memory w (c ∷ up) right = ap (load_stepped (as_load memory w) up) (move_is memory w.reader (Got c) (right c up refl))
+hears_as memory w (c ∷ up) right = ap (load_stepped (as_load memory w) up) (move_is memory w.core (Got c) (right c up refl))
 
-times_out_as : (memory : List ℕ) (w : Inquiry) (down up : List ℕ) → unwrap_or (load_times_out (as_load memory w) down up) (as_load memory w) ≡ as_load memory (unwrap_or (times_out w down up) w)
-times_out_as memory w [] [] = ap (load_stepped (as_load memory w) []) (move_is memory w.reader Silence tt)
+times_out_as : (memory : List ℕ) (w : Inquiry) (down up : List ℕ) → unwrap_or (load_times_out (as_load memory w) down up) (as_load memory w) ≡ as_load memory (unwrap_or (times_out reading w down up) w)
+times_out_as memory w [] [] = ap (load_stepped (as_load memory w) []) (move_is memory w.core Silence tt)
 times_out_as memory w (c ∷ down) up = refl
 times_out_as memory w [] (c ∷ up) = refl
 
@@ -121,10 +124,10 @@ loses_as memory w next false = refl
 happens_as : (memory : List ℕ) (w : Inquiry) (event : Event) → IsMirrored memory w → load_happens (as_load memory w) event ≡ as_load memory (happens w event)
 happens_as memory w Take k = takes_as memory w w.down
 happens_as memory w Hear k = hears_as memory w w.up (λ c rest is. hears_right memory w c rest is k)
-happens_as memory w (LoseDown n) k = loses_as memory w (over w.reader (without_down (wire_of w) n)) (ltb n (length w.down))
-happens_as memory w (LoseUp n) k = loses_as memory w (over w.reader (without_up (wire_of w) n)) (ltb n (length w.up))
+happens_as memory w (LoseDown n) k = loses_as memory w (over w.core (without_down (wire_of w) n)) (ltb n (length w.down))
+happens_as memory w (LoseUp n) k = loses_as memory w (over w.core (without_up (wire_of w) n)) (ltb n (length w.up))
 happens_as memory w Quiet k = times_out_as memory w w.down w.up
-happens_as memory w (Restart n) k = ap (λ core. load_over core (forgiven (wire_of w))) (restarted_for memory w.reader n)
+happens_as memory w (Restart n) k = ap (λ core. load_over core (forgiven (wire_of w))) (restarted_for memory w.core n)
 
 -- ---- the numbers
 
@@ -208,39 +211,39 @@ restart_holds memory r kept h i low =
     let less : i < min kept (length r.values) = subst (λ n. i < n) (length-take kept r.values) low in
     get_or-take kept r.values i 0 (omega (arith, less)) ∙ h i (omega (arith, less))
 
-hearing_holds : (memory : List ℕ) (w : Inquiry) (up : List ℕ) → Fits memory w.reader w.reader.phase → Holds memory w.reader → ((c : ℕ) (rest : List ℕ) → up ≡ c ∷ rest → HearsRight memory w.reader (Got c)) → Holds memory (unwrap_or (host_hears w up) w).reader
+hearing_holds : (memory : List ℕ) (w : Inquiry) (up : List ℕ) → Fits memory w.core w.core.phase → Holds memory w.core → ((c : ℕ) (rest : List ℕ) → up ≡ c ∷ rest → HearsRight memory w.core (Got c)) → Holds memory (unwrap_or (host_hears reading w up) w).core
 hearing_holds memory w [] fits h right = h
-hearing_holds memory w (c ∷ up) fits h right = holds_after memory w.reader (Got c) fits h (right c up refl)
+hearing_holds memory w (c ∷ up) fits h right = holds_after memory w.core (Got c) fits h (right c up refl)
 
-silence_holds : (memory : List ℕ) (w : Inquiry) (down up : List ℕ) → Fits memory w.reader w.reader.phase → Holds memory w.reader → Holds memory (unwrap_or (times_out w down up) w).reader
-silence_holds memory w [] [] fits h = holds_after memory w.reader Silence fits h tt
+silence_holds : (memory : List ℕ) (w : Inquiry) (down up : List ℕ) → Fits memory w.core w.core.phase → Holds memory w.core → Holds memory (unwrap_or (times_out reading w down up) w).core
+silence_holds memory w [] [] fits h = holds_after memory w.core Silence fits h tt
 silence_holds memory w (c ∷ down) up fits h = h
 silence_holds memory w [] (c ∷ up) fits h = h
 
-taking_holds : (memory : List ℕ) (w : Inquiry) (down : List ℕ) → Holds memory w.reader → Holds memory (unwrap_or (takes w down) w).reader
+taking_holds : (memory : List ℕ) (w : Inquiry) (down : List ℕ) → Holds memory w.core → Holds memory (unwrap_or (takes w down) w).core
 taking_holds memory w [] h = h
 taking_holds memory w (c ∷ down) h = h
 
-losing_holds : (memory : List ℕ) (w next : Inquiry) (test : Bool) → Holds memory w.reader → Holds memory next.reader → Holds memory (unwrap_or (if test then Some next else None) w).reader
+losing_holds : (memory : List ℕ) (w next : Inquiry) (test : Bool) → Holds memory w.core → Holds memory next.core → Holds memory (unwrap_or (if test then Some next else None) w).core
 losing_holds memory w next true h g = g
 losing_holds memory w next false h g = h
 
-event_holds : (memory : List ℕ) (w : Inquiry) (event : Event) → IsMirrored memory w → Holds memory (happens w event).reader
+event_holds : (memory : List ℕ) (w : Inquiry) (event : Event) → IsMirrored memory w → Holds memory (happens w event).core
 event_holds memory w Take k = taking_holds memory w w.down k.holds
 event_holds memory w Hear k = hearing_holds memory w w.up k.kept.host.fits k.holds (λ c rest is. hears_right memory w c rest is k)
-event_holds memory w (LoseDown n) k = losing_holds memory w (over w.reader (without_down (wire_of w) n)) (ltb n (length w.down)) k.holds k.holds
-event_holds memory w (LoseUp n) k = losing_holds memory w (over w.reader (without_up (wire_of w) n)) (ltb n (length w.up)) k.holds k.holds
+event_holds memory w (LoseDown n) k = losing_holds memory w (over w.core (without_down (wire_of w) n)) (ltb n (length w.down)) k.holds k.holds
+event_holds memory w (LoseUp n) k = losing_holds memory w (over w.core (without_up (wire_of w) n)) (ltb n (length w.up)) k.holds k.holds
 event_holds memory w Quiet k = silence_holds memory w w.down w.up k.kept.host.fits k.holds
-event_holds memory w (Restart n) k = restart_holds memory w.reader n k.holds
+event_holds memory w (Restart n) k = restart_holds memory w.core n k.holds
 
 pub mirrored_event : (memory : List ℕ) (w : Inquiry) (event : Event) → IsMirrored memory w → IsMirrored memory (happens w event)
 mirrored_event memory w event k =
     let is : load_happens (as_load memory w) event ≡ as_load memory (happens w event) = happens_as memory w event k in
-    let only : OnlyImage w.machine.memory (image_for memory w.reader.addresses) (load_happens (as_load memory w) event).machine.memory = (steps_event (as_load memory w) event k.kept).bytes in
+    let only : OnlyImage w.machine.memory (image_for memory w.core.addresses) (load_happens (as_load memory w) event).machine.memory = (steps_event (as_load memory w) event k.kept).bytes in
     record {
-      same = unchanged memory w.reader.addresses (happens w event).machine.memory k.kept.host.image
-          (subst (λ (next : Scene). OnlyImage memory (image_for memory w.reader.addresses) next.machine.memory) is
-          (subst (λ before. OnlyImage before (image_for memory w.reader.addresses) (load_happens (as_load memory w) event).machine.memory) k.same only));
+      same = unchanged memory w.core.addresses (happens w event).machine.memory k.kept.host.image
+          (subst (λ (next : Scene). OnlyImage memory (image_for memory w.core.addresses) next.machine.memory) is
+          (subst (λ before. OnlyImage before (image_for memory w.core.addresses) (load_happens (as_load memory w) event).machine.memory) k.same only));
       kept = subst IsKept is (kept_event (as_load memory w) event k.kept);
       holds = event_holds memory w event k;
     }

@@ -11,7 +11,8 @@ use Rattle.host_devices.specs.declared.item.Item.{Item}
 use Rattle.host_devices.specs.declared.item.Item.TheVariants.{Sent, Heard as Came}
 use Rattle.honest_line.specs.Moves.{Gives, Moves, MovesOn, MovesTimes, Passes}
 use Rattle.honest_line.specs.Honest.{resting}
-use Rattle.honest_line.proofs.Wires.{later, none_moves, one_first, passes_then}
+use Rattle.honest_line.proofs.Passings.{later}
+use Rattle.honest_line.proofs.Wires.{none_moves, one_first, passes_then}
 use Rattle.looking_law.specs.Splitting.{BeginsByListening, HonestLinesSplit, IsTidy}
 use Rattle.looking_law.proofs.Answers.{answer_short}
 

@@ -16,7 +16,7 @@ use Rattle.line_world.specs.Invariant.{OneWay}
 use Rattle.line_world.specs.Wire.{Wire, sent}
 use Rattle.honest_line.specs.Moves.{Gives, Moves, MovesTimes, Passes}
 use Rattle.honest_line.specs.Honest.{resting}
-use Rattle.looking_law.proofs.Events.{passes_said}
+use Rattle.honest_line.proofs.Passings.{passing_said}
 use Rattle.trial_core.specs.declared.phase.Phase.{Phase}
 use Rattle.trial_core.specs.declared.phase.Phase.TheVariants.{Settle, Sync, Address, Slash, Before, Value, Typed, Done, Ended}
 use Rattle.trial_core.specs.declared.phase.End.TheVariants.{GaveUp}
@@ -237,7 +237,7 @@ dialogue_steady [] t x y steady moves = times_steady t.phase moves.0 x y moves.1
 dialogue_steady (what ∷ things) t x y steady (z, v, before, gives, passes) =
     dialogue_steady things (ask t what).next (sent v (option_to_list (ask t what).key)) y
     (step_steady t what z v gives (times_steady t.phase before.0 x z before.1 steady))
-    (passes_said (ask t what).key (trial_dialogue (ask t what).next things) v y passes)
+    (passing_said Moves (ask t what).key (trial_dialogue (ask t what).next things) v y passes)
 
 -- ---- the law
 

@@ -13,7 +13,7 @@ use Rattle.reading_core.specs.Invariant.{IsReader}
 use Rattle.reading_core.specs.Reader.{Reader}
 use Rattle.reading_core.specs.Laws.{led}
 use Rattle.looking_law.specs.Belief.{dialogue, MayLook}
-use Rattle.looking_law.specs.Inquiry.{over}
+use Rattle.line_world.specs.Scene.{over}
 use Rattle.looking_law.proofs.Believed.{dialogue_mirrored}
 use Rattle.looking_law.proofs.Mirrors.{IsMirrored}
 use Rattle.trial_core.specs.declared.trial.Trial.{Trial}

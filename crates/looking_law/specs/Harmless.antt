@@ -46,9 +46,9 @@ OnlyLook behind_slash (key ∷ keys) = IsLooking behind_slash key × OnlyLook (k
 -- without its losses
 pub record IsHarmless (memory : List ℕ) (w : Inquiry) : Type 0 where
   pub same : w.machine.memory ≡ memory
-  pub read : HoldsRead memory w.reader
-  pub spent : w.reader.spent ≤ w.lost
-  pub cause : HasCause w.reader.phase memory w.reader.patience w.lost
+  pub read : HoldsRead memory w.core
+  pub spent : w.core.spent ≤ w.lost
+  pub cause : HasCause w.core.phase memory w.core.patience w.lost
 
 -- over every machine that runs no program, whatever it is in the middle of and whatever few answers wait: after any
 -- deliveries, losses both ways, timeouts and restarts, in any order, no harm is done and only looking keys were typed

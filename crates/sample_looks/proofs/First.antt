@@ -25,7 +25,7 @@ use Rattle.honest_line.specs.Honest.{resting}
 use Rattle.honest_line.specs.Moves.{MovesOn, Passes}
 use Rattle.honest_line.specs.Trust.{IsTrusted}
 use Rattle.honest_line.proofs.Going.{MayRun, passes_back}
-use Rattle.honest_line.proofs.Wires.{later}
+use Rattle.honest_line.proofs.Passings.{later}
 use Rattle.load_engine.proofs.Sessions.{keys_join}
 use Rattle.load_record.specs.Reading.{Says}
 use Rattle.load_record.proofs.Sound.{IsSound}
@@ -40,7 +40,7 @@ use Rattle.reading_core.specs.ReadingTable.{ask}
 use Rattle.reading_core.proofs.Lives.{asked}
 use Rattle.reading_core.proofs.Turns.{fresh_kept}
 use Rattle.looking_law.specs.Belief.{IsReadyMachine, dialogue}
-use Rattle.looking_law.specs.Inquiry.{over as inquiring}
+use Rattle.line_world.specs.Scene.{over as inquiring}
 use Rattle.looking_law.specs.RecordLook.{HasLooked}
 use Rattle.looking_law.specs.Runs.{AreHarmlessBefore, Look, MayBeSuchAHost, Run}
 use Rattle.looking_law.proofs.Believed.{dialogue_mirrored, stopped_with}

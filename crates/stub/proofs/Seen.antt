@@ -23,7 +23,7 @@ module _ (place : ℕ) (stretches : List Stretch) (before waited : List ℕ) (ro
   -- a link that is what a bench looks like, by what is known of the machine
   pub record Seen (bench : Bench) (link : Link) : Type 0 where
     pub lasts : Lasts place stretches before waited bench.machine
-    pub stub : link.stub ≡ (base_of place stretches before waited lasts).stub
+    pub stub : link.machine ≡ (base_of place stretches before waited lasts).stub
     pub down : link.down ≡ ((base_of place stretches before waited lasts).late ++ held bench.machine.console) ++ bench.down
     pub up : link.up ≡ bench.up ++ (waiting bench.machine.console ++ (base_of place stretches before waited lasts).more)
     pub lost : link.lost ≡ bench.lost
@@ -36,7 +36,7 @@ module _ (place : ℕ) (stretches : List Stretch) (before waited : List ℕ) (ro
 
   -- an instruction that was a turn
   turned : (x y : Bench) (link : Link) (base : Base place stretches before waited x.machine) (lasts : Lasts place stretches before waited y.machine) → y.down ≡ x.down → y.up ≡ x.up → y.lost ≡ x.lost →
-      link.stub ≡ base.stub → link.down ≡ (base.late ++ held x.machine.console) ++ x.down → link.up ≡ x.up ++ (waiting x.machine.console ++ base.more) → link.lost ≡ x.lost →
+      link.machine ≡ base.stub → link.down ≡ (base.late ++ held x.machine.console) ++ x.down → link.up ≡ x.up ++ (waiting x.machine.console ++ base.more) → link.lost ≡ x.lost →
       Stays place stretches before waited x.machine y.machine base (base_of place stretches before waited lasts) ⊎ Took place stretches before waited x.machine y.machine base (base_of place stretches before waited lasts) → Matched link Instructs y
   turned x y link base lasts same_down same_up same_lost stub down up lost (inl way) = record {
     link = link;
@@ -50,7 +50,7 @@ module _ (place : ℕ) (stretches : List Stretch) (before waited : List ℕ) (ro
     };
   }
   turned x y link base lasts same_down same_up same_lost stub down up lost (inr way) = record {
-    link = record { stub = taken link.stub (seven way.character); down = held x.machine.console ++ x.down; up = link.up ++ way.text; lost = link.lost };
+    link = record { machine = taken link.machine (seven way.character); down = held x.machine.console ++ x.down; up = link.up ++ way.text; lost = link.lost };
     matches = inr (inl record {
       address = way.address;
       later = way.rest;
@@ -72,7 +72,7 @@ module _ (place : ℕ) (stretches : List Stretch) (before waited : List ℕ) (ro
     };
   }
 
-  instructs : (x : Bench) (link : Link) (lasts : Lasts place stretches before waited x.machine) → link.stub ≡ (base_of place stretches before waited lasts).stub → link.down ≡ ((base_of place stretches before waited lasts).late ++ held x.machine.console) ++ x.down →
+  instructs : (x : Bench) (link : Link) (lasts : Lasts place stretches before waited x.machine) → link.machine ≡ (base_of place stretches before waited lasts).stub → link.down ≡ ((base_of place stretches before waited lasts).late ++ held x.machine.console) ++ x.down →
       link.up ≡ x.up ++ (waiting x.machine.console ++ (base_of place stretches before waited lasts).more) → link.lost ≡ x.lost → Matched link Instructs (record x { machine = step x.machine })
   instructs x link (inl k) stub down up lost =
       let turns : Turns place stretches before waited x.machine k.base k.point (step x.machine) = instruct place stretches before waited room small fit x.machine k.base k.running k.point k.pc k.masked k.facts in
@@ -108,7 +108,7 @@ module _ (place : ℕ) (stretches : List Stretch) (before waited : List ℕ) (ro
 
   arrival : (x : Bench) (link : Link) (late more : List ℕ) (c : ℕ) (rest : List ℕ) (next : Lasts place stretches before waited (after_arrival x c rest).machine) (done : Bool) →
       (base_of place stretches before waited next).late ≡ late → (base_of place stretches before waited next).more ≡ more → x.machine.console.done ≡ done → x.down ≡ c ∷ rest → c < 256 →
-      link.stub ≡ (base_of place stretches before waited next).stub → link.down ≡ (late ++ held x.machine.console) ++ x.down → link.up ≡ x.up ++ (waiting x.machine.console ++ more) → link.lost ≡ x.lost →
+      link.machine ≡ (base_of place stretches before waited next).stub → link.down ≡ (late ++ held x.machine.console) ++ x.down → link.up ≡ x.up ++ (waiting x.machine.console ++ more) → link.lost ≡ x.lost →
       Matched link Arrives (after_arrival x c rest)
   arrival x link late more c rest next false same_late same_more is first low stub down up lost = record {
     link = link;
@@ -143,7 +143,7 @@ module _ (place : ℕ) (stretches : List Stretch) (before waited : List ℕ) (ro
       inside : (late : List ℕ) (old c : ℕ) (rest all : List ℕ) → all ≡ (late ++ old ∷ []) ++ c ∷ rest → length late < length all
       inside late old c rest all is = subst (λ l. length late < length l) (sym is) (omega (arith, length-append (late ++ old ∷ []) (c ∷ rest), length-append late (old ∷ [])))
 
-  arrives_so : (x : Bench) (link : Link) (c : ℕ) (rest : List ℕ) → x.down ≡ c ∷ rest → c < 256 → (lasts : Lasts place stretches before waited x.machine) → link.stub ≡ (base_of place stretches before waited lasts).stub → link.down ≡ ((base_of place stretches before waited lasts).late ++ held x.machine.console) ++ x.down →
+  arrives_so : (x : Bench) (link : Link) (c : ℕ) (rest : List ℕ) → x.down ≡ c ∷ rest → c < 256 → (lasts : Lasts place stretches before waited x.machine) → link.machine ≡ (base_of place stretches before waited lasts).stub → link.down ≡ ((base_of place stretches before waited lasts).late ++ held x.machine.console) ++ x.down →
       link.up ≡ x.up ++ (waiting x.machine.console ++ (base_of place stretches before waited lasts).more) → link.lost ≡ x.lost → Matched link Arrives (after_arrival x c rest)
   arrives_so x link c rest first low (inl k) stub down up lost = arrival x link k.base.late k.base.more c rest (arrives place stretches before waited room small fit x.machine c (inl k)) x.machine.console.done refl refl refl first low stub down up lost
   arrives_so x link c rest first low (inr k) stub down up lost = arrival x link k.base.late k.base.more c rest (arrives place stretches before waited room small fit x.machine c (inr k)) x.machine.console.done refl refl refl first low stub down up lost
@@ -154,7 +154,7 @@ module _ (place : ℕ) (stretches : List Stretch) (before waited : List ℕ) (ro
   after_leaving x = record x { machine = record x.machine { console = record x.machine.console { ready = true; gone = x.machine.console.gone ++ x.machine.console.leaving ∷ [] } }; up = x.up ++ x.machine.console.leaving ∷ [] }
 
   departure : (x : Bench) (link : Link) (more : List ℕ) (next : Lasts place stretches before waited (after_leaving x).machine) → x.machine.console.ready ≡ false →
-      (base_of place stretches before waited next).more ≡ more → link.stub ≡ (base_of place stretches before waited next).stub → link.down ≡ ((base_of place stretches before waited next).late ++ held x.machine.console) ++ x.down →
+      (base_of place stretches before waited next).more ≡ more → link.machine ≡ (base_of place stretches before waited next).stub → link.down ≡ ((base_of place stretches before waited next).late ++ held x.machine.console) ++ x.down →
       link.up ≡ x.up ++ (waiting x.machine.console ++ more) → link.lost ≡ x.lost → Matched link Goes (after_leaving x)
   departure x link more next busy same_more stub down up lost = record {
     link = link;
@@ -168,7 +168,7 @@ module _ (place : ℕ) (stretches : List Stretch) (before waited : List ℕ) (ro
     };
   }
 
-  goes_so : (x : Bench) (link : Link) → x.machine.console.ready ≡ false → (lasts : Lasts place stretches before waited x.machine) → link.stub ≡ (base_of place stretches before waited lasts).stub → link.down ≡ ((base_of place stretches before waited lasts).late ++ held x.machine.console) ++ x.down →
+  goes_so : (x : Bench) (link : Link) → x.machine.console.ready ≡ false → (lasts : Lasts place stretches before waited x.machine) → link.machine ≡ (base_of place stretches before waited lasts).stub → link.down ≡ ((base_of place stretches before waited lasts).late ++ held x.machine.console) ++ x.down →
       link.up ≡ x.up ++ (waiting x.machine.console ++ (base_of place stretches before waited lasts).more) → link.lost ≡ x.lost → Matched link Goes (after_leaving x)
   goes_so x link busy (inl k) stub down up lost = departure x link k.base.more (leaves place stretches before waited room small fit x.machine busy (inl k)) busy refl stub down up lost
   goes_so x link busy (inr k) stub down up lost = departure x link k.base.more (leaves place stretches before waited room small fit x.machine busy (inr k)) busy refl stub down up lost
@@ -179,12 +179,12 @@ module _ (place : ℕ) (stretches : List Stretch) (before waited : List ℕ) (ro
   record Led (x y : Bench) (link : Link) (base : Base place stretches before waited x.machine) (new : Base place stretches before waited y.machine) : Type 0 where
     pub next : Link
     pub moves : Moves link next
-    pub stub : next.stub ≡ new.stub
+    pub stub : next.machine ≡ new.stub
     pub down : next.down ≡ (new.late ++ held y.machine.console) ++ x.down
     pub up : next.up ≡ x.up ++ (waiting y.machine.console ++ new.more)
     pub lost : next.lost ≡ x.lost
 
-  led : (x y : Bench) (link : Link) (base : Base place stretches before waited x.machine) (new : Base place stretches before waited y.machine) → link.stub ≡ base.stub → link.down ≡ (base.late ++ held x.machine.console) ++ x.down →
+  led : (x y : Bench) (link : Link) (base : Base place stretches before waited x.machine) (new : Base place stretches before waited y.machine) → link.machine ≡ base.stub → link.down ≡ (base.late ++ held x.machine.console) ++ x.down →
       link.up ≡ x.up ++ (waiting x.machine.console ++ base.more) → link.lost ≡ x.lost → Stays place stretches before waited x.machine y.machine base new ⊎ Took place stretches before waited x.machine y.machine base new → Led x y link base new
   led x y link base new stub down up lost (inl way) = record {
     next = link;
@@ -195,7 +195,7 @@ module _ (place : ℕ) (stretches : List Stretch) (before waited : List ℕ) (ro
     lost = lost;
   }
   led x y link base new stub down up lost (inr way) = record {
-    next = record { stub = taken link.stub (seven way.character); down = held x.machine.console ++ x.down; up = link.up ++ way.text; lost = link.lost };
+    next = record { machine = taken link.machine (seven way.character); down = held x.machine.console ++ x.down; up = link.up ++ way.text; lost = link.lost };
     moves = inr (inl record {
       address = way.address;
       later = way.rest;
@@ -221,7 +221,7 @@ module _ (place : ℕ) (stretches : List Stretch) (before waited : List ℕ) (ro
     pub listens : Listens going.point
     pub done : now.console.done ≡ false
     pub ready : now.console.ready ≡ true
-    pub stub : next.stub ≡ going.base.stub
+    pub stub : next.machine ≡ going.base.stub
     pub down : next.down ≡ (going.base.late ++ held now.console) ++ x.down
     pub up : next.up ≡ x.up ++ (waiting now.console ++ going.base.more)
     pub lost : next.lost ≡ x.lost
@@ -232,7 +232,7 @@ module _ (place : ℕ) (stretches : List Stretch) (before waited : List ℕ) (ro
   halted_not : (s : State) → s ≡ Runs → s ≡ Halted → ⊥
   halted_not s stretches halted = cc
 
-  quieted : (n : ℕ) (x : Bench) (link : Link) (now : Machine) (g : Going place stretches before waited x.machine) → link.stub ≡ g.base.stub → link.down ≡ (g.base.late ++ held x.machine.console) ++ x.down →
+  quieted : (n : ℕ) (x : Bench) (link : Link) (now : Machine) (g : Going place stretches before waited x.machine) → link.machine ≡ g.base.stub → link.down ≡ (g.base.late ++ held x.machine.console) ++ x.down →
       link.up ≡ x.up ++ (waiting x.machine.console ++ g.base.more) → link.lost ≡ x.lost → x.machine.console.done ≡ false → x.machine.console.ready ≡ true → Idle n x.machine now →
       Listens g.point ⊎ (dist g.point x.machine.codes.n ≤ n) → Quieted x link n now
   quieted zero x link now g stub down up lost done ready is at = subst (Quieted x link zero) (sym is) record {
@@ -280,7 +280,7 @@ module _ (place : ℕ) (stretches : List Stretch) (before waited : List ℕ) (ro
       on_lasts : (lasts : Lasts place stretches before waited (step x.machine)) → Stays place stretches before waited x.machine (step x.machine) g.base (base_of place stretches before waited lasts) ⊎ Took place stretches before waited x.machine (step x.machine) g.base (base_of place stretches before waited lasts) →
           ((Listens g.point → x.machine.console.done ≡ true) → x.machine.console.ready ≡ true → Advances x.machine (step x.machine) ⊎ (((step x.machine).console ≡ x.machine.console) × Nearer place stretches before waited lasts (dist g.point x.machine.codes.n))) →
           (Listens g.point → x.machine.console.done ≡ false → Waits place stretches before waited lasts) →
-          ((g' : Going place stretches before waited (step x.machine)) (next : Link) → next.stub ≡ g'.base.stub → next.down ≡ (g'.base.late ++ held (step x.machine).console) ++ x.down →
+          ((g' : Going place stretches before waited (step x.machine)) (next : Link) → next.machine ≡ g'.base.stub → next.down ≡ (g'.base.late ++ held (step x.machine).console) ++ x.down →
           next.up ≡ x.up ++ (waiting (step x.machine).console ++ g'.base.more) → next.lost ≡ x.lost → Listens g'.point ⊎ (dist g'.point (step x.machine).codes.n ≤ n) → Quieted (record x { machine = step x.machine }) next n now) →
           Quieted x link (suc n) now
       on_lasts (inl g') way ahead listening go =
@@ -312,7 +312,7 @@ module _ (place : ℕ) (stretches : List Stretch) (before waited : List ℕ) (ro
   under_of EmptyTestedQ f late more m l h = (m.r0, h.0.side.0.rest, h.0.side.0.left)
   under_of _ f late more m l h = absurd l
 
-  silence : (x : Bench) (link : Link) (now : Machine) (lasts : Lasts place stretches before waited x.machine) → link.stub ≡ (base_of place stretches before waited lasts).stub → link.down ≡ ((base_of place stretches before waited lasts).late ++ held x.machine.console) ++ x.down →
+  silence : (x : Bench) (link : Link) (now : Machine) (lasts : Lasts place stretches before waited x.machine) → link.machine ≡ (base_of place stretches before waited lasts).stub → link.down ≡ ((base_of place stretches before waited lasts).late ++ held x.machine.console) ++ x.down →
       link.up ≡ x.up ++ (waiting x.machine.console ++ (base_of place stretches before waited lasts).more) → link.lost ≡ x.lost → x.down ≡ [] → x.up ≡ [] → x.machine.console.done ≡ false → x.machine.console.ready ≡ true → x.machine.state ≡ Runs →
       Idle most x.machine now → Matched link Silent (record x { machine = now })
   silence x link now (inr s) stub down up lost no_down no_up done ready running idle = absurd (halted_not x.machine.state running s.halted)
@@ -418,7 +418,7 @@ module _ (place : ℕ) (stretches : List Stretch) (before waited : List ℕ) (ro
       (rest.0, (one.link, one.matches, rest.1), rest.2)
 
   -- what is seen, as it was to be shown
-  pub shown : (bench : Bench) (link : Link) (lasts : Lasts place stretches before waited bench.machine) → link.stub ≡ (base_of place stretches before waited lasts).stub → link.down ≡ ((base_of place stretches before waited lasts).late ++ held bench.machine.console) ++ bench.down →
+  pub shown : (bench : Bench) (link : Link) (lasts : Lasts place stretches before waited bench.machine) → link.machine ≡ (base_of place stretches before waited lasts).stub → link.down ≡ ((base_of place stretches before waited lasts).late ++ held bench.machine.console) ++ bench.down →
       link.up ≡ bench.up ++ (waiting bench.machine.console ++ (base_of place stretches before waited lasts).more) → link.lost ≡ bench.lost → Shows bench link
   shown bench link (inl k) stub down up lost = record {
     late = k.base.late;

@@ -1,22 +1,18 @@
 -- What a host at the other end of the line sees of the machine with the stub in it: what it would see of the stub as it knows it.
 use Rattle.std.specs.Prelude.{◌≡◌, ℕ, ◌+◌, ◌<◌, ◌≤◌, ◌⊎◌, zero, suc, true, false, if◌then◌else◌, List, [], ◌∷◌, ◌++◌, length}
-use Rattle.std.specs.List.{remove}
 use Rattle.processor.specs.Console.{Console, arrived, left}
 use Rattle.processor.specs.Machine.{Machine, Runs, Halted}
 use Rattle.processor.specs.Execution.{step}
 use Rattle.exchange_core.specs.declared.stretch.Stretch.{Stretch}
+use Rattle.line_world.specs.Wire.{Line, Moving, Times, heard, sent, without_down, without_up}
 use Rattle.stub.specs.Filling.{Filling, begun, taken}
 use Rattle.stub.specs.Pace.{most}
 use Rattle.stub.specs.Law.{IsStarted, waiting, seven}
 
 -- ---- the machine at the end of a line
 
--- a machine, the characters under way to it (`down`) and from it (`up`), and how many the line has lost
-pub record Bench : Type 0 where
-  pub machine : Machine
-  pub down : List ℕ
-  pub up : List ℕ
-  pub lost : ℕ
+abbrev pub Bench : Type 0
+Bench = Line Machine
 
 -- the bench with another console
 abbrev pub at_console : Bench → Console → Bench
@@ -49,10 +45,10 @@ Happens x Arrives y =
     × (y ≡ record (at_console x (arrived x.machine.console c)) { down = rest; lost = x.lost + (if x.machine.console.done then 1 else 0) })
 Happens x Goes y =
     (x.machine.console.ready ≡ false) × (y ≡ record (at_console x (left x.machine.console)) { up = x.up ++ x.machine.console.leaving ∷ [] })
-Happens x (LosesDown k) y = (k < length x.down) × (y ≡ record x { down = remove x.down k; lost = x.lost + 1 })
-Happens x (LosesUp k) y = (k < length x.up) × (y ≡ record x { up = remove x.up k; lost = x.lost + 1 })
-Happens x (Sends c) y = y ≡ record x { down = x.down ++ c ∷ [] }
-Happens x (Hears c) y = (rest : List ℕ) × (x.up ≡ c ∷ rest) × (y ≡ record x { up = rest })
+Happens x (LosesDown k) y = (k < length x.down) × (y ≡ without_down x k)
+Happens x (LosesUp k) y = (k < length x.up) × (y ≡ without_up x k)
+Happens x (Sends c) y = y ≡ sent x (c ∷ [])
+Happens x (Hears c) y = (rest : List ℕ) × (x.up ≡ c ∷ rest) × (y ≡ heard x rest)
 Happens x Silent y =
     (x.down ≡ []) × (x.up ≡ []) × (x.machine.console.done ≡ false) × (x.machine.console.ready ≡ true) × (x.machine.state ≡ Runs)
     × Idle most x.machine y.machine × (y ≡ record x { machine = y.machine })
@@ -64,39 +60,28 @@ Ran x (what ∷ more) y = (z : Bench) × Happens x what z × Ran z more y
 
 -- ---- the stub as the host knows it at the end of the same line
 
-pub record Link : Type 0 where
-  pub stub : Filling
-  pub down : List ℕ
-  pub up : List ℕ
-  pub lost : ℕ
+abbrev pub Link : Type 0
+Link = Line Filling
 
 -- it has a byte to fill, and takes the first character under way, and what it answers is under way at once
 pub record Takes (x y : Link) : Type 0 where
   pub address : ℕ
   pub later : List ℕ
-  pub under : x.stub.left ≡ address ∷ later
+  pub under : x.machine.left ≡ address ∷ later
   pub character : ℕ
   pub rest : List ℕ
   pub first : x.down ≡ character ∷ rest
   pub text : List ℕ
-  pub answers : (taken x.stub (seven character)).answers ≡ x.stub.answers ++ text
-  pub now : y ≡ record { stub = taken x.stub (seven character); down = rest; up = x.up ++ text; lost = x.lost }
+  pub answers : (taken x.machine (seven character)).answers ≡ x.machine.answers ++ text
+  pub now : y ≡ record { machine = taken x.machine (seven character); down = rest; up = x.up ++ text; lost = x.lost }
 
--- a character on the line is lost
-abbrev pub LinkLosesDown : Link → Link → Type 0
-LinkLosesDown x y = (k : ℕ) × (k < length x.down) × (y ≡ record x { down = remove x.down k; lost = x.lost + 1 })
-
-abbrev pub LinkLosesUp : Link → Link → Type 0
-LinkLosesUp x y = (k : ℕ) × (k < length x.up) × (y ≡ record x { up = remove x.up k; lost = x.lost + 1 })
-
--- at most one of these
+-- at most one move
 abbrev pub Moves : Link → Link → Type 0
-Moves x y = (y ≡ x) ⊎ (Takes x y ⊎ (LinkLosesDown x y ⊎ LinkLosesUp x y))
+Moves x y = (y ≡ x) ⊎ Moving Takes x y
 
 -- so many
 abbrev pub MovesTimes : ℕ → Link → Link → Type 0
-MovesTimes zero x y = y ≡ x
-MovesTimes (suc n) x y = (z : Link) × Moves x z × MovesTimes n z y
+MovesTimes n x y = Times Moves n x y
 
 -- some, and then nothing is under way, and the stub has a byte to fill
 pub record Settles (x y : Link) : Type 0 where
@@ -106,13 +91,13 @@ pub record Settles (x y : Link) : Type 0 where
   pub up : y.up ≡ []
   pub address : ℕ
   pub later : List ℕ
-  pub under : y.stub.left ≡ address ∷ later
+  pub under : y.machine.left ≡ address ∷ later
 
 -- what the link does while that happens at the bench: the host sends and hears the same, for a silence nothing is under way, and for
 -- anything else there is at most one move
 abbrev pub Matches : Link → Happening → Link → Type 0
-Matches x (Sends c) y = y ≡ record x { down = x.down ++ c ∷ [] }
-Matches x (Hears c) y = (rest : List ℕ) × (x.up ≡ c ∷ rest) × (y ≡ record x { up = rest })
+Matches x (Sends c) y = y ≡ sent x (c ∷ [])
+Matches x (Hears c) y = (rest : List ℕ) × (x.up ≡ c ∷ rest) × (y ≡ heard x rest)
 Matches x Silent y = Settles x y
 Matches x what y = Moves x y
 
@@ -134,16 +119,16 @@ pub record Shows (bench : Bench) (link : Link) : Type 0 where
   pub more : List ℕ
   pub few : length late ≤ 1
   pub described : (bench.machine.state ≡ Runs) ⊎ (bench.machine.state ≡ Halted)
-  pub memory : bench.machine.memory ≡ link.stub.memory
+  pub memory : bench.machine.memory ≡ link.machine.memory
   pub down : link.down ≡ (late ++ held bench.machine.console) ++ bench.down
   pub up : link.up ≡ bench.up ++ (waiting bench.machine.console ++ more)
   pub lost : link.lost ≡ bench.lost
-  pub halted : bench.machine.state ≡ Halted → (late ≡ []) × (more ≡ []) × (link.stub.left ≡ [])
+  pub halted : bench.machine.state ≡ Halted → (late ≡ []) × (more ≡ []) × (link.machine.left ≡ [])
 
 -- the link at the beginning: what the machine holds is under way
 abbrev pub opened : List Stretch → Bench → Link
 opened stretches x =
-    record { stub = begun x.machine.memory stretches; down = held x.machine.console ++ x.down; up = x.up ++ waiting x.machine.console; lost = x.lost }
+    record { machine = begun x.machine.memory stretches; down = held x.machine.console ++ x.down; up = x.up ++ waiting x.machine.console; lost = x.lost }
 
 -- whatever happens at the bench, the host sends and hears as it would at the link, and the link ends as the bench looks
 abbrev pub StubsAreSeenSo : Type 0

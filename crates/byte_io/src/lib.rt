@@ -15,5 +15,5 @@ mod text;
 
 pub use input::{InputFault, read_up_to};
 pub use output::{WriteFault, write_and_flush, write_whole};
-pub use room::{push_bytes, push_decimal, push_into_room, push_octal};
+pub use room::{push_bytes, push_decimal, push_octal};
 pub use text::{put_decimal, put_octal};

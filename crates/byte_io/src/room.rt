@@ -1,21 +1,11 @@
 //! Texts that are gathered in room which was made before: nothing that is put there needs memory.
 ghost use Rattle.std.specs.Prelude.{◌≡◌, ◌+◌, ◌≤◌, ◌++◌, length, decimal};
-ghost use Rattle.std.specs.Vec.{vec_len, vec_capacity};
 ghost use Rattle.arrayvec.specs.ArrayVec.{array_vec_len};
 ghost use Rattle.octal.specs.Octal.{octal_text};
 
 use arrayvec::ArrayVec;
 use itoa::Buffer;
 use octal::oct6;
-
-/// Puts bytes at the end of a text that has room for them.
-pub fn push_into_room(text: &mut Vec<u8>, bytes: &[u8])
-    requires room { vec_len text.old + length bytes.now ≤ vec_capacity text.old }
-    ensures items { text.new.items ≡ text.old.items ++ bytes.now }
-    ensures room { vec_capacity text.old ≤ vec_capacity text.new }
-{
-    text.extend_from_slice(bytes).unwrap();
-}
 
 /// Puts bytes at the end of a short text that has room for them.
 pub fn push_bytes<const ROOM: usize>(text: &mut ArrayVec<u8, ROOM>, bytes: &[u8])

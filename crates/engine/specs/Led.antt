@@ -19,7 +19,8 @@ abbrev pub told_by : {K News : Type 0} → KeeperCalls K News → Scene K → Se
 told_by calls s = session_told s.line.said (calls.told s.keeper)
 
 -- the engine led a host, in at most so many turns
-pub record IsLed {Host End News K : Type 0} {ways : Ways Host End News} (calls : KeeperCalls K News) (most : ℕ) (turns : Turns ways) (before after : Scene K) : Type 0 where
+pub record IsLed {Host End News K : Type 0} {ways : Ways Host End News}
+    (calls : KeeperCalls K News) (most : ℕ) (turns : Turns ways) (before after : Scene K) : Type 0 where
   -- what was heard, said and kept, in its order
   pub session : Session most turns (told_by calls before) (told_by calls after)
   -- an end, and which device failed

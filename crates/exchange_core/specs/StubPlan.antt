@@ -12,11 +12,11 @@ use Rattle.tape_image.specs.Word.{WordValue, gives}
 use Rattle.host_core.specs.Core.{word_nr}
 use Rattle.exchange_core.specs.Chunking.{bytes_of}
 
--- one word in each 1,024, and the last one, of the words from one number up to another
+-- one word in each 4,096, and the last one, of the words from one number up to another
 pub record IsSounding (from to j : ℕ) : Type 0 where
   pub begins : from ≤ j
   pub ends : j < to
-  pub place : ((j - from) % 1024 ≡ 1023) ⊎ (j + 1 ≡ to)
+  pub place : ((j - from) % 4096 ≡ 4095) ⊎ (j + 1 ≡ to)
 
 -- the address of the word at which the stub lies
 abbrev pub place_of : PlanValue → ℕ → ℕ

@@ -1,21 +1,19 @@
 //! The plan by which a stub is brought in.
 ghost use Rattle.std.specs.Prelude.{◌≡◌, ◌↔◌, ◌+◌, ◌*◌, ◌<◌, ◌≤◌, length, IfOk, IsTrue};
-ghost use Rattle.std.specs.List.{flat_map};
-ghost use Rattle.tape_values.specs.Block.{low_first};
 ghost use Rattle.exchange_core.specs.StubPlan.{AreSoundings, IsSounding, IsStubPlan, IsStubTape, LiesBehind, block_of};
 ghost use Rattle.exchange_core.specs.Window.{IsWindow};
 
-use crate::word_bytes::{HIGH_BYTE, LOW_BYTE, bytes_of};
+use crate::word_bytes::bytes_of;
 use std::alloc::{AllocError, Global};
-use tape_image::{Plan, Word};
-use tape_values::{Block, Memory, Tape};
+use tape_image::{HIGH_BYTE, LOW_BYTE, Plan, Word};
+use tape_values::{Block, Memory, Tape, low_bytes_first};
 
 // One word in so many is sounded.
-const SOUNDING_WORDS: u32 = 1024;
+const SOUNDING_WORDS: u32 = 4096;
 
 /// The plan that a host types to bring in a stub of these words at a window behind the first `from`
 /// words of a tape's plan. It has the stub's words at the window, whose address is its start, and
-/// soundings of the words between: of each 1,024 one, and the last, with the tape's own content. The
+/// soundings of the words between: of each 4,096 one, and the last, with the tape's own content. The
 /// one error is want of memory.
 pub fn stub_plan(
     alloc: Global,
@@ -93,16 +91,4 @@ fn block_of(alloc: Global, word: Word) -> Result<Block, AllocError>
         address: bytes_of(word).from,
         bytes,
     })
-}
-
-// The bytes of words, of each the low one first.
-fn low_bytes_first(alloc: Global, words: &[u16]) -> Result<Vec<u8>, AllocError>
-    requires { length words.now ≤ 28672 }
-    ensures { IfOk result (λ bytes. bytes.items ≡ flat_map low_first words.now) }
-{
-    let mut bytes = Vec::with_capacity(alloc, 2 * words.len())?;
-    for word in words {
-        bytes.extend_from_slice(&word.to_le_bytes())?;
-    }
-    Ok(bytes)
 }

@@ -2,10 +2,7 @@
 ghost use Rattle.std.specs.Prelude.{◌≡◌, ℕ, ◌+◌, ◌<◌, ◌≤◌, length, IfSome};
 ghost use Rattle.exchange_core.specs.Window.{IsFirstTogether, IsNoLower, IsWindow};
 
-use tape_image::{Plan, Word};
-
-// The mask of a whole word.
-const BOTH_BYTES: u16 = 0o177777;
+use tape_image::{BOTH_BYTES, Plan, Word};
 
 /// The number of the word at which a stub of so many words lies: the highest behind the first `from`
 /// words and at least one more, at which so many whole words follow one another. None where there is

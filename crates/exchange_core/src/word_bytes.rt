@@ -3,13 +3,7 @@ ghost use Rattle.std.specs.Prelude.{◌≡◌};
 ghost use Rattle.exchange_core.specs.Chunking.{bytes_of};
 
 use crate::stretch::Stretch;
-use tape_image::Word;
-
-/// The mask of the low byte alone.
-pub(crate) const LOW_BYTE: u16 = 0o377;
-
-/// The mask of the high byte alone.
-pub(crate) const HIGH_BYTE: u16 = 0o177400;
+use tape_image::{HIGH_BYTE, LOW_BYTE, Word};
 
 /// The addresses of the word's bytes: one, or both.
 pub(crate) fn bytes_of(word: Word) -> Stretch

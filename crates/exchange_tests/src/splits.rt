@@ -113,9 +113,9 @@ fn the_window_is_the_highest(rt: HostRuntime) {
 // The words of a stub that is none: so many, each 000777.
 const STUB: [u16; 70] = [0o777; 70];
 
-// 3,000 words from 001000 on.
+// 9,000 words from 001000 on.
 fn long(alloc: Global) -> Option<Plan> {
-    let bytes: [u8; 6000] = [1; 6000];
+    let bytes: [u8; 18000] = [1; 18000];
     plan_of(alloc, block_of(alloc, 0o1000, &bytes)?, None)
 }
 
@@ -138,17 +138,17 @@ fn is_sounded(alloc: Global) -> Option<bool> {
     let stub = stub_of(alloc, &plan)?;
     Some(
         stub.words().len() == 73
-            && has_word(&stub, 0, 0o1000 + 2 * 1023, 0x0101)
-            && has_word(&stub, 1, 0o1000 + 2 * 2047, 0x0101)
-            && has_word(&stub, 2, 0o1000 + 2 * 2929, 0x0101)
-            && has_word(&stub, 3, 0o1000 + 2 * 2930, 0o777)
-            && has_word(&stub, 72, 0o1000 + 2 * 2999, 0o777)
-            && stub.start() == Some(0o1000 + 2 * 2930),
+            && has_word(&stub, 0, 0o1000 + 2 * 4095, 0x0101)
+            && has_word(&stub, 1, 0o1000 + 2 * 8191, 0x0101)
+            && has_word(&stub, 2, 0o1000 + 2 * 8929, 0x0101)
+            && has_word(&stub, 3, 0o1000 + 2 * 8930, 0o777)
+            && has_word(&stub, 72, 0o1000 + 2 * 8999, 0o777)
+            && stub.start() == Some(0o1000 + 2 * 8930),
     )
 }
 
 #[test]
-fn one_word_in_1024_is_sounded_and_the_last(rt: HostRuntime) {
+fn one_word_in_4096_is_sounded_and_the_last(rt: HostRuntime) {
     assert!(rt;
         is_sounded(rt.alloc()) == Some(true),
         "three soundings, and the stub behind them"

@@ -204,13 +204,13 @@ impl StationLine {
 
     /// The bytes that the stub was to fill.
     pub(crate) fn memory(&self) -> &[u8] {
-        &self.station.memory
+        &self.machine.memory
     }
 
     /// Whether the stub has halted: behind its last byte it takes no nibble, and any key but a nibble
     /// halts it.
     pub(crate) fn is_halted(&self) -> bool {
-        self.station.is_halted || self.station.is_full()
+        self.machine.is_halted || self.machine.is_full()
     }
 }
 
@@ -225,12 +225,12 @@ impl Line for StationLine {
 
     fn send(&mut self, key: u8) -> Result<(), LineFault> {
         self.log.note(Item::Sent(key), LineFault::Send)?;
-        self.station.receive(key);
+        self.machine.receive(key);
         Ok(())
     }
 
     fn hear(&mut self) -> Result<Heard, LineFault> {
-        let heard = self.station.next();
+        let heard = self.machine.next();
         self.log.note(Item::Heard(heard), LineFault::Receive)?;
         Ok(heard)
     }

@@ -1,6 +1,5 @@
 -- What devices tell at a moment.
 use Rattle.std.specs.Prelude.{ℕ, List, Option}
-use Rattle.host_devices.specs.declared.fault.KeepFault.{KeepFault}
 use Rattle.host_devices.specs.declared.fault.LineFault.{LineFault}
 use Rattle.host_devices.specs.declared.item.Item.{Item}
 use Rattle.host_devices.specs.declared.item.Kept.{Kept}
@@ -28,14 +27,3 @@ devices line kept = record { line = line; kept = kept }
 -- a line and a keeper at a moment
 abbrev pub devices_of : {L K : Type 0} → Line L → Keep K → L → K → Devices
 devices_of tell keep line keeper = devices (line_told tell line) (keep.told keeper)
-
--- what keepers of a type tell, and what their calls make of them
-pub record KeeperCalls (K : Type 0) : Type 1 where
-  pub kept : K → Option (List Kept)
-  pub failures : K → ℕ
-  pub fault : K → Option KeepFault
-  pub keeps : K → Kept → K → Type 0
-  pub fails : K → Kept → K → Type 0
-
-abbrev pub calls_of : {K : Type 0} → Keep K → KeeperCalls K
-calls_of tell = record { kept = tell.told; failures = tell.fault_count; fault = tell.last_fault; keeps = tell.keeps; fails = tell.fails }

@@ -1,13 +1,10 @@
 ghost use Rattle.std.specs.Prelude.{◌≡◌, ◌+◌, IsTrue};
 ghost use Rattle.load_record.specs.Lines.{goes_on, is_full, longer, run_at};
 
-use tape_image::Word;
+use tape_image::{BOTH_BYTES, Word};
 
 // The most words of a run line.
 const LONGEST_RUN: u8 = 16;
-
-// The mask of a word of which the tape has both bytes.
-const BOTH_BYTES: u16 = 0o177777;
 
 /// The run line that stands open at a record's end: full words at consecutive addresses.
 #[derive(Clone, Copy)]

@@ -1,5 +1,5 @@
 -- What the one engine's law says of hosts that store nothing.
-use Rattle.std.proofs.Common.{◌≡◌, ◌⊎◌, ℕ, ◌-◌, List, [], ◌∷◌, ◌++◌, inl, inr, length, Option, Some, None, refl, ap, sym, subst, ◌∙◌, append-nil}
+use Rattle.std.proofs.Common.{◌≡◌, ◌⊎◌, ℕ, ◌-◌, true, List, [], ◌∷◌, ◌++◌, inl, inr, length, Option, Some, None, refl, arith, ap, sym, subst, ◌∙◌, append-nil, length-append}
 use Rattle.std.specs.Prelude.{option_to_list, unwrap_or}
 use Rattle.host_core.specs.declared.heard.Heard.{Heard}
 use Rattle.host_devices.specs.declared.item.Item.{Item}
@@ -16,12 +16,14 @@ use Rattle.looking_law.specs.Belief.{dialogue}
 use Rattle.looking_law.specs.Trying.{trial_dialogue}
 use Rattle.reading_core.specs.Laws.{led}
 use Rattle.reading_core.specs.Reader.{Reader}
-use Rattle.reading_core.specs.ReadingTable.{ask}
+use Rattle.reading_core.specs.ReadingTable.{ask, is_read, turn_of}
+use Rattle.reading_core.specs.declared.turn.Turn.{Turn}
+use Rattle.reading_core.specs.declared.turn.Turn.TheVariants.{Listen, Key, Read, Next, Stop as Stops, Stray, Timeout}
 use Rattle.trial_core.specs.declared.trial.Trial.{Trial}
 use Rattle.trial_core.specs.Laws.{led as trial_led}
 use Rattle.trial_core.specs.TrialTable.{ask as trial_ask}
-use Rattle.looking_engine.specs.Leading.{a_trial, reading, reads, stop_of, tries}
-use Rattle.looking_engine.specs.Session.{AreTurns, GoesOn, IsSaid, Session}
+use Rattle.looking_engine.specs.Leading.{a_trial, number_of, reading, reads, stop_of, tries}
+use Rattle.looking_engine.specs.Session.{AreTurns, GoesOn, IsSaid, LacksItsKey, Session}
 use Rattle.looking_engine.specs.Turns.{looking}
 use Rattle.looking_engine.specs.Ways.{Ways, readings, trials}
 use Rattle.looking_engine.specs.declared.stop.Stop.{Stop}
@@ -35,6 +37,7 @@ pub record IsLooker {Host Core End News : Type 0} (ways : LeadWays Host End News
   pub ended : (h : Host) → ways.ended h ≡ own.ended (core h)
   pub key : Host → Heard → Option ℕ
   pub keys_are : (h : Host) (heard : Heard) → ways.keys h heard ≡ option_to_list (key h heard)
+  pub gives : (h : Host) (heard : Heard) (front : List News) (item : News) (rest : List News) → ways.news h heard ≡ front ++ item ∷ rest → own.gives (core h) heard ≡ true
 
 -- ---- what was said
 
@@ -54,6 +57,22 @@ is_said ways own core is (LineFails fault) left h heard items given (inl d) = in
 is_said ways own core is (LineFails fault) left h heard items given (inr u) =
     inr (subst (λ all. LacksKey all items) (is.dialogue h heard) (unsent_key ways is.key h heard items given is.keys_are u))
 
+-- where the keeper failed
+is_unkept : {Host Core End News : Type 0} (ways : LeadWays Host End News) (own : Ways Core End) (core : Host → Core) → IsLooker ways own core → (stop : LeadStop End) (left : ℕ) (h : Host) (heard : List Heard) (items : List Item) (given : List News)
+    → IsDone ways (Some stop) left h heard items given → stop_of stop ≡ None → (items ≡ own.dialogue (core h) heard) ⊎ LacksItsKey own (core h) heard items
+is_unkept ways own core is (Ends end) left h heard items given d none = absurd (cc none)
+is_unkept ways own core is Over left h heard items given d none = absurd (cc none)
+is_unkept ways own core is (LineFails fault) left h heard items given d none = absurd (cc none)
+is_unkept {Host} {Core} ways own core is (KeepFails fault) left h heard items given u none =
+    let P : Core → Type 0 = λ c. own.gives c u.last ≡ true in
+    inr record {
+      first = u.first;
+      last = u.last;
+      heard_is = u.heard_is;
+      said_is = u.said_is ∙ ap (λ front. front ++ Came u.last ∷ []) (is.dialogue h u.first);
+      gives = subst P (is.led h u.first) (is.gives (lead_led ways h u.first) u.last u.front u.item u.rest u.news_are);
+    }
+
 -- ---- turns
 
 session_is : {Host Core End News : Type 0} (ways : LeadWays Host End News) (own : Ways Core End) (core : Host → Core) → IsLooker ways own core → (most : ℕ) (stop : LeadStop End) (a b : Host) (before after : SessionTold News)
@@ -65,6 +84,7 @@ session_is ways own core is most stop a b before after s = record {
   goes_on = is.goes a s.heard s.goes_on;
   within = s.within;
   items = is_said ways own core is stop (most - length s.heard) a s.heard s.said s.given s.done;
+  unkept = λ none. is_unkept ways own core is stop (most - length s.heard) a s.heard s.said s.given s.done none;
   on_line = s.on_line;
 }
 
@@ -115,6 +135,18 @@ goes_is : (r : Reader) (heard : List Heard) → LeadGoesOn reads (reading r) hea
 goes_is r [] g = tt
 goes_is r (heard ∷ more) g = (g.0, goes_is (ask r heard).next more g.1)
 
+nothing_given : {A : Type 0} (front : List A) (item : A) (rest : List A) → [] ≡ front ++ item ∷ rest → ⊥
+nothing_given front item rest e = omega (arith, ap length e, length-append front (item ∷ rest))
+
+reads_one : (turn : Turn) (front : List ℕ) (item : ℕ) (rest : List ℕ) → option_to_list (number_of turn) ≡ front ++ item ∷ rest → is_read turn ≡ true
+reads_one (Read number) front item rest e = refl
+reads_one (Listen phase) front item rest e = absurd (nothing_given front item rest e)
+reads_one (Key key phase) front item rest e = absurd (nothing_given front item rest e)
+reads_one Next front item rest e = absurd (nothing_given front item rest e)
+reads_one (Stops end) front item rest e = absurd (nothing_given front item rest e)
+reads_one Stray front item rest e = absurd (nothing_given front item rest e)
+reads_one Timeout front item rest e = absurd (nothing_given front item rest e)
+
 pub reader_looks : IsLooker reads readings (λ r. r.core)
 reader_looks = record {
   led = λ r heard. led_is r.core heard;
@@ -123,6 +155,7 @@ reader_looks = record {
   ended = λ r. refl;
   key = λ r heard. (ask r.core heard).key;
   keys_are = λ r heard. refl;
+  gives = λ r heard. reads_one (turn_of r.core heard);
 }
 
 -- ---- a trial
@@ -149,6 +182,7 @@ trial_looks = record {
   ended = λ t. refl;
   key = λ t heard. (trial_ask t.trial heard).key;
   keys_are = λ t heard. refl;
+  gives = λ t heard front item rest e. absurd (nothing_given front item rest e);
 }
 
 -- ---- nothing is to be kept

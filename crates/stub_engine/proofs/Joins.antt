@@ -8,10 +8,10 @@ use Rattle.host_core.specs.Laws.{led}
 use Rattle.exchange_law.specs.Law.{said_all}
 use Rattle.exchange_law.specs.Start.{program as stub_program}
 use Rattle.load_lives.specs.StubParts.{AreStubParts, StubPart, bringer, exchange_said, stubs_said, verified_after, verified_by}
-use Rattle.stub_engine.specs.declared.stop.Stop.{Stop}
-use Rattle.stub_engine.specs.declared.stop.Stop.TheVariants.{TooFewWords, NoRoom, InVain, NotStarted, TurnsOver, LineFailed, KeepFailed, Memory}
+use Rattle.engine.specs.declared.stop.Stop.TheVariants.{Ended, TurnsOver, LineFailed, KeepFailed}
+use Rattle.stub_engine.specs.declared.stop.StubsEnd.TheVariants.{TooFewWords, NoRoom, InVain, NotStarted, Memory}
 use Rattle.stub_engine.specs.declared.tally.Tally.{Tally}
-use Rattle.stub_engine.specs.Parts.{AllStart, AreBroughtIn, AreFollowed, AreWorth, TellsEnd, bringing, in_vain_after, in_vain_by, sent_by, sent_in, spent_by}
+use Rattle.stub_engine.specs.Parts.{AllStart, AreBroughtIn, AreFollowed, AreWorth, StubsStop, TellsEnd, bringing, in_vain_after, in_vain_by, sent_by, sent_in, spent_by}
 
 verified_join : (tape : PlanValue) (v : ℕ) (parts more : List StubPart) → verified_by tape v (parts ++ more) ≡ verified_by tape (verified_by tape v parts) more
 verified_join tape v [] more = refl
@@ -37,12 +37,12 @@ start_join : (parts more : List StubPart) → AllStart parts → AllStart more �
 start_join [] more start rest = rest
 start_join (part ∷ parts) more start rest = (start.0, start_join parts more start.1 rest)
 
-ends_join : (stop : Option Stop) (parts more : List StubPart) → TellsEnd stop more → TellsEnd stop (parts ++ more)
+ends_join : (stop : Option StubsStop) (parts more : List StubPart) → TellsEnd stop more → TellsEnd stop (parts ++ more)
 ends_join None parts more ends = tt
-ends_join (Some TooFewWords) parts more ends = tt
-ends_join (Some NoRoom) parts more ends = tt
-ends_join (Some InVain) parts more ends = tt
-ends_join (Some (NotStarted end)) parts more ends = record {
+ends_join (Some (Ended TooFewWords)) parts more ends = tt
+ends_join (Some (Ended NoRoom)) parts more ends = tt
+ends_join (Some (Ended InVain)) parts more ends = tt
+ends_join (Some (Ended (NotStarted end))) parts more ends = record {
   before = parts ++ ends.before;
   last = ends.last;
   parts_are = ap (λ list. parts ++ list) ends.parts_are ∙ sym (append_assoc parts ends.before (ends.last ∷ []));
@@ -51,7 +51,7 @@ ends_join (Some (NotStarted end)) parts more ends = record {
 ends_join (Some TurnsOver) parts more ends = tt
 ends_join (Some (LineFailed fault)) parts more ends = tt
 ends_join (Some (KeepFailed fault)) parts more ends = tt
-ends_join (Some Memory) parts more ends = tt
+ends_join (Some (Ended Memory)) parts more ends = tt
 
 said_join : (tape : PlanValue) (v : ℕ) (parts more : List StubPart) → stubs_said tape v (parts ++ more) ≡ stubs_said tape v parts ++ stubs_said tape (verified_by tape v parts) more
 said_join tape v [] more = refl
@@ -81,10 +81,10 @@ spent_join (part ∷ parts) more = by (led (bringer part) part.brought).spent (s
 sums : (a b c first rest all : ℕ) → b ≡ a + first → c ≡ b + rest → all ≡ first + rest → c ≡ a + all
 sums a b c first rest all one two e = omega (arith, one, two, e)
 
-pub brought_join : (tape : PlanValue) (patience : ℕ) (stop : Option Stop) (a b c : Tally) (line line' line'' : Option (List Item)) → AreBroughtIn (bringing tape patience (a, b) None) line line' → AreBroughtIn (bringing tape patience (b, c) stop) line' line'' → AreBroughtIn (bringing tape patience (a, c) stop) line line''
+pub brought_join : (tape : PlanValue) (patience : ℕ) (stop : Option StubsStop) (a b c : Tally) (line line' line'' : Option (List Item)) → AreBroughtIn (bringing tape patience (a, b) None) line line' → AreBroughtIn (bringing tape patience (b, c) stop) line' line'' → AreBroughtIn (bringing tape patience (a, c) stop) line line''
 brought_join tape patience stop a b c line line' line'' s t =
     let parts : List StubPart = s.parts ++ t.parts in
-    let front : stubs_said tape a.verified s.parts ≡ s.said = s.items ∙ (ap (λ keys. s.said ++ said_all keys) (s.all_sent refl) ∙ append-nil s.said) in
+    let front : stubs_said tape a.verified s.parts ≡ s.said = s.items ∙ (ap (λ keys. s.said ++ said_all keys) (s.all_sent refl refl) ∙ append-nil s.said) in
     let here = s.verified in record {
       parts = s.parts ++ t.parts;
       are_parts = stubs_join tape a.verified s.parts t.parts s.are_parts (subst (λ v. AreStubParts stub_program tape v t.parts) here t.are_parts);

@@ -1,16 +1,17 @@
--- A keeper over words one after another.
-use Rattle.std.proofs.Common.{◌≡◌, ℕ, suc, ◌+◌, ◌-◌, ◌<◌, ◌≤◌, List, [], ◌∷◌, ◌++◌, length, take, drop, map, get_or, Option, Some, None, refl, arith, ap, sym, subst, ◌∙◌, append_assoc, append-nil, length-append, length-drop}
-use Rattle.std.proofs.lemmas.List.{drop_more, length-map, length-take-le, map-append}
+-- A keeper that is given words one after another.
+use Rattle.std.proofs.Common.{◌≡◌, ℕ, suc, ◌+◌, ◌-◌, ◌≤◌, List, [], ◌∷◌, ◌++◌, length, take, drop, map, Option, Some, None, refl, arith, ap, sym, subst, ◌∙◌, append_assoc, append-nil, length-append}
+use Rattle.std.proofs.lemmas.List.{map-append}
 use Rattle.std.proofs.Math.Seq.{take-add, drop-drop}
 use Rattle.tape_image.specs.Word.{WordValue}
 use Rattle.host_devices.specs.declared.fault.KeepFault.{KeepFault}
 use Rattle.host_devices.specs.declared.item.Kept.{Kept}
 use Rattle.host_devices.specs.declared.item.Kept.TheVariants.{Word}
-use Rattle.engine.specs.Keeping.{AllOrFront, KeeperCalls, KeepsAllButLast, KeepsEach, keeping}
+use Rattle.engine.specs.Keeping.{AllOrFront, IsKeptBy as IsEngineKeptBy, KeeperCalls, KeepsAllButLast, KeepsEach, LacksLast, keeping}
 use Rattle.host_devices.specs.Failures.{CountsFault}
-use Rattle.host_devices.proofs.Told.{gains_join, gains_kept, gains_none}
-use Rattle.host_devices.specs.Told.{Gains, SaysNothing}
+use Rattle.host_devices.proofs.Told.{gains_join, gains_none}
+use Rattle.host_devices.specs.Told.{Gains}
 use Rattle.engine.proofs.Keepings.{each_join}
+use Rattle.stub_engine.specs.Exchanged.{IsGiven}
 use Rattle.stub_engine.specs.Keeping.{GainsFront, IsKeptBy, IsToldBy, KeepsFront, words_kept}
 
 take_behind : {A : Type 0} (items more : List A) (k : ℕ) → take (length items + k) (items ++ more) ≡ items ++ take k more
@@ -42,7 +43,7 @@ kept_join {K} calls (Some fault) old next new items more each by = front_join ca
 
 -- ---- words
 
-words_join : (words : List WordValue) (a b c : ℕ) → a ≤ b → b ≤ c → words_kept words a c ≡ words_kept words a b ++ words_kept words b c
+pub words_join : (words : List WordValue) (a b c : ℕ) → a ≤ b → b ≤ c → words_kept words a c ≡ words_kept words a b ++ words_kept words b c
 words_join words a b c one two =
     let sum : c - a ≡ (b - a) + (c - b) = omega (arith, one, two) in
     let from : a + (b - a) ≡ b = omega (arith, one) in
@@ -51,35 +52,13 @@ words_join words a b c one two =
     ∙ (ap (map Word) (take-add (b - a) (c - b) (drop a words) ∙ ap (λ rest. take (b - a) (drop a words) ++ take (c - b) rest) seam)
     ∙ map-append Word (take (b - a) (drop a words)) (take (c - b) (drop b words)))
 
-none_kept : (words : List WordValue) (a b : ℕ) → b ≤ a → words_kept words a b ≡ []
+pub none_kept : (words : List WordValue) (a b : ℕ) → b ≤ a → words_kept words a b ≡ []
 none_kept words a b le = let none : b - a ≡ 0 = omega (arith, le) in ap (λ n. map Word (take n (drop a words))) none
 
-one_kept : (words : List WordValue) (k : ℕ) (d : WordValue) → k < length words → words_kept words k (k + 1) ≡ Word (get_or words k d) ∷ []
-one_kept words k d less =
-    let one : k + 1 - k ≡ 1 = omega arith in
-    ap (λ n. map Word (take n (drop k words))) one ∙ ap (λ rest. map Word (take 1 rest)) (drop_more words k d less)
+-- ---- none
 
--- ---- one word more
-
-pub each_begins : {K : Type 0} (keeps : K → Kept → K → Type 0) (keep : K) (words : List WordValue) (from to : ℕ) → to ≤ from → KeepsEach keeps keep (words_kept words from to) keep
+each_begins : {K : Type 0} (keeps : K → Kept → K → Type 0) (keep : K) (words : List WordValue) (from to : ℕ) → to ≤ from → KeepsEach keeps keep (words_kept words from to) keep
 each_begins {K} keeps keep words from to le = let P : List Kept → Type 0 = λ items. KeepsEach keeps keep items keep in subst P (sym (none_kept words from to le)) refl
-
-pub each_more : {K : Type 0} (keeps : K → Kept → K → Type 0) (old mid new : K) (words : List WordValue) (from k : ℕ) (d : WordValue) → from ≤ k → k < length words → KeepsEach keeps old (words_kept words from k) mid → keeps mid (Word (get_or words k d)) new →
-    KeepsEach keeps old (words_kept words from (k + 1)) new
-each_more {K} keeps old mid new words from k d le less each one =
-    let P : List Kept → Type 0 = λ items. KeepsEach keeps old items new in
-    subst P (sym (words_join words from k (k + 1) le (omega arith) ∙ ap (λ rest. words_kept words from k ++ rest) (one_kept words k d less)))
-    (each_join keeps old mid new (words_kept words from k) (Word (get_or words k d) ∷ []) each (new, one, refl))
-
-pub front_stops : {K : Type 0} (calls : KeeperCalls K Kept) (old mid new : K) (words : List WordValue) (from k to : ℕ) (d : WordValue) → from ≤ k → k < to → to ≤ length words → KeepsEach calls.keeps old (words_kept words from k) mid → calls.fails mid (Word (get_or words k d)) new →
-    KeepsFront calls (words_kept words from to) old new
-front_stops {K} calls old mid new words from k to d le less within each one =
-    let P : List Kept → Type 0 = λ items. KeepsFront calls items old new in
-    let rest : words_kept words k to ≡ Word (get_or words k d) ∷ words_kept words (k + 1) to =
-    words_join words k (k + 1) to (omega arith) (omega (arith, less)) ∙ ap (λ front. front ++ words_kept words (k + 1) to) (one_kept words k d (omega (arith, less, within))) in
-    subst P (sym (words_join words from k to le (omega (arith, less)) ∙ ap (λ more. words_kept words from k ++ more) rest))
-    (front_join calls old mid new (words_kept words from k) (Word (get_or words k d) ∷ words_kept words (k + 1) to) each
-    (0, omega arith, record { kept = []; last = Word (get_or words k d); items_are = refl; next = mid; each = refl; failing = one }))
 
 -- ---- two stretches
 
@@ -110,21 +89,26 @@ told_then fault a b c words i j k one two gains by =
 pub told_begins : (a : Option (List Kept)) (words : List WordValue) (i j : ℕ) → j ≤ i → Gains a a (words_kept words i j)
 told_begins a words i j le = subst (Gains a a) (sym (none_kept words i j le)) (gains_none a)
 
-pub told_more : (a b c : Option (List Kept)) (words : List WordValue) (from k : ℕ) (d : WordValue) → from ≤ k → k < length words → Gains a b (words_kept words from k) → Gains b c (Word (get_or words k d) ∷ []) → Gains a c (words_kept words from (k + 1))
-told_more a b c words from k d le less gains one =
-    subst (Gains a c) (sym (words_join words from k (k + 1) le (omega arith) ∙ ap (λ rest. words_kept words from k ++ rest) (one_kept words k d less)))
-    (gains_join a b c (words_kept words from k) (Word (get_or words k d) ∷ []) gains one)
+-- ---- as the engine has it
 
-kept_length : (words : List WordValue) (from to : ℕ) → from ≤ to → to ≤ length words → length (words_kept words from to) ≡ to - from
-kept_length words from to le within =
-    length-map (take (to - from) (drop from words)) Word ∙ length-take-le (to - from) (drop from words) (omega (arith, length-drop from words, within))
+take_front : {A : Type 0} (front rest : List A) → take (length front) (front ++ rest) ≡ front
+take_front front rest = let none : length front ≡ length front + 0 = omega arith in ap (λ n. take n (front ++ rest)) none ∙ (take_behind front rest 0 ∙ append-nil front)
 
-pub told_stops : (a b c : Option (List Kept)) (words : List WordValue) (from k to : ℕ) → from ≤ k → k < to → to ≤ length words → Gains a b (words_kept words from k) → SaysNothing b c → GainsFront a c (words_kept words from to)
-told_stops a b c words from k to le less within gains nothing =
-    let some : length (words_kept words from to) ≡ to - from = kept_length words from to (omega (arith, le, less)) within in
-    let here : length (words_kept words from k) ≡ k - from = kept_length words from k le (omega (arith, less, within)) in
-    let front : take (k - from) (words_kept words from to) ≡ words_kept words from k =
-    ap (take (k - from)) (words_join words from k to le (omega (arith, less)))
-    ∙ (ap (λ n. take n (words_kept words from k ++ words_kept words k to)) (let e : k - from ≡ length (words_kept words from k) + 0 = omega (arith, here) in e)
-    ∙ (take_behind (words_kept words from k) (words_kept words k to) 0 ∙ append-nil (words_kept words from k))) in
-    (k - from, omega (arith, some, le, less), subst (Gains a c) (sym front) (subst (Gains a c) (append-nil (words_kept words from k)) (gains_join a b c (words_kept words from k) [] gains (gains_kept b c nothing))))
+pub kept_of : {K : Type 0} (calls : KeeperCalls K Kept) (fault : Option KeepFault) (all given : List Kept) (old new : K) → IsGiven fault all given → IsEngineKeptBy calls (keeping given fault) old new → IsKeptBy calls (keeping all fault) old new
+kept_of {K} calls None all given old new is by = let P : List Kept → Type 0 = λ items. KeepsEach calls.keeps old items new in record { counted = by.counted; named = by.named; each = subst P is by.kept_by }
+kept_of {K} calls (Some fault) all given old new (rest, is) by =
+    let P : List Kept → Type 0 = λ items. KeepsAllButLast calls old items new in
+    let most = by.kept_by in
+    let one : length given ≡ length most.kept + 1 = ap length most.items_are ∙ length-append most.kept (most.last ∷ []) in
+    let front : take (length most.kept + 1) all ≡ given = ap (λ n. take n all) (sym one) ∙ (ap (take (length given)) is ∙ take_front given rest) in record {
+      counted = by.counted;
+      named = by.named;
+      each = (length most.kept, (let long = ap length is ∙ length-append given rest in omega (arith, long, one)), subst P (sym front) most);
+    }
+
+pub told_of : (fault : Option KeepFault) (all given kept : List Kept) (old new : Option (List Kept)) → IsGiven fault all given → AllOrFront fault (kept ≡ given) (LacksLast given kept) → Gains old new kept → IsToldBy (keeping all fault) old new
+told_of None all given kept old new is same gains = subst (Gains old new) (same ∙ is) gains
+told_of (Some fault) all given kept old new (rest, is) (last, lacks) gains =
+    let whole : all ≡ kept ++ last ∷ rest = is ∙ (ap (λ items. items ++ rest) lacks ∙ append_assoc kept (last ∷ []) rest) in
+    let long = ap length whole ∙ length-append kept (last ∷ rest) in
+    (length kept, omega (arith, long), subst (Gains old new) (sym (ap (take (length kept)) whole ∙ take_front kept (last ∷ rest))) gains)

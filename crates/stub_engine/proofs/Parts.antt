@@ -1,5 +1,5 @@
 -- One stub's part of a load.
-use Rattle.std.proofs.Common.{◌≡◌, ℕ, ◌+◌, ◌-◌, ◌^◌, ◌<◌, ◌≤◌, Bool, true, false, List, [], ◌∷◌, ◌++◌, length, Option, Some, None, inl, inr, refl, arith, ap, sym, subst, ◌∙◌, append_assoc, append-nil}
+use Rattle.std.proofs.Common.{◌≡◌, ℕ, ◌+◌, ◌^◌, ◌<◌, ◌≤◌, Bool, true, false, List, [], ◌∷◌, ◌++◌, length, Option, Some, None, inl, inr, refl, arith, ap, sym, subst, ◌∙◌, append_assoc, append-nil}
 use Rattle.std.specs.Prelude.{◌==◌, if◌then◌else◌}
 use Rattle.std.proofs.lemmas.Bool.{eqb-true, eq-eqb, cases_eq}
 use Rattle.tape_image.specs.Memory.{most_words}
@@ -17,9 +17,9 @@ use Rattle.host_devices.specs.Dialogue.{dialogue}
 use Rattle.host_devices.specs.Turns.{most_turns}
 use Rattle.host_devices.proofs.Told.{gains_join, gains_none}
 use Rattle.load_engine.specs.Driving.{LoadSession, LoadStop, driving}
-use Rattle.engine.specs.declared.stop.Stop.TheVariants.{Ended as LoadEnded, LineFailed as LoadLineFailed, KeepFailed as LoadKeepFailed, TurnsOver as LoadTurnsOver}
-use Rattle.engine.specs.Session.{SessionTold}
-use Rattle.engine.specs.Stopping.{TellsEnd}
+use Rattle.engine.specs.declared.stop.Stop.TheVariants.{Ended, LineFailed, KeepFailed, TurnsOver}
+use Rattle.engine.specs.Session.{SessionTold, session_told}
+use Rattle.engine.specs.Stopping.{TellsEnd, keep_fault, line_fault}
 use Rattle.load_engine.specs.Driven.{IsSaid as IsLoadSaid}
 use Rattle.load_engine.proofs.Sessions.{core_is, session_said}
 use Rattle.exchange_core.specs.declared.chunk.Chunk.{Chunk}
@@ -29,16 +29,13 @@ use Rattle.exchange_core.specs.Chunk.{AreChunks, words_behind}
 use Rattle.exchange_core.specs.Exchange.{begun as exchange_begun, led as exchange_led}
 use Rattle.exchange_law.specs.Law.{dialogue as exchange_dialogue, said_all}
 use Rattle.exchange_law.proofs.Words.{words_within}
-use Rattle.stub_engine.specs.declared.exchange_stop.ExchangeStop.{ExchangeStop}
-use Rattle.stub_engine.specs.declared.exchange_stop.ExchangeStop.TheVariants.{Ended, LineFailed, KeepFailed, TurnsOver}
-use Rattle.stub_engine.specs.Exchanged.{AreTurns, Exchanged, IsSaid}
-use Rattle.stub_engine.specs.Exchanging.{exchanging}
+use Rattle.stub_engine.specs.Exchanged.{IsCarriedOut, IsSaid}
+use Rattle.stub_engine.specs.Exchanging.{ExchangeStop, exchanging}
 use Rattle.exchange_law.specs.Start.{program as stub_program}
 use Rattle.load_lives.specs.StubParts.{IsStubFor, StubPart, bringer, is_started, starts, verified_after, exchange_said}
 use Rattle.load_lives.proofs.Planning.{planned_stubs}
-use Rattle.stub_engine.specs.declared.stop.Stop.{Stop}
 use Rattle.stub_engine.specs.declared.tally.Tally.{Tally}
-use Rattle.stub_engine.specs.Parts.{AreBroughtIn, IsWorth, bringing, TellsEnd as EndsSo, failure_of, why_ended, why_left, why_unstarted}
+use Rattle.stub_engine.specs.Parts.{AreBroughtIn, IsWorth, StubsStop, bringing, TellsEnd as EndsSo, why_ended, why_left, why_unstarted}
 use Rattle.stub_engine.specs.Planning.{IsPlannedFor}
 use Rattle.stub_engine.specs.Tallies.{IsOneMore, duplex_behind, with_counts, with_words}
 use Rattle.stub_engine.proofs.Stops.{is_some}
@@ -48,7 +45,7 @@ same_if {A} true a = refl
 same_if {A} false a = refl
 
 -- no stub at all
-pub none_brought : (tape : PlanValue) (patience : ℕ) (stop : Option Stop) (tally : Tally) (line : Option (List Item)) → EndsSo stop [] → AreBroughtIn (bringing tape patience (tally, tally) stop) line line
+pub none_brought : (tape : PlanValue) (patience : ℕ) (stop : Option StubsStop) (tally : Tally) (line : Option (List Item)) → EndsSo stop [] → AreBroughtIn (bringing tape patience (tally, tally) stop) line line
 none_brought tape patience stop tally line ends = record {
   parts = [];
   are_parts = tt;
@@ -59,7 +56,7 @@ none_brought tape patience stop tally line ends = record {
   said = [];
   unsent = [];
   items = refl;
-  all_sent = λ whole. refl;
+  all_sent = λ line keep. refl;
   on_line = gains_none line;
   verified = refl;
   sent = omega arith;
@@ -76,41 +73,40 @@ is_worth tape from n part p few duplex = record { patient = refl; few = few; dup
 -- ---- what was said, up to what was not sent
 
 -- a front of what was to be said, and all of it where no device failed
-record IsFront (failure : Option ExchangeStop) (all said : List Item) : Type 0 where
+record IsFront (stop : Option StubsStop) (all said : List Item) : Type 0 where
   pub unsent : List ℕ
   pub is : all ≡ said ++ said_all unsent
-  pub whole : failure ≡ None → unsent ≡ []
+  pub whole : line_fault stop ≡ None → keep_fault stop ≡ None → unsent ≡ []
 
-full : (failure : Option ExchangeStop) (all said : List Item) → said ≡ all → IsFront failure all said
-full failure all said s = record { unsent = []; is = sym s ∙ sym (append-nil said); whole = λ none. refl }
+full : (stop : Option StubsStop) (all said : List Item) → said ≡ all → IsFront stop all said
+full stop all said s = record { unsent = []; is = sym s ∙ sym (append-nil said); whole = λ line keep. refl }
 
-brought_front : (stop : LoadStop) (all said : List Item) → IsLoadSaid (Some stop) all said → IsFront (failure_of (why_unstarted stop)) all said
-brought_front (LoadEnded end) all said s = full (failure_of (why_ended end)) all said s
-brought_front LoadTurnsOver all said s = full None all said s
-brought_front (LoadLineFailed fault) all said (inl deaf) = full (Some (LineFailed fault)) all said deaf
-brought_front (LoadLineFailed fault) all said (inr less) = record { unsent = less.0 ∷ []; is = less.1; whole = λ none. absurd (is_some _ none) }
-brought_front (LoadKeepFailed fault) all said s = record { unsent = s.0 ∷ []; is = s.1; whole = λ none. absurd (is_some _ none) }
+brought_front : (stop : LoadStop) (all said : List Item) → IsLoadSaid (Some stop) all said → IsFront (why_unstarted stop) all said
+brought_front (Ended end) all said s = full (why_ended end) all said s
+brought_front TurnsOver all said s = full (Some TurnsOver) all said s
+brought_front (LineFailed fault) all said (inl deaf) = full (Some (LineFailed fault)) all said deaf
+brought_front (LineFailed fault) all said (inr less) = record { unsent = less.0 ∷ []; is = less.1; whole = λ line keep. absurd (is_some _ line) }
+brought_front (KeepFailed fault) all said s = record { unsent = s.0 ∷ []; is = s.1; whole = λ line keep. absurd (is_some _ keep) }
 
-exchange_front : (stop : ExchangeStop) (left : ℕ) (all said : List Item) → IsSaid (Some stop) left all said → IsFront (failure_of (why_left stop)) all said
-exchange_front (Ended end) left all said s = full None all said s
-exchange_front TurnsOver left all said s = full None all said s.0
-exchange_front (LineFailed fault) left all said (inl deaf) = full (Some (LineFailed fault)) all said deaf.0
-exchange_front (LineFailed fault) left all said (inr less) = record { unsent = less.0; is = less.1; whole = λ none. absurd (is_some _ none) }
-exchange_front (KeepFailed fault) left all said s = record { unsent = s.0.0; is = s.0.1; whole = λ none. absurd (is_some _ none) }
+exchange_front : (stop : ExchangeStop) (all said : List Item) → IsSaid (Some stop) all said → IsFront (why_left stop) all said
+exchange_front (Ended end) all said s = full None all said s
+exchange_front TurnsOver all said s = full (Some TurnsOver) all said s
+exchange_front (LineFailed fault) all said s = record { unsent = s.0; is = s.1; whole = λ line keep. absurd (is_some _ line) }
+exchange_front (KeepFailed fault) all said s = record { unsent = s.0; is = s.1; whole = λ line keep. absurd (is_some _ keep) }
 
 -- ---- a stub that did not start
 
 ends_so : (stop : LoadStop) (part : StubPart) → TellsEnd stop (ended (led (bringer part) part.brought).phase) → EndsSo (why_unstarted stop) (part ∷ [])
-ends_so (LoadEnded Started) part tells = tt
-ends_so (LoadEnded Loaded) part tells = record { before = []; last = part; parts_are = refl; end_is = tells }
-ends_so (LoadEnded Uncertain) part tells = record { before = []; last = part; parts_are = refl; end_is = tells }
-ends_so (LoadEnded MaybeStarted) part tells = record { before = []; last = part; parts_are = refl; end_is = tells }
-ends_so (LoadEnded GaveUp) part tells = record { before = []; last = part; parts_are = refl; end_is = tells }
-ends_so (LoadEnded (NoWord address)) part tells = record { before = []; last = part; parts_are = refl; end_is = tells }
-ends_so (LoadEnded (WontHold address)) part tells = record { before = []; last = part; parts_are = refl; end_is = tells }
-ends_so (LoadLineFailed fault) part tells = tt
-ends_so (LoadKeepFailed fault) part tells = tt
-ends_so LoadTurnsOver part tells = tt
+ends_so (Ended Started) part tells = tt
+ends_so (Ended Loaded) part tells = record { before = []; last = part; parts_are = refl; end_is = tells }
+ends_so (Ended Uncertain) part tells = record { before = []; last = part; parts_are = refl; end_is = tells }
+ends_so (Ended MaybeStarted) part tells = record { before = []; last = part; parts_are = refl; end_is = tells }
+ends_so (Ended GaveUp) part tells = record { before = []; last = part; parts_are = refl; end_is = tells }
+ends_so (Ended (NoWord address)) part tells = record { before = []; last = part; parts_are = refl; end_is = tells }
+ends_so (Ended (WontHold address)) part tells = record { before = []; last = part; parts_are = refl; end_is = tells }
+ends_so (LineFailed fault) part tells = tt
+ends_so (KeepFailed fault) part tells = tt
+ends_so TurnsOver part tells = tt
 
 left_ends : (left : ExchangeStop) (parts : List StubPart) → EndsSo (why_left left) parts
 left_ends (Ended end) parts = tt
@@ -118,17 +114,17 @@ left_ends (LineFailed fault) parts = tt
 left_ends (KeepFailed fault) parts = tt
 left_ends TurnsOver parts = tt
 
-only_started : (stop : LoadStop) → why_unstarted stop ≡ None → stop ≡ LoadEnded Started
-only_started (LoadEnded Started) follows = refl
-only_started (LoadEnded Loaded) follows = absurd (is_some _ follows)
-only_started (LoadEnded Uncertain) follows = absurd (is_some _ follows)
-only_started (LoadEnded MaybeStarted) follows = absurd (is_some _ follows)
-only_started (LoadEnded GaveUp) follows = absurd (is_some _ follows)
-only_started (LoadEnded (NoWord address)) follows = absurd (is_some _ follows)
-only_started (LoadEnded (WontHold address)) follows = absurd (is_some _ follows)
-only_started (LoadLineFailed fault) follows = absurd (is_some _ follows)
-only_started (LoadKeepFailed fault) follows = absurd (is_some _ follows)
-only_started LoadTurnsOver follows = absurd (is_some _ follows)
+only_started : (stop : LoadStop) → why_unstarted stop ≡ None → stop ≡ Ended Started
+only_started (Ended Started) follows = refl
+only_started (Ended Loaded) follows = absurd (is_some _ follows)
+only_started (Ended Uncertain) follows = absurd (is_some _ follows)
+only_started (Ended MaybeStarted) follows = absurd (is_some _ follows)
+only_started (Ended GaveUp) follows = absurd (is_some _ follows)
+only_started (Ended (NoWord address)) follows = absurd (is_some _ follows)
+only_started (Ended (WontHold address)) follows = absurd (is_some _ follows)
+only_started (LineFailed fault) follows = absurd (is_some _ follows)
+only_started (KeepFailed fault) follows = absurd (is_some _ follows)
+only_started TurnsOver follows = absurd (is_some _ follows)
 
 -- an end is the phase's
 is_end : (phase : Phase) (end : End) → ended phase ≡ Some end → phase ≡ PhaseEnded end
@@ -180,23 +176,23 @@ unstarted tape patience stop old stub chunks core before after planned patient f
 
 -- ---- a stub that started
 
-pub exchanged : (tape : PlanValue) (patience : ℕ) (stop : LoadStop) (left : ExchangeStop) (old : Tally) (stub : PlanValue) (chunks : List Chunk) (core : Core) (state : Exchange) (before between : SessionTold Kept) (line : Option (List Item)) →
-    IsPlannedFor tape old.verified stub chunks → patience < 2 ^ 32 → old.in_vain < 3 → why_unstarted stop ≡ None → TellsEnd stop (ended core.phase) → LoadSession most_turns (driving (begun stub 0 false patience) core (Some stop)) before between →
-    Exchanged most_turns (exchanging tape chunks (exchange_begun old.verified (duplex_behind old.in_vain), state) (Some left)) between.said line →
-    AreBroughtIn (bringing tape patience (old, with_words (with_counts (with_counts old core.sent core.spent) state.sent 0) state.verified) (why_left left)) before.said line
-exchanged tape patience stop left old stub chunks core state before between line planned patient few follows tells s x =
-    let part : StubPart = record { stub = stub; chunks = chunks; patience = patience; duplex = duplex_behind old.in_vain; brought = s.heard; exchanged = x.heard } in
+pub exchanged : (tape : PlanValue) (patience : ℕ) (stop : LoadStop) (left : ExchangeStop) (old : Tally) (stub : PlanValue) (chunks : List Chunk) (core : Core) (state : Exchange) (before : SessionTold Kept) (kept : Option (List Kept)) (at after : Devices) →
+    IsPlannedFor tape old.verified stub chunks → patience < 2 ^ 32 → old.in_vain < 3 → why_unstarted stop ≡ None → TellsEnd stop (ended core.phase) → LoadSession most_turns (driving (begun stub 0 false patience) core (Some stop)) before (session_told at.line.said kept) →
+    IsCarriedOut most_turns (exchanging tape chunks (exchange_begun old.verified (duplex_behind old.in_vain), state) (Some left)) at after →
+    AreBroughtIn (bringing tape patience (old, with_words (with_counts (with_counts old core.sent core.spent) state.sent 0) state.verified) (why_left left)) before.said after.line.said
+exchanged tape patience stop left old stub chunks core state before kept at after planned patient few follows tells s x =
+    let part : StubPart = record { stub = stub; chunks = chunks; patience = patience; duplex = duplex_behind old.in_vain; brought = s.heard; exchanged = x.session.heard } in
     let first : Core = led (begun stub 0 false patience) s.heard in
-    let now : Exchange = exchange_led tape.image chunks (exchange_begun old.verified (duplex_behind old.in_vain)) x.heard in
+    let now : Exchange = exchange_led tape.image chunks (exchange_begun old.verified (duplex_behind old.in_vain)) x.session.heard in
     let talk : List Item = dialogue (begun stub 0 false patience) s.heard in
-    let more : List Item = exchange_dialogue tape.image chunks (exchange_begun old.verified (duplex_behind old.in_vain)) x.heard in
+    let more : List Item = exchange_dialogue tape.image chunks (exchange_begun old.verified (duplex_behind old.in_vain)) x.session.heard in
     let turns = driving (begun stub 0 false patience) core (Some stop) in
-    let at = core_is most_turns turns before between s in
-    let started : starts part ≡ true = ap (λ (c : Core). is_started c.phase) (sym at) ∙ seen stop core follows tells in
-    let typed = brought_front stop talk s.said (session_said most_turns turns before between s) in
-    let all : talk ≡ s.said = typed.is ∙ (ap (λ keys. s.said ++ said_all keys) (typed.whole (ap failure_of follows)) ∙ append-nil s.said) in
-    let front = exchange_front left (most_turns - length x.heard) more x.said x.items in
-    let after : state.verified ≡ verified_after tape old.verified part = ap (λ (e : Exchange). e.verified) x.exchange ∙ ap (λ test. if test then now.verified else old.verified) (sym started) in
+    let now_is = core_is most_turns turns before (session_told at.line.said kept) s in
+    let started : starts part ≡ true = ap (λ (c : Core). is_started c.phase) (sym now_is) ∙ seen stop core follows tells in
+    let typed = brought_front stop talk s.said (session_said most_turns turns before (session_told at.line.said kept) s) in
+    let all : talk ≡ s.said = typed.is ∙ (ap (λ keys. s.said ++ said_all keys) (typed.whole (ap line_fault follows) (ap keep_fault follows)) ∙ append-nil s.said) in
+    let front = exchange_front left more x.session.said x.said in
+    let words_are : state.verified ≡ verified_after tape old.verified part = ap (λ (e : Exchange). e.verified) x.exchange ∙ ap (λ test. if test then now.verified else old.verified) (sym started) in
     let spoken : exchange_said tape old.verified part ≡ more = ap (λ test. if test then more else []) started in
     let keys : state.sent ≡ (if starts part then now.sent else 0) = ap (λ (e : Exchange). e.sent) x.exchange ∙ ap (λ test. if test then now.sent else 0) (sym started) in record {
       parts = part ∷ [];
@@ -205,17 +201,17 @@ exchanged tape patience stop left old stub chunks core state before between line
       followed = (inl refl, tt);
       all_start = λ none. (started, tt);
       ends = left_ends left (part ∷ []);
-      said = s.said ++ x.said;
+      said = s.said ++ x.session.said;
       unsent = front.unsent;
       items = ap (λ rest. talk ++ (rest ++ [])) spoken
           ∙ (ap (λ rest. talk ++ rest) (append-nil more ∙ front.is)
-          ∙ (ap (λ list. list ++ (x.said ++ said_all front.unsent)) all ∙ sym (append_assoc s.said x.said (said_all front.unsent))));
+          ∙ (ap (λ list. list ++ (x.session.said ++ said_all front.unsent)) all ∙ sym (append_assoc s.said x.session.said (said_all front.unsent))));
       all_sent = front.whole;
-      on_line = gains_join before.said between.said line s.said x.said s.on_line x.on_line;
-      verified = after;
-      sent = sums old.sent core.sent first.sent state.sent (if starts part then now.sent else 0) (ap (λ (c : Core). c.sent) at) keys;
-      spent = counts old.spent core.spent first.spent (ap (λ (c : Core). c.spent) at);
-      in_vain = ap (λ n. if n == old.verified then old.in_vain + 1 else 0) after;
+      on_line = gains_join before.said at.line.said after.line.said s.said x.session.said s.on_line x.session.on_line;
+      verified = words_are;
+      sent = sums old.sent core.sent first.sent state.sent (if starts part then now.sent else 0) (ap (λ (c : Core). c.sent) now_is) keys;
+      spent = counts old.spent core.spent first.spent (ap (λ (c : Core). c.spent) now_is);
+      in_vain = ap (λ n. if n == old.verified then old.in_vain + 1 else 0) words_are;
     }
   where
     sums : (old a b c d : ℕ) → a ≡ b → c ≡ d → old + a + c ≡ old + (b + d + 0)
@@ -244,7 +240,7 @@ pub record Comes (tape : PlanValue) (v : ℕ) (state : Exchange) : Type 0 where
   pub within : state.verified ≤ length tape.words
   pub few : state.verified ≤ most_words
 
-pub comes : (tape : PlanValue) (v : ℕ) (duplex : Duplex) (stub : PlanValue) (chunks : List Chunk) (stop : ExchangeStop) (state : Exchange) (before after : Devices) → IsPlannedFor tape v stub chunks → AreTurns most_turns (exchanging tape chunks (exchange_begun v duplex, state) (Some stop)) before after → Comes tape v state
+pub comes : (tape : PlanValue) (v : ℕ) (duplex : Duplex) (stub : PlanValue) (chunks : List Chunk) (stop : ExchangeStop) (state : Exchange) (before after : Devices) → IsPlannedFor tape v stub chunks → IsCarriedOut most_turns (exchanging tape chunks (exchange_begun v duplex, state) (Some stop)) before after → Comes tape v state
 comes tape v duplex stub chunks stop state before after p t =
     let are : AreChunks tape v chunks = p.planned.chunks_are.are in
     let words : state.verified ≡ words_behind v chunks state.done = t.kept.words ∙ ap (λ n. words_behind n chunks state.done) t.from_same in

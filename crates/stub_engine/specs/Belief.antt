@@ -11,7 +11,7 @@ use Rattle.stub_engine.specs.Exchanging.{Exchanging}
 abbrev pub IsBelievable : Exchanging → List Item → Type 0
 IsBelievable turns said =
     (program : Program) (x y : Link) → MayExchange turns.chunks x → Passes program x said y
-    → IsExchanged program turns.plan turns.chunks x.station.machine.memory turns.new y
+    → IsExchanged program turns.plan turns.chunks x.machine.odt.memory turns.new y
 
 -- the same of a line that tells what was said on it
 abbrev pub IsBelievableOver : Exchanging → Option (List Item) → Option (List Item) → Type 0

@@ -7,36 +7,35 @@ use Rattle.host_devices.specs.Failures.{CountsFault, IsLastFault}
 use Rattle.host_devices.specs.Turns.{most_turns}
 use Rattle.load_engine.specs.Driving.{LoadStop, driving}
 use Rattle.load_engine.specs.Driven.{IsDriven}
-use Rattle.engine.specs.Stopping.{keep_fault as load_keep_fault}
+use Rattle.engine.specs.Stopping.{keep_fault, line_fault}
+use Rattle.engine.specs.declared.stop.Stop.TheVariants.{Ended}
 use Rattle.host_devices.specs.declared.item.Kept.{Kept}
 use Rattle.engine.specs.Keeping.{Keeping, keeping}
-use Rattle.stub_engine.specs.declared.stop.Stop.{Stop}
-use Rattle.stub_engine.specs.declared.stop.Stop.TheVariants.{InVain}
+use Rattle.stub_engine.specs.declared.stop.StubsEnd.TheVariants.{InVain}
 use Rattle.stub_engine.specs.declared.tally.Tally.{Tally}
-use Rattle.stub_engine.specs.Failing.{keep_fault, line_fault}
 use Rattle.stub_engine.specs.Keeping.{IsToldBy, words_kept}
-use Rattle.stub_engine.specs.Parts.{AreBroughtIn, Bringing, failure_of, most_in_vain}
+use Rattle.stub_engine.specs.Parts.{AreBroughtIn, Bringing, StubsStop, most_in_vain}
 use Rattle.stub_engine.specs.Tallies.{IsOneMore}
 
 -- a host was driven that was to bring in a stub, and came to this answer; nothing of it was kept
 pub record IsBringerDriven (first : Core) (answer : Core × LoadStop) (before after : LineTold) : Type 0 where
   pub driven : IsDriven most_turns (driving first answer.0 (Some answer.1)) (devices before None) (devices after None)
-  pub no_keeper : load_keep_fault (Some answer.1) ≡ None
+  pub no_keeper : keep_fault (Some answer.1) ≡ None
 
 -- what stubs give a keeper: the words that became verified
 abbrev pub stubs_give : Bringing → Keeping Kept
-stubs_give stubs = keeping (words_kept stubs.plan.words stubs.old.verified stubs.new.verified) (keep_fault (failure_of stubs.stop))
+stubs_give stubs = keeping (words_kept stubs.plan.words stubs.old.verified stubs.new.verified) (keep_fault stubs.stop)
 
 -- three in a row in vain is said only where it is so
-abbrev pub TellsInVain : Option Stop → Tally → Type 0
-TellsInVain (Some InVain) tally = tally.in_vain ≡ most_in_vain
+abbrev pub TellsInVain : Option StubsStop → Tally → Type 0
+TellsInVain (Some (Ended InVain)) tally = tally.in_vain ≡ most_in_vain
 TellsInVain _ tally = ⊤
 
 -- stubs were brought in over these devices
 pub record AreStubs (stubs : Bringing) (before after : Devices) : Type 0 where
   pub brought : AreBroughtIn stubs before.line.said after.line.said
-  pub counted : CountsFault (line_fault (failure_of stubs.stop)) before.line.failures after.line.failures
-  pub named : IsLastFault (line_fault (failure_of stubs.stop)) after.line.fault
+  pub counted : CountsFault (line_fault stubs.stop) before.line.failures after.line.failures
+  pub named : IsLastFault (line_fault stubs.stop) after.line.fault
   -- what was kept
   pub told : IsToldBy (stubs_give stubs) before.kept after.kept
   -- no fewer words are verified, and no more than there are

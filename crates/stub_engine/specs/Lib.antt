@@ -5,5 +5,4 @@ pub mod Belief
 pub mod Brought
 pub mod Exchanged
 pub mod Exchanging
-pub mod Failing
 pub mod Keeping

@@ -8,21 +8,24 @@ use Rattle.host_core.specs.Laws.{led}
 use Rattle.host_devices.specs.declared.item.Item.{Item}
 use Rattle.host_devices.specs.Told.{Gains}
 use Rattle.load_engine.specs.Driving.{LoadStop}
-use Rattle.engine.specs.declared.stop.Stop.TheVariants.{Ended as LoadEnded, LineFailed as LoadLineFailed}
-use Rattle.engine.specs.declared.stop.Stop.TheVariants.{KeepFailed as LoadKeepFailed, TurnsOver as LoadTurnsOver}
+use Rattle.engine.specs.Stopping.{keep_fault, line_fault}
+use Rattle.engine.specs.declared.stop.Stop.{Stop}
+use Rattle.engine.specs.declared.stop.Stop.TheVariants.{Ended, LineFailed, KeepFailed, TurnsOver}
 use Rattle.exchange_core.specs.Chunk.{words_behind}
 use Rattle.exchange_core.specs.Exchange.{begun as exchange_begun, led as exchange_led}
 use Rattle.exchange_law.specs.Law.{said_all}
-use Rattle.stub_engine.specs.declared.exchange_stop.ExchangeStop.{ExchangeStop}
-use Rattle.stub_engine.specs.declared.exchange_stop.ExchangeStop.TheVariants.{Ended as ExchangeEnded, LineFailed as ExchangeLineFailed}
-use Rattle.stub_engine.specs.declared.exchange_stop.ExchangeStop.TheVariants.{KeepFailed as ExchangeKeepFailed, TurnsOver as ExchangeTurnsOver}
 use Rattle.exchange_law.specs.Start.{program as stub_program}
 use Rattle.load_lives.specs.StubParts.{AreStubParts, StubPart, bringer, starts, stubs_said, verified_after, verified_by}
-use Rattle.stub_engine.specs.declared.stop.Stop.{Stop}
-use Rattle.stub_engine.specs.declared.stop.Stop.TheVariants.{NotStarted, TurnsOver, LineFailed, KeepFailed}
+use Rattle.stub_engine.specs.declared.stop.StubsEnd.{StubsEnd}
+use Rattle.stub_engine.specs.declared.stop.StubsEnd.TheVariants.{NotStarted}
 use Rattle.stub_engine.specs.declared.tally.Tally.{Tally}
+use Rattle.stub_engine.specs.Exchanging.{ExchangeStop}
 use Rattle.stub_engine.specs.Planning.{least_gain}
 use Rattle.stub_engine.specs.Tallies.{duplex_behind}
+
+-- why no more are brought in
+abbrev pub StubsStop : Type 0
+StubsStop = Stop StubsEnd
 
 -- so many stubs in a row that verify nothing are enough
 abbrev pub most_in_vain : ℕ
@@ -66,8 +69,8 @@ pub record EndsWith (parts : List StubPart) (end : End) : Type 0 where
   pub end_is : ended (led (bringer last) last.brought).phase ≡ Some end
 
 -- a stop that names an end names that one
-abbrev pub TellsEnd : Option Stop → List StubPart → Type 0
-TellsEnd (Some (NotStarted end)) parts = EndsWith parts end
+abbrev pub TellsEnd : Option StubsStop → List StubPart → Type 0
+TellsEnd (Some (Ended (NotStarted end))) parts = EndsWith parts end
 TellsEnd _ parts = ⊤
 
 -- the characters that were sent in a part
@@ -87,28 +90,22 @@ spent_by [] = 0
 spent_by (part ∷ more) = (led (bringer part) part.brought).spent + spent_by more
 
 -- why no stub is brought in behind a host that stopped so, which was to bring one in: where it saw the stub start the exchange follows
-abbrev pub why_ended : End → Option Stop
+abbrev pub why_ended : End → Option StubsStop
 why_ended Started = None
-why_ended end = Some (NotStarted end)
+why_ended end = Some (Ended (NotStarted end))
 
-abbrev pub why_unstarted : LoadStop → Option Stop
-why_unstarted (LoadEnded end) = why_ended end
-why_unstarted (LoadLineFailed fault) = Some (LineFailed fault)
-why_unstarted (LoadKeepFailed fault) = Some (KeepFailed fault)
-why_unstarted LoadTurnsOver = Some TurnsOver
+abbrev pub why_unstarted : LoadStop → Option StubsStop
+why_unstarted (Ended end) = why_ended end
+why_unstarted (LineFailed fault) = Some (LineFailed fault)
+why_unstarted (KeepFailed fault) = Some (KeepFailed fault)
+why_unstarted TurnsOver = Some TurnsOver
 
 -- why no stub is brought in behind an exchange that stopped so: where it ended another may follow
-abbrev pub why_left : ExchangeStop → Option Stop
-why_left (ExchangeEnded end) = None
-why_left (ExchangeLineFailed fault) = Some (LineFailed fault)
-why_left (ExchangeKeepFailed fault) = Some (KeepFailed fault)
-why_left ExchangeTurnsOver = Some TurnsOver
-
--- the failure of a device that a stop names, as an exchange names it
-abbrev pub failure_of : Option Stop → Option ExchangeStop
-failure_of (Some (LineFailed fault)) = Some (ExchangeLineFailed fault)
-failure_of (Some (KeepFailed fault)) = Some (ExchangeKeepFailed fault)
-failure_of _ = None
+abbrev pub why_left : ExchangeStop → Option StubsStop
+why_left (Ended end) = None
+why_left (LineFailed fault) = Some (LineFailed fault)
+why_left (KeepFailed fault) = Some (KeepFailed fault)
+why_left TurnsOver = Some TurnsOver
 
 -- stubs that are brought in one after another: for this plan, by hosts of this patience, from one tally to another, and how that stopped (None: another
 -- may follow)
@@ -117,9 +114,9 @@ pub record Bringing : Type 0 where
   pub patience : ℕ
   pub old : Tally
   pub new : Tally
-  pub stop : Option Stop
+  pub stop : Option StubsStop
 
-abbrev pub bringing : PlanValue → ℕ → Tally × Tally → Option Stop → Bringing
+abbrev pub bringing : PlanValue → ℕ → Tally × Tally → Option StubsStop → Bringing
 bringing plan patience tallies stop = record { plan = plan; patience = patience; old = tallies.0; new = tallies.1; stop = stop }
 
 -- these are stubs' parts of a load, with what the line told before and tells after
@@ -135,7 +132,7 @@ pub record AreBroughtIn (stubs : Bringing) (line line' : Option (List Item)) : T
   pub said : List Item
   pub unsent : List ℕ
   pub items : stubs_said stubs.plan stubs.old.verified parts ≡ said ++ said_all unsent
-  pub all_sent : failure_of stubs.stop ≡ None → unsent ≡ []
+  pub all_sent : line_fault stubs.stop ≡ None → keep_fault stubs.stop ≡ None → unsent ≡ []
   pub on_line : Gains line line' said
   -- how far they came
   pub verified : stubs.new.verified ≡ verified_by stubs.plan stubs.old.verified parts

@@ -7,8 +7,8 @@ use Rattle.exchange_core.specs.Chunking.{AreChunksUpTo, AreStretches}
 use Rattle.exchange_core.specs.Window.{IsWindow}
 use Rattle.load_lives.specs.Planned.{IsPlanned}
 use Rattle.stub_engine.specs.declared.planning.StubLayout.{StubLayout}
-use Rattle.stub_engine.specs.declared.stop.Stop.{Stop}
-use Rattle.stub_engine.specs.declared.stop.Stop.TheVariants.{TooFewWords, NoRoom, Memory}
+use Rattle.stub_engine.specs.declared.stop.StubsEnd.{StubsEnd}
+use Rattle.stub_engine.specs.declared.stop.StubsEnd.TheVariants.{TooFewWords, NoRoom, Memory}
 
 -- a stub is worth its time where it may gain so many words
 abbrev pub least_gain : ℕ
@@ -43,12 +43,12 @@ pub data HasNoRoom (tape : PlanValue) (from count : ℕ) : Type 0 where
   MoreStretches : (layout : StubLayout) → IsLayout tape from count layout → count < length layout.stretches.items → HasNoRoom tape from count
 
 -- why none is laid out that has so many stretches
-abbrev pub IsNotLaidOut : PlanValue → ℕ → ℕ → Stop → Type 0
+abbrev pub IsNotLaidOut : PlanValue → ℕ → ℕ → StubsEnd → Type 0
 IsNotLaidOut tape from count TooFewWords = LeavesTooFew tape from count
 IsNotLaidOut tape from count NoRoom = HasNoRoom tape from count
 IsNotLaidOut tape from count Memory = ⊤
 IsNotLaidOut tape from count _ = ⊥
 
 -- why none is planned
-abbrev pub IsUnplanned : PlanValue → ℕ → Stop → Type 0
-IsUnplanned tape from stop = (count : ℕ) × IsTried tape from count × IsNotLaidOut tape from count stop
+abbrev pub IsUnplanned : PlanValue → ℕ → StubsEnd → Type 0
+IsUnplanned tape from end = (count : ℕ) × IsTried tape from count × IsNotLaidOut tape from count end

@@ -5,23 +5,22 @@
 //! says that what it does are the stubs' parts of a load, as the law over loads in a row has them:
 //! what is said, what is kept, and how far it came.
 //!
-//! `exchange` hears one thing from the line, lets the exchange take its step, has the words kept that
-//! became verified, and only then sends the characters that the step answered. Its contract says that
-//! nothing else is said and nothing else is kept, whatever the line, the keeper and the peer; and that
-//! over the line of a station on which the stub runs the verified words stand. Used by `machine_load`.
+//! `exchange` has the one engine lead an exchange as its host: the words that became verified are kept,
+//! and only then the characters of the step are sent. Its contract says that nothing else is said and
+//! nothing else is kept, whatever the line, the keeper and the peer; and that over the line of a station
+//! on which the stub runs the verified words stand. Used by `machine_load`.
 #![tactic(auto)]
 
 mod bringing;
-mod exchange_stop;
 mod exchanging;
+mod hosting;
 mod planning;
 mod stop;
 mod stubs;
 mod tally;
 mod unkept;
 
-pub use exchange_stop::ExchangeStop;
-pub use exchanging::exchange;
-pub use stop::Stop;
+pub use exchanging::{ExchangeStop, exchange};
+pub use stop::{Stop, StubsEnd};
 pub use stubs::bring_in;
 pub use tally::Tally;

@@ -2,7 +2,7 @@
 ghost use Rattle.std.specs.Prelude.{◌≡◌, ◌≤◌, ◌^◌, length, IfOk, IfErr};
 ghost use Rattle.stub_engine.specs.Planning.{IsLayout, IsNotLaidOut, IsPlannedFor, IsUnplanned};
 
-use crate::stop::Stop;
+use crate::stop::StubsEnd;
 use exchange_core::{Chunk, Stretch, chunks_of, stretches_of, stub_plan, window_for};
 use std::alloc::Global;
 use stub::{stub_size, stub_words};
@@ -26,20 +26,20 @@ pub(crate) struct PlannedStub {
 ///
 /// How long a stub is depends on its stretches, and these on where it lies: so room is looked for with one
 /// stretch first, and then with as many as there were; a lower window has no more of them.
-pub(crate) fn planned_stub(alloc: Global, plan: &Plan, from: u32) -> Result<PlannedStub, Stop>
+pub(crate) fn planned_stub(alloc: Global, plan: &Plan, from: u32) -> Result<PlannedStub, StubsEnd>
     requires within { from ≤ length plan.now.words }
     ensures planned { IfOk result (λ stub. IsPlannedFor plan.now from stub.plan stub.chunks.items) }
     ensures unplanned { IfErr result (IsUnplanned plan.now from) }
 {
     let words = plan.words().len() as u32;
     if words - from < LEAST_GAIN {
-        return Err(Stop::TooFewWords);
+        return Err(StubsEnd::TooFewWords);
     }
     let first = laid_out(alloc, plan, from, 1)?;
     let count = first.stretches.len();
     let layout = laid_out(alloc, plan, from, count)?;
     if layout.stretches.len() > count {
-        return Err(Stop::NoRoom);
+        return Err(StubsEnd::NoRoom);
     }
     brought_in_by(alloc, plan, from, layout)
 }
@@ -53,16 +53,16 @@ struct StubLayout {
 }
 
 // Where a stub lies that has room for so many stretches.
-fn laid_out(alloc: Global, plan: &Plan, from: u32, count: usize) -> Result<StubLayout, Stop>
+fn laid_out(alloc: Global, plan: &Plan, from: u32, count: usize) -> Result<StubLayout, StubsEnd>
     requires few { count ≤ 2 ^ 16 }
     ensures layout { IfOk result (IsLayout plan.now from count) }
     ensures unplanned { IfErr result (IsNotLaidOut plan.now from count) }
 {
     let Some(window) = window_for(plan, from, stub_size(count) as u32) else {
-        return Err(Stop::NoRoom);
+        return Err(StubsEnd::NoRoom);
     };
     if window - from < LEAST_GAIN {
-        return Err(Stop::TooFewWords);
+        return Err(StubsEnd::TooFewWords);
     }
     let chunks = chunks_of(alloc, plan, from, window)?;
     let stretches = stretches_of(alloc, &chunks)?;
@@ -79,10 +79,10 @@ fn brought_in_by(
     plan: &Plan,
     from: u32,
     layout: StubLayout,
-) -> Result<PlannedStub, Stop>
+) -> Result<PlannedStub, StubsEnd>
     requires layout { IsLayout plan.now from (length layout.stretches.items) layout }
     ensures planned { IfOk result (λ stub. IsPlannedFor plan.now from stub.plan stub.chunks.items) }
-    ensures memory { IfErr result (λ stop. stop ≡ Stop.Memory) }
+    ensures memory { IfErr result (λ end. end ≡ StubsEnd.Memory) }
 {
     let StubLayout {
         window,

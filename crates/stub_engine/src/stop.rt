@@ -1,10 +1,9 @@
 use host_core::End;
-use host_devices::{KeepFault, LineFault};
 use std::alloc::AllocError;
 
-/// Why no more stubs are brought in.
+/// Why no more stubs are brought in, where no device failed.
 #[derive(Clone, Copy, Debug, PartialEq, Eq)]
-pub enum Stop {
+pub enum StubsEnd {
     /// Fewer than 256 words are to be gained by a stub.
     TooFewWords,
 
@@ -17,26 +16,21 @@ pub enum Stop {
     /// The host that brought in a stub did not see it start, and came to this end.
     NotStarted(End),
 
-    /// The turns of that host, or of an exchange, were over before it had an end.
-    TurnsOver,
-
-    /// A call of the line failed.
-    LineFailed(LineFault),
-
-    /// A call of the keeper failed.
-    KeepFailed(KeepFault),
-
     /// A growth was refused, before the first key of a stub.
     Memory,
 }
 
-impl From<AllocError> for Stop {
+/// Why no more stubs are brought in. `TurnsOver` says that the turns of a host that was to bring one in, or of an
+/// exchange, were over before it had an end.
+pub type Stop = engine::Stop<StubsEnd>;
+
+impl From<AllocError> for StubsEnd {
     ghost use Rattle.std.specs.Prelude.{◌≡◌};
-    ghost use Rattle.stub_engine.specs.declared.stop.Stop.TheVariants.{Memory};
+    ghost use Rattle.stub_engine.specs.declared.stop.StubsEnd.TheVariants.{Memory};
 
-    ghost from_gives = { λ _ stop. stop ≡ Memory };
+    ghost from_gives = { λ _ end. end ≡ Memory };
 
-    fn from(_e: AllocError) -> Stop {
-        Stop::Memory
+    fn from(_e: AllocError) -> StubsEnd {
+        StubsEnd::Memory
     }
 }

@@ -9,10 +9,9 @@ ghost use Rattle.stub_engine.specs.Parts.{bringing, most_in_vain, why_left, why_
 ghost use Rattle.stub_engine.specs.Tallies.{begun};
 
 use crate::bringing::bring;
-use crate::exchange_stop::ExchangeStop;
-use crate::exchanging::exchange;
+use crate::exchanging::{ExchangeStop, exchange};
 use crate::planning::{PlannedStub, planned_stub};
-use crate::stop::Stop;
+use crate::stop::{Stop, StubsEnd};
 use crate::tally::Tally;
 use host_core::End;
 use host_devices::{Keep, Line, MOST_TURNS, Onlooker};
@@ -51,7 +50,7 @@ pub fn bring_in<L: Line, K: Keep, O: Onlooker>(
             return (tally, stop);
         }
     }
-    (tally, Stop::InVain)
+    (tally, Stop::Ended(StubsEnd::InVain))
 }
 
 // One stub's part: it is planned, brought in, and exchanged with.
@@ -74,7 +73,7 @@ fn part<L: Line, K: Keep, O: Onlooker>(
 {
     let planned = match planned_stub(alloc, plan, tally.verified) {
         Ok(planned) => planned,
-        Err(stop) => return Err(stop),
+        Err(end) => return Err(Stop::Ended(end)),
     };
     let PlannedStub { plan: stub, chunks } = planned;
     onlooker.stub_begins();
@@ -106,7 +105,7 @@ fn why_unstarted(stop: LoadStop) -> Option<Stop>
 {
     match stop {
         LoadStop::Ended(End::Started) => None,
-        LoadStop::Ended(end) => Some(Stop::NotStarted(end)),
+        LoadStop::Ended(end) => Some(Stop::Ended(StubsEnd::NotStarted(end))),
         LoadStop::LineFailed(fault) => Some(Stop::LineFailed(fault)),
         LoadStop::KeepFailed(fault) => Some(Stop::KeepFailed(fault)),
         LoadStop::TurnsOver => Some(Stop::TurnsOver),

@@ -17,4 +17,4 @@ mod word;
 
 pub use plan::Plan;
 pub use start::Start;
-pub use word::{Word, merge, stands};
+pub use word::{BOTH_BYTES, HIGH_BYTE, LOW_BYTE, Word, merge, stands};

@@ -7,14 +7,14 @@ ghost use Rattle.tape_image.specs.Plan.{word_of};
 use std::marker::Model;
 use tape_values::TOP;
 
-// The mask of the low byte, at the word's own address.
-const LOW_BYTE: u16 = 0o377;
+/// The mask of the low byte, at the word's own address.
+pub const LOW_BYTE: u16 = 0o377;
 
-// The mask of the high byte, at the next address.
-const HIGH_BYTE: u16 = 0o177400;
+/// The mask of the high byte, at the next address.
+pub const HIGH_BYTE: u16 = 0o177400;
 
-// The mask of both bytes.
-const BOTH_BYTES: u16 = 0o177777;
+/// The mask of both bytes.
+pub const BOTH_BYTES: u16 = 0o177777;
 
 // How many values a byte has: a word is its low byte plus so many times its high byte.
 const BYTE: u16 = 256;

@@ -1,14 +1,12 @@
 //! What a line says.
 ghost use Rattle.std.specs.Prelude.{◌≡◌, ◌*◌, ◌+◌, ◌≤◌, ◌<◌, length, IfOk, IfSome, MatchResult, position};
-ghost use Rattle.std.specs.List.{flat_map};
-ghost use Rattle.tape_values.specs.Block.{low_first};
 ghost use Rattle.tape_making.specs.Words.{HasNumbers, Says, is_remark, is_slash, judged, without_remark};
 ghost use Rattle.tape_making.specs.Reading.{IsNone, said_by};
 
 use crate::number::numbers_in;
 use crate::refusal::{RowFault, WordsWhy};
 use std::alloc::{AllocError, Global};
-use tape_values::{Block, TOP};
+use tape_values::{Block, TOP, low_bytes_first};
 
 /// What a line says: nothing, or the bytes of its words at its address.
 ///
@@ -88,16 +86,4 @@ fn row_of(alloc: Global, numbers: &[u16]) -> Result<Option<Block>, RowFault>
         address: *address,
         bytes: low_bytes_first(alloc, words)?,
     }))
-}
-
-// The bytes of words, of each the low one first.
-fn low_bytes_first(alloc: Global, words: &[u16]) -> Result<Vec<u8>, AllocError>
-    requires { length words.now ≤ 28672 }
-    ensures { IfOk result (λ bytes. bytes.items ≡ flat_map low_first words.now) }
-{
-    let mut bytes = Vec::with_capacity(alloc, 2 * words.len())?;
-    for word in words {
-        bytes.extend_from_slice(&word.to_le_bytes())?;
-    }
-    Ok(bytes)
 }

@@ -1,3 +1,8 @@
+ghost use Rattle.std.specs.Prelude.{◌≡◌, ◌≤◌, length, IfOk};
+ghost use Rattle.std.specs.List.{flat_map};
+ghost use Rattle.tape_values.specs.Block.{low_first};
+
+use std::alloc::{AllocError, Global};
 use std::marker::Model;
 
 /// The bytes of a block besides its data: the header and the checksum.
@@ -27,4 +32,16 @@ impl Model for Block {
     ghost coded = { block_code };
 
     ghost view = { λ b. record { address = b.address; bytes = b.bytes.items } };
+}
+
+/// The bytes of words, of each the low one first. The one error is a growth that was refused.
+pub fn low_bytes_first(alloc: Global, words: &[u16]) -> Result<Vec<u8>, AllocError>
+    requires { length words.now ≤ 28672 }
+    ensures { IfOk result (λ bytes. bytes.items ≡ flat_map low_first words.now) }
+{
+    let mut bytes = Vec::with_capacity(alloc, 2 * words.len())?;
+    for word in words {
+        bytes.extend_from_slice(&word.to_le_bytes())?;
+    }
+    Ok(bytes)
 }

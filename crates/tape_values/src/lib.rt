@@ -11,6 +11,6 @@ mod block;
 mod memory;
 mod tape;
 
-pub use block::{Block, FRAME, TOP};
+pub use block::{Block, FRAME, TOP, low_bytes_first};
 pub use memory::{Memory, OUT_OF_MEMORY};
 pub use tape::{BadTape, TAPE_LIMIT, Tape};

@@ -1,13 +1,13 @@
 use Rattle.std.proofs.Common.{◌≡◌, None, Some, refl, arith, ap, sym, subst}
 use Rattle.host_devices.specs.Devices.{devices_of}
 use Rattle.engine.specs.Keeping.{progress_calls}
+use Rattle.engine.specs.Stopping.{keep_fault}
 use Rattle.stub_engine.proofs.Bounds.{bounded, few_sent, few_spent}
 use Rattle.stub_engine.proofs.Brought.{all_in_vain, no_stubs, stubs_join}
 use Rattle.stub_engine.proofs.Keepings.{kept_none, kept_then}
 use Rattle.stub_engine.specs.declared.tally.Tally.{Tally}
 use Rattle.stub_engine.specs.Brought.{AreStubs}
-use Rattle.stub_engine.specs.Failing.{keep_fault}
-use Rattle.stub_engine.specs.Parts.{bringing, failure_of}
+use Rattle.stub_engine.specs.Parts.{bringing}
 use Rattle.stub_engine.specs.Tallies.{begun}
 use Rattle.stub_engine.proofs.stubs.bring_in.Goals as goal
 
@@ -37,7 +37,7 @@ returns-in-Err-clause-brought g c =
 
 pub returns-in-Err-clause-kept : goal.returns-in-Err-clause-kept
 returns-in-Err-clause-kept g c =
-    kept_then (progress_calls g.K.Keep) (keep_fault (failure_of (Some c.in-Err.stop))) c.args.keep.now c.loop-tally.keep c.part.new.keep c.args.plan.now.words c.args.verified c.loop-tally.tally.verified c.part.new.tally.verified c.loop-tally.invariant.stubs.grows c.in-Err.ensures.brought.is_one.grows c.loop-tally.invariant.kept_by
+    kept_then (progress_calls g.K.Keep) (keep_fault (Some c.in-Err.stop)) c.args.keep.now c.loop-tally.keep c.part.new.keep c.args.plan.now.words c.args.verified c.loop-tally.tally.verified c.part.new.tally.verified c.loop-tally.invariant.stubs.grows c.in-Err.ensures.brought.is_one.grows c.loop-tally.invariant.kept_by
     c.in-Err.ensures.kept
 
 pub loop-tally-preserved : goal.loop-tally-preserved

@@ -1,24 +1,22 @@
 use Rattle.std.proofs.Common.{arith, ap, sym, subst, ◌∙◌, Some}
 use Rattle.host_devices.specs.Devices.{devices_of, line_told}
 use Rattle.engine.specs.Keeping.{keeping, progress_calls}
+use Rattle.engine.specs.Stopping.{keep_fault}
 use Rattle.host_devices.specs.Failures.{fault_of}
 use Rattle.stub_engine.specs.declared.tally.Tally.{Tally}
-use Rattle.stub_engine.specs.Failing.{keep_fault}
 use Rattle.stub_engine.specs.Keeping.{IsKeptBy, words_kept}
-use Rattle.stub_engine.specs.Parts.{failure_of}
 use Rattle.stub_engine.proofs.Brought.{kept_nothing, not_started, started, unplanned}
+use Rattle.stub_engine.proofs.Keepings.{kept_none}
 use Rattle.stub_engine.proofs.Parts.{tally_exchanged, tally_unstarted}
-use Rattle.stub_engine.proofs.Stops.{is_some, keep_left, keep_unstarted, unplanned_whole}
+use Rattle.stub_engine.proofs.Stops.{is_some, keep_left, keep_unstarted}
 use Rattle.stub_engine.proofs.stubs.part.Goals as goal
 
 -- no stub is planned
 pub returns-in-Err-clause-brought : goal.returns-in-Err-clause-brought
-returns-in-Err-clause-brought g c = unplanned c.args.plan.now c.args.patience c.in-Err.stop c.args.tally.now (devices_of g.L.Line g.K.Keep c.args.line.now c.args.keep.now) c.in-Err.ensures.unplanned c.requires.within
+returns-in-Err-clause-brought g c = unplanned c.args.plan.now c.args.patience c.in-Err.end c.args.tally.now (devices_of g.L.Line g.K.Keep c.args.line.now c.args.keep.now) c.in-Err.ensures.unplanned c.requires.within
 
 pub returns-in-Err-clause-kept : goal.returns-in-Err-clause-kept
-returns-in-Err-clause-kept g c =
-    let whole = unplanned_whole c.in-Err.stop c.in-Err.ensures.unplanned in
-    kept_nothing (progress_calls g.K.Keep) (keep_fault (failure_of (Some c.in-Err.stop))) c.args.keep.now c.args.plan.now.words c.args.tally.now.verified c.args.tally.now.verified (ap keep_fault whole.no_failure) (omega arith)
+returns-in-Err-clause-kept g c = kept_none (progress_calls g.K.Keep) c.args.keep.now c.args.plan.now.words c.args.tally.now.verified c.args.tally.now.verified (omega arith)
 
 -- the stub did not start
 pub returns-in-Some-clause-brought : goal.returns-in-Some-clause-brought
@@ -30,8 +28,8 @@ returns-in-Some-clause-brought g c =
 pub returns-in-Some-clause-kept : goal.returns-in-Some-clause-kept
 returns-in-Some-clause-kept g c =
     let same = ap (λ (t : Tally). t.verified) c.with_words.ensures in
-    kept_nothing (progress_calls g.K.Keep) (keep_fault (failure_of (Some c.in-Some.stop))) c.args.keep.now c.args.plan.now.words c.args.tally.now.verified c.with_words.result.verified
-    (ap (λ why. keep_fault (failure_of why)) c.in-Some.ensures ∙ keep_unstarted c.bring-core.result.1 c.bring-core.ensures.no_keeper) (omega (arith, same))
+    kept_nothing (progress_calls g.K.Keep) (keep_fault (Some c.in-Some.stop)) c.args.keep.now c.args.plan.now.words c.args.tally.now.verified c.with_words.result.verified
+    (ap keep_fault c.in-Some.ensures ∙ keep_unstarted c.bring-core.result.1 c.bring-core.ensures.no_keeper) (omega (arith, same))
 
 -- an exchange followed
 pub returns-clause-brought : goal.returns-clause-brought

@@ -1,4 +1,4 @@
-use Rattle.std.proofs.Common.{◌≡◌, List, ℕ, length, ap, ◌∙◌}
+use Rattle.std.proofs.Common.{◌≡◌, length, ap, ◌∙◌}
 use Rattle.reading_core.specs.Reader.{Reader}
 use Rattle.reading_core.specs.ReadingTable.{turn_of, values_after}
 use Rattle.reading_core.proofs.Lives.{asked}

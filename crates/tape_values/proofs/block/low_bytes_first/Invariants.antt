@@ -2,7 +2,7 @@
 use Rattle.std.proofs.Common.{◌≡◌, take}
 use Rattle.std.specs.List.{flat_map}
 use Rattle.tape_values.specs.Block.{low_first}
-use Rattle.tape_making.proofs.line.low_bytes_first.Given as goal
+use Rattle.tape_values.proofs.block.low_bytes_first.Given as goal
 
 abbrev pub invariant-loop-word : goal.invariant-loop-word
 invariant-loop-word l = l.bytes.items ≡ flat_map low_first (take l.word-index l.words)

@@ -2,7 +2,7 @@
 
 use host_core::Heard;
 use host_devices::{Onlooker, Sight};
-use progress_display::{KeptIn, ProgressLine, Showing};
+use progress_display::{KeptIn, ProgressLine, Showing, TestedWord};
 use std::alloc::Global;
 use std::cell::{Cell, RefCell};
 use std::fmt::Display;
@@ -386,6 +386,7 @@ fn the_text_says_words_mishaps_and_time(rt: HostRuntime) {
     for row in &SHOWINGS {
         let (done, words, is_listening, mishaps, seconds_left, text) = *row;
         let showing = Showing {
+            word: None,
             done,
             words,
             is_listening,
@@ -420,6 +421,10 @@ fn a_stub_is_shown_while_it_is_typed_and_then_its_own_pace(rt: HostRuntime) {
 const LONGEST: &str =
     "1 of 4294967295 words, 0%, listening, 4294967295 mishaps, 5124095576030:25:51 left";
 
+// The same of a test.
+const LONGEST_OF_TEST: &str =
+    "testing 157776, it held 177777: 1 of 4294967295 words, 0%, listening, 4294967295 mishaps, 5124095576030:25:51 left";
+
 #[test]
 fn the_longest_line_has_room(rt: HostRuntime) {
     let clock = SetClock::new(Some(0));
@@ -434,6 +439,54 @@ fn the_longest_line_has_room(rt: HostRuntime) {
         spent: u32::MAX,
     });
     assert!(rt; terminal.has_shown(2, LONGEST));
+    line.tests(TestedWord {
+        address: 0o157776,
+        held: 0o177777,
+    });
+    assert!(rt; terminal.has_shown(3, LONGEST_OF_TEST));
+}
+
+// The words of a test, each 124 characters long: what is shown of a word as soon as it holds another number, however
+// lately something was shown, and that it is not named any more once it counts.
+#[test]
+fn a_tested_word_is_named_at_once(rt: HostRuntime) {
+    let clock = SetClock::new(Some(BEGINNING));
+    let terminal = Screen::new(rt.alloc());
+    let line = ProgressLine::new(&clock, &terminal, KeptIn::Nothing);
+    line.begins(0, 448);
+    clock.millis.set(Some(BEGINNING + 100));
+    line.sees(answered(b'Z', 0, 0));
+    assert!(rt; terminal.has_shown(2, "0 of 448 words, 0%"));
+    clock.millis.set(Some(BEGINNING + 101));
+    line.tests(TestedWord {
+        address: 0,
+        held: 0o123,
+    });
+    assert!(rt; terminal.has_shown(3, "testing 000000, it held 000123: 0 of 448 words, 0%"));
+    line.sees(answered(b'1', 0, 1));
+    assert!(rt; terminal.has_shown(3, "testing 000000, it held 000123: 0 of 448 words, 0%"));
+    clock.millis.set(Some(BEGINNING + 250));
+    line.sees(answered(b'1', 0, 2));
+    assert!(rt;
+        terminal.has_shown(
+            4,
+            "testing 000000, it held 000123: 0 of 448 words, 0%, 2 mishaps"
+        )
+    );
+    clock.millis.set(Some(BEGINNING + 450));
+    line.sees(answered(b'\r', 1, 2));
+    assert!(rt; terminal.has_shown(5, "1 of 448 words, 0%, 2 mishaps, 1:29 left"));
+    clock.millis.set(Some(BEGINNING + 460));
+    line.tests(TestedWord {
+        address: 0o200,
+        held: 0o177777,
+    });
+    assert!(rt;
+        terminal.has_shown(
+            6,
+            "testing 000200, it held 177777: 1 of 448 words, 0%, 2 mishaps, 1:33 left"
+        )
+    );
 }
 
 // How many characters are heard behind the first key of a load of 28 words, and what is then shown of it: a console
@@ -574,4 +627,28 @@ fn a_long_load_says_once_how_long_it_takes(rt: HostRuntime) {
             "{words}"
         );
     }
+}
+
+// Types keys, and hears what comes behind the last of them.
+fn says(line: &ProgressLine<'_, SetClock, Screen>, keys: &[u8], heard: &[u8]) {
+    for key in keys {
+        line.sees(answered(*key, 0, 0));
+    }
+    for character in heard {
+        line.sees(noticed(Heard::Got(*character), 0));
+    }
+}
+
+#[test]
+fn a_word_that_does_not_hold_is_known_at_last(rt: HostRuntime) {
+    let clock = SetClock::new(Some(BEGINNING));
+    let terminal = Screen::new(rt.alloc());
+    let line = ProgressLine::new(&clock, &terminal, KeptIn::Nothing);
+    line.begins(0, 1);
+    says(&line, b"Z", b"?\r\n");
+    says(&line, b"001000/", b"/000017 ");
+    says(&line, b"123456\r", b"\r\n");
+    says(&line, b"001000/", b"/ 123452 ");
+    let word = line.last_word();
+    assert!(rt; word.given == 0o123456 && word.read == 0o123452);
 }

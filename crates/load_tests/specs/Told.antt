@@ -25,7 +25,7 @@ abbrev pub record_told : Option (List DiskStep) → List ℕ → FileKnown → R
 record_told asked name known = record { asked = asked; name = name; known = known }
 
 -- so much was asked of the disk on which it is, and then it was closed
-abbrev pub IsAskedAndClosed : (RecordDisk → FileKnown → List DiskStep → Type 0) → RecordDisk → Option (List DiskStep) → Type 0
+abbrev pub IsAskedAndClosed : (RecordDisk → RecordDisk → List DiskStep → Type 0) → RecordDisk → Option (List DiskStep) → Type 0
 IsAskedAndClosed said disk asked = (last : RecordDisk) × DiskAsked (Some disk) (Some last) said × IsClosedBehind last asked
 
 -- a shelf on a disk of which no file's text is known, for a tape of this name, and its room

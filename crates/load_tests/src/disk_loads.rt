@@ -1,8 +1,8 @@
 //! Loads of a machine in memory, with a record on a disk that tells what it was asked.
 ghost use Rattle.std.specs.Prelude.{IfErr, IfOk, option_map};
 ghost use Rattle.machine_load.specs.RecordDisk.{disk_asked_by, disk_asked_before};
-ghost use Rattle.record_file.specs.Taking.{kind_of};
-ghost use Rattle.simulated_system.specs.ToldSteps.{steps_of};
+ghost use Rattle.record_file.specs.Known.{known_of};
+ghost use Rattle.simulated_system.specs.ToldSteps.{steps_of, written_to};
 ghost use Rattle.load_tests.specs.Told.{record_told, IsAskedAndClosed};
 
 use crate::memory_reach::MemoryReach;
@@ -26,10 +26,10 @@ pub(crate) fn load_on_disk<'a, W: Write>(
     out: &mut W,
 ) -> (Result<Outcome<MemoryLine>, LoadFault>, ToldDisk<'a>)
     ensures disk { IfOk result.0 (λ outcome. IsAskedAndClosed (disk_asked_by outcome.end outcome.line)
-        (record_told (steps_of around.entry.records.disk.asked) around.entry.records.name.now (option_map kind_of around.entry.records.held))
+        (record_told (steps_of around.entry.records.disk.asked) around.entry.records.name.now (option_map (known_of written_to) around.entry.records.held))
         (steps_of result.1.asked)) }
     ensures disk_in_vain { IfErr result.0 (λ fault. IsAskedAndClosed (disk_asked_before fault)
-        (record_told (steps_of around.entry.records.disk.asked) around.entry.records.name.now (option_map kind_of around.entry.records.held))
+        (record_told (steps_of around.entry.records.disk.asked) around.entry.records.name.now (option_map (known_of written_to) around.entry.records.held))
         (steps_of result.1.asked)) }
 {
     let outcome = load(alloc, plan, options, &mut around, out, &Unwatched);

@@ -13,6 +13,7 @@ use Rattle.host_devices.specs.declared.item.Item.{Item}
 use Rattle.host_devices.specs.Dialogue.{dialogue, keys_of}
 use Rattle.host_devices.specs.Turns.{most_turns}
 use Rattle.load_engine.specs.Driving.{LoadSession, LoadStop as Stop, driving}
+use Rattle.engine.specs.Stopping.{keep_fault, line_fault}
 use Rattle.engine.specs.declared.stop.Stop.TheVariants.{Ended, LineFailed, KeepFailed, TurnsOver}
 use Rattle.host_devices.specs.declared.item.Kept.{Kept}
 use Rattle.engine.specs.Keeping.{IsKeptBy}
@@ -31,11 +32,9 @@ use Rattle.load_record.specs.Reading.{Says}
 use Rattle.load_record.specs.RecordText.{record_text}
 use Rattle.exchange_law.specs.Law.{said_all}
 use Rattle.stub_engine.specs.Keeping.{words_kept}
-use Rattle.stub_engine.proofs.Stretches.{said_append}
+use Rattle.stub_engine.proofs.Sessions.{said_append}
 use Rattle.exchange_law.specs.Start.{program as stub_program}
-use Rattle.stub_engine.specs.declared.stop.Stop.{Stop as StubStop}
-use Rattle.stub_engine.specs.declared.stop.Stop.TheVariants as stub
-use Rattle.stub_engine.specs.Parts.{failure_of}
+use Rattle.stub_engine.specs.Parts.{StubsStop}
 use Rattle.load_lives.specs.FastLives.{FastLife, LinkAndRecord, PassesAt, last_core as fast_core}
 use Rattle.load_lives.specs.FastLooksFirst.{FastLookingLife, IsFastLookingLife}
 use Rattle.load_lives.specs.StubParts.{AreStubParts, StubPart, stubs_said, verified_by}
@@ -145,15 +144,11 @@ FastLives plan last looks front rest old new =
     (l : FastLookingLife) × (fast_core plan l.life ≡ last) × (l.looks ≡ looks) × (l.life.front ≡ front) × (l.life.rest ≡ rest) × IsFastLookingLife stub_program plan old l new
 
 -- no device failed in stubs that hindered nothing
-unhindered : (stop : StubStop) → hindrance_of stop ≡ None → failure_of (Some stop) ≡ None
-unhindered (stub.LineFailed fault) e = absurd (cc e)
-unhindered (stub.KeepFailed fault) e = absurd (cc e)
-unhindered stub.TurnsOver e = absurd (cc e)
-unhindered stub.TooFewWords e = refl
-unhindered stub.NoRoom e = refl
-unhindered stub.InVain e = refl
-unhindered (stub.NotStarted end) e = refl
-unhindered stub.Memory e = refl
+unhindered : (stop : StubsStop) → hindrance_of stop ≡ None → (line_fault (Some stop) ≡ None) × (keep_fault (Some stop) ≡ None)
+unhindered (Ended end) e = (refl, refl)
+unhindered (LineFailed fault) e = absurd (cc e)
+unhindered (KeepFailed fault) e = absurd (cc e)
+unhindered TurnsOver e = absurd (cc e)
 
 -- a life that goes on without the mark behind so many words, over a record that was read
 module _ (plan : PlanValue) (v patience : ℕ) (looks front rest : List Item) (old new : LinkAndRecord) (fits : IsPlan plan) (long : patience < 2 ^ 32) (goes : GoesOnFrom plan old.text (record { verified = v; going = false })) (looked : (looks ≡ []) ⊎ HasLooked plan goes.recorded looks) (passes : PassesAt stub_program old.link (looks ++ (front ++ rest)) new.link) where
@@ -236,7 +231,7 @@ module _ (plan : PlanValue) (v patience : ℕ) (looks front rest : List Item) (o
       behind brought.all.brought.parts stubs.tally.verified core stop (session_told_by between) (session_told_by after) keeper' brought.all.brought.verified brought.all.brought.are_parts all_said host.session out
       (host_holds plan stubs.tally.verified patience stop core (session_told_by between) (session_told_by after) keeping keeper' rest fits long brought.all.within held host.session out host_kept.kept_by) is
     where
-      none_failed : failure_of (Some stubs.stop) ≡ None
+      none_failed : (line_fault (Some stubs.stop) ≡ None) × (keep_fault (Some stubs.stop) ≡ None)
       none_failed = unhindered stubs.stop free
 
       none_left : (sent later : List ℕ) → [] ≡ sent ++ later → sent ≡ []
@@ -245,12 +240,12 @@ module _ (plan : PlanValue) (v patience : ℕ) (looks front rest : List Item) (o
 
       all_said : stubs_said plan v brought.all.brought.parts ≡ front
       all_said =
-          let nothing = brought.all.brought.all_sent none_failed in
+          let nothing = brought.all.brought.all_sent none_failed.0 none_failed.1 in
           let none_sent = none_left sent later (sym nothing ∙ unsent_is) in
           brought.all.brought.items ∙ (ap (λ keys. brought.all.brought.said ++ said_all keys) (nothing ∙ sym none_sent) ∙ sym front_is)
 
       held : HoldsRecord keeping plan stubs.tally.verified
-      held = stubs_held plan v stubs.tally.verified keeper keeping holds brought.all.grows brought.all.within (subst (λ failure. EachKept failure keeper (words_kept plan.words v stubs.tally.verified) keeping) none_failed kept.each)
+      held = stubs_held plan v stubs.tally.verified keeper keeping holds brought.all.grows brought.all.within (subst (λ fault. EachKept fault keeper (words_kept plan.words v stubs.tally.verified) keeping) none_failed.1 kept.each)
   behind_stubs stubs (Some hindered) core stop before between after keeper keeping keeper' is_hindered holds brought host kept host_kept (sent, later, unsent_is, front_is) out is =
       subst (λ (c : Core). FastLives plan c looks front rest old new) (sym host.core)
       (within brought.all.brought.parts stubs.tally.verified later keeping brought.all.brought.verified brought.all.brought.are_parts said_is out

@@ -22,7 +22,7 @@ use Rattle.machine_load.specs.GivenBack.{IsGivenBack}
 use Rattle.machine_load.specs.Load.{Asks, IsHeldUp, IsIdleLife, IsLived, IsLoad, IsNeverBegun, IsOpened, finish_report, going_on}
 use Rattle.machine_load.specs.Looks.{behind_looks}
 use Rattle.machine_load.specs.Parts.{ArePartsOver, course, held}
-use Rattle.machine_load.specs.RecordDisk.{DiskAsked, IsBegunOn, IsOnlyRead, disk_asked_before, disk_asked_by}
+use Rattle.machine_load.specs.RecordDisk.{DiskAsked, IsBegunOn, IsOnlyRead, begun_text, disk_asked_before, disk_asked_by}
 use Rattle.machine_load.specs.Reporting.{IsLifeReported, IsLifeUnreported}
 use Rattle.machine_load.specs.Scene.{IsLoaded, IsNotLoaded, LoadTells, Scene, finish_told}
 use Rattle.machine_load.specs.Step.{RecordGivenBack}
@@ -86,7 +86,7 @@ module _ {L K : Type 0} (tells : LoadTells L K) (task : LoadTask) (before opened
       → IsBegunLife tells life (opened.setting.around ⇒ between.setting.around) begun → is_some stubs ≡ task.options.fast
       → ArePartsOver tells.keeper.calls (course begun.first stubs (core, stop)) (held (line_told tells.line begun.line) begun.keeper) (held (line_told tells.line line) keeper)
       → Asks between.setting.around after.setting.around (RecordGivenBack ∷ []) → after.setting.around.record_text ≡ tells.keeper.text keeper
-      → after.setting.lines ≡ opened.setting.lines → Gains opened.asked after.asked (asked_once opened.call) → DiskAsked opened.disk after.disk IsBegunOn
+      → after.setting.lines ≡ opened.setting.lines → Gains opened.asked after.asked (asked_once opened.call) → DiskAsked opened.disk after.disk (IsBegunOn (begun_text begun.first.plan begun.first.verified))
       → IsLivedIn tells task (before ⇒ after) (record { core = core; end = Driven stop; looks = Some begun.looks; stubs = stubs; line = Some line })
   driven begun between stubs core stop line keeper is stubs_asked parts given_back left lines asked disk =
       let lived : Lived L = record { core = core; end = Driven stop; looks = Some begun.looks; stubs = stubs; line = Some line } in
@@ -113,7 +113,7 @@ module _ {L K : Type 0} (tells : LoadTells L K) (task : LoadTask) (before opened
         line = inl refl;
         lines = lines ∙ opens.lines;
         asked = rw (opens.asked, opens.call) at asked;
-        disk = begun_on before.disk opened.disk after.disk opens.disk disk;
+        disk = begun_on _ before.disk opened.disk after.disk opens.disk disk;
       }
 
 -- ---- its report

@@ -21,6 +21,9 @@ use Rattle.load_engine.proofs.Sessions.{core_is}
 use Rattle.load_engine.specs.Driven.{turns_give}
 use Rattle.engine.specs.Keeping.{AllOrFront, KeepsEach, KeptBy}
 use Rattle.engine.specs.Session.{SessionTold}
+use Rattle.engine.specs.Stopping.{keep_fault}
+use Rattle.engine.specs.declared.stop.Stop.TheVariants.{Ended, LineFailed, KeepFailed, TurnsOver}
+use Rattle.host_devices.specs.declared.fault.KeepFault.{KeepFault}
 use Rattle.load_engine.proofs.News.{led_forward}
 use Rattle.byte_io.specs.Output.{WritesPrefix}
 use Rattle.load_record.specs.declared.version.Version.TheVariants.{Second}
@@ -35,13 +38,9 @@ use Rattle.load_lives.specs.Lives.{GoesOnFrom}
 use Rattle.load_lives.specs.Stops.{IsBeginning}
 use Rattle.load_lives.proofs.Keepers.{keepers_leave}
 use Rattle.load_lives.proofs.Stopping.{records_are_fronts}
-use Rattle.stub_engine.specs.declared.exchange_stop.ExchangeStop.{ExchangeStop}
-use Rattle.stub_engine.specs.Failing.{keep_fault}
 use Rattle.stub_engine.specs.Keeping.{KeepsFront, words_kept}
 use Rattle.machine_load.specs.Lives.{of_file}
-use Rattle.stub_engine.specs.declared.stop.Stop.{Stop as StubStop}
-use Rattle.stub_engine.specs.declared.stop.Stop.TheVariants.{TooFewWords, NoRoom, InVain, NotStarted, TurnsOver, LineFailed, KeepFailed, Memory}
-use Rattle.stub_engine.specs.Parts.{failure_of}
+use Rattle.stub_engine.specs.Parts.{StubsStop}
 
 -- the keeper holds a front of the record of what a core has verified; the whole, with the mark, where `G` was sent
 pub record HoldsFront (plan : PlanValue) (core : Core) (items : List Item) (keep : Keeper) : Type 0 where
@@ -151,9 +150,9 @@ last_of (w ∷ words) (item ∷ kept) last e =
       last_is = l.last_is;
     }
 
--- by what stubs stopped, each thing was kept, or a front of them
-abbrev pub EachKept : Option ExchangeStop → Keeper → List Kept → Keeper → Type 0
-EachKept failure keep items keep' = AllOrFront (keep_fault failure) (KeepsEach of_file.calls.keeps keep items keep') (KeepsFront of_file.calls items keep keep')
+-- each thing was kept, or a front of them where the keeper failed
+abbrev pub EachKept : Option KeepFault → Keeper → List Kept → Keeper → Type 0
+EachKept fault keep items keep' = AllOrFront fault (KeepsEach of_file.calls.keeps keep items keep') (KeepsFront of_file.calls items keep keep')
 
 module _ (plan : PlanValue) (v w : ℕ) (keep keep' : Keeper) (holds : HoldsRecord keep plan v) (grows : v ≤ w) (within : w ≤ length plan.words) where
   abbrev words : List WordValue
@@ -226,14 +225,10 @@ module _ (plan : PlanValue) (v w : ℕ) (keep keep' : Keeper) (holds : HoldsReco
   whole held = (record_text Second plan w false, held.written, ([], append-nil (record_text Second plan w false)))
 
   -- what a keeper holds behind stubs that stopped so
-  pub stubs_front : (stop : StubStop) → EachKept (failure_of (Some stop)) keep (words_kept plan.words v w) keep' → (text : List ℕ) × (keep'.text ≡ Some text) × IsBeginning text (record_text Second plan w false)
+  pub stubs_front : (stop : StubsStop) → EachKept (keep_fault (Some stop)) keep (words_kept plan.words v w) keep' → (text : List ℕ) × (keep'.text ≡ Some text) × IsBeginning text (record_text Second plan w false)
   stubs_front (KeepFailed fault) by =
       cut_at by.2.kept by.2.last by.2.next (by.0 + 1)
       (last_of (take (by.0 + 1) words) by.2.kept by.2.last (sym (take-map Word (by.0 + 1) words) ∙ by.2.items_are)) by.2.each by.2.failing
   stubs_front (LineFailed fault) by = whole (stubs_held by)
   stubs_front TurnsOver by = whole (stubs_held by)
-  stubs_front TooFewWords by = whole (stubs_held by)
-  stubs_front NoRoom by = whole (stubs_held by)
-  stubs_front InVain by = whole (stubs_held by)
-  stubs_front (NotStarted end) by = whole (stubs_held by)
-  stubs_front Memory by = whole (stubs_held by)
+  stubs_front (Ended end) by = whole (stubs_held by)

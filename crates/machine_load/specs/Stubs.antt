@@ -2,9 +2,8 @@
 use Rattle.std.specs.Prelude.{◌+◌, ◌^◌, ◌≤◌, false, Option, Some, None}
 use Rattle.host_core.specs.Core.{Core, begun}
 use Rattle.load_engine.specs.Driving.{LoadStop as Stop}
-use Rattle.engine.specs.declared.stop.Stop.TheVariants.{LineFailed, KeepFailed, TurnsOver}
-use Rattle.stub_engine.specs.declared.stop.Stop.{Stop as StubStop}
-use Rattle.stub_engine.specs.declared.stop.Stop.TheVariants as stub
+use Rattle.engine.specs.declared.stop.Stop.TheVariants.{Ended, LineFailed, KeepFailed, TurnsOver}
+use Rattle.stub_engine.specs.Parts.{StubsStop}
 use Rattle.machine_load.specs.declared.looks.Looks.{Looks}
 use Rattle.machine_load.specs.declared.stubs.Stubs.{Stubs}
 
@@ -14,11 +13,11 @@ host_behind first None = first
 host_behind first (Some stubs) = begun first.plan stubs.tally.verified false first.patience
 
 -- why a load stops with its stubs: a device failed, or turns were over; for another reason its host goes on behind them
-abbrev pub hindrance_of : StubStop → Option Stop
-hindrance_of (stub.LineFailed fault) = Some (LineFailed fault)
-hindrance_of (stub.KeepFailed fault) = Some (KeepFailed fault)
-hindrance_of stub.TurnsOver = Some TurnsOver
-hindrance_of other = None
+abbrev pub hindrance_of : StubsStop → Option Stop
+hindrance_of (Ended end) = None
+hindrance_of (LineFailed fault) = Some (LineFailed fault)
+hindrance_of (KeepFailed fault) = Some (KeepFailed fault)
+hindrance_of TurnsOver = Some TurnsOver
 
 abbrev pub hindrance : Option Stubs → Option Stop
 hindrance None = None

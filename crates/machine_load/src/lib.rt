@@ -35,6 +35,6 @@ pub use loading::load;
 pub use looks::Looks;
 pub use outcome::Outcome;
 pub use records::{InMemory, Records};
-pub use stub_engine::Stop as StubStop;
+pub use stub_engine::{Stop as StubStop, StubsEnd};
 pub use stubs::Stubs;
 pub use surroundings::Surroundings;

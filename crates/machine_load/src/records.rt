@@ -1,9 +1,9 @@
 //! Where the record of a load is: in a file, or in memory alone.
-ghost use Rattle.std.specs.Prelude.{ℕ, IfErr, IfOk, ⊤, Option, Some, None, option_map};
-ghost use Rattle.machine_load.specs.RecordDisk.{RecordDisk, IsReadAnswered, IsBeginAnswered};
+ghost use Rattle.std.specs.Prelude.{ℕ, List, IfErr, IfOk, ⊤, Option, Some, None, option_map};
+ghost use Rattle.machine_load.specs.RecordDisk.{RecordDisk, IsReadAnswered, IsBeginAnswered, IsTextRead, begun_text};
 ghost use Rattle.record_file.specs.DiskRecord.{HasBegun};
 ghost use Rattle.record_file.specs.RecordFault.{IsUnbegun, IsUnread};
-ghost use Rattle.record_file.specs.Taking.{kind_of};
+ghost use Rattle.record_file.specs.Known.{known_of};
 ghost use Rattle.tape_image.specs.Plan.{PlanValue};
 
 use host_devices::{Keep, MemoryKeep};
@@ -22,10 +22,14 @@ pub trait Records {
     /// The disk on which the record is; None where it is on none, or the type doesn't say.
     ghost disk: { Self → Option RecordDisk } = { λ _. None };
 
+    /// What the record's file holds on it before it is read; None where the type doesn't tell.
+    ghost holds: { Self → Option (List ℕ) } = { λ _. None };
+
     /// The record of earlier lives, which from there on is held. It is changed in nothing.
     fn read(&mut self, alloc: Global) -> Result<OldRecord, RecordFault>
         ensures fault { IfErr result IsUnread }
-        ensures disk { IsReadAnswered (disk self.old) (disk self.new) result };
+        ensures disk { IsReadAnswered (disk self.old) (disk self.new) result }
+        ensures had { IfOk result (λ old. IsTextRead (holds self.old) (disk self.old) (disk self.new) old.text.items) };
 
     /// Writes the record anew, with the first verified words of the plan, and keeps it from there on.
     fn begin(
@@ -36,7 +40,7 @@ pub trait Records {
     ) -> Result<Self::Keeper, RecordFault>
         ensures keeper { IfOk result (λ keeper. begins keeper plan.now verified) }
         ensures fault { IfErr result IsUnbegun }
-        ensures disk { IsBeginAnswered (disk self.old) (disk self.new) result };
+        ensures disk { IsBeginAnswered (begun_text plan.now verified) (disk self.old) (disk self.new) result };
 }
 
 impl<D: Disk + Drop> Records for RecordFile<'_, D> {
@@ -44,7 +48,9 @@ impl<D: Disk + Drop> Records for RecordFile<'_, D> {
 
     ghost begins = { λ keeper plan count. HasBegun D.File.contents plan count keeper };
 
-    ghost disk = { λ file. Some (record { asked = D.asked file.disk; name = file.name.now; known = option_map kind_of file.held }) };
+    ghost disk = { λ file. Some (record { asked = D.asked file.disk; name = file.name.now; known = option_map (known_of D.File.written) file.held }) };
+
+    ghost holds = { λ file. D.holds file.disk file.name.now };
 
     fn read(&mut self, alloc: Global) -> Result<OldRecord, RecordFault> {
         RecordFile::read(self, alloc)

@@ -55,13 +55,9 @@ pub(crate) fn hindrance(stubs: Option<Stubs>) -> Option<Stop>
     ensures { result ≡ hindrance stubs }
 {
     match stubs?.stop {
+        StubStop::Ended(_) => None,
         StubStop::LineFailed(fault) => Some(Stop::LineFailed(fault)),
         StubStop::KeepFailed(fault) => Some(Stop::KeepFailed(fault)),
         StubStop::TurnsOver => Some(Stop::TurnsOver),
-        StubStop::TooFewWords
-        | StubStop::NoRoom
-        | StubStop::InVain
-        | StubStop::NotStarted(_)
-        | StubStop::Memory => None,
     }
 }

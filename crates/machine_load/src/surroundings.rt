@@ -3,7 +3,7 @@ ghost use Rattle.std.specs.Io.KnownBytes.{Keeps};
 ghost use Rattle.tape_values.specs.Told.{IsAsTold};
 ghost use Rattle.host_devices.specs.Told.{Gains};
 ghost use Rattle.machine_load.specs.Load.{IsTextBegun};
-ghost use Rattle.machine_load.specs.RecordDisk.{RecordDisk, IsReadAnswered, IsBeginAnswered};
+ghost use Rattle.machine_load.specs.RecordDisk.{RecordDisk, IsReadAnswered, IsBeginAnswered, IsTextRead, begun_text};
 ghost use Rattle.record_file.specs.RecordFault.{IsUnread, IsUnbegun};
 ghost use Rattle.host_devices.specs.Devices.{LineTold, line_told};
 ghost use Rattle.console_lines.specs.Reached.{IsUnused};
@@ -49,6 +49,9 @@ pub trait Surroundings {
     /// The disk on which the record is; None where it is on none, or the type doesn't say.
     ghost disk: { Self → Option RecordDisk } = { λ _. None };
 
+    /// What the record's file holds on it before it is read; None where the type doesn't tell.
+    ghost holds: { Self → Option (List ℕ) } = { λ _. None };
+
     /// The record of earlier lives, which from there on is held: no other load has it until this one is
     /// over. It is changed in nothing.
     fn read_record(&mut self, alloc: Global) -> Result<OldRecord, RecordFault>
@@ -59,7 +62,8 @@ pub trait Surroundings {
         ensures same { Keeps (record_text self.old) (record_text self.new) }
         ensures asked { asked self.new ≡ asked self.old }
         ensures call { call self.new ≡ call self.old }
-        ensures disk { IsReadAnswered (disk self.old) (disk self.new) result };
+        ensures disk { IsReadAnswered (disk self.old) (disk self.new) result }
+        ensures had { IfOk result (λ old. IsTextRead (holds self.old) (disk self.old) (disk self.new) old.text.items) };
 
     /// A connection to the console, on which nothing was said.
     fn connect(&mut self) -> Result<Self::Line, LineFault>
@@ -83,7 +87,7 @@ pub trait Surroundings {
         ensures begun { OnOk result (IsTextBegun (record_text self.new) plan.now verified) }
         ensures keeper { IfOk result (λ keeper. begins keeper plan.now verified) }
         ensures asked { asked self.new ≡ asked self.old }
-        ensures disk { IsBeginAnswered (disk self.old) (disk self.new) result };
+        ensures disk { IsBeginAnswered (begun_text plan.now verified) (disk self.old) (disk self.new) result };
 
     /// Takes back the keeper of a life that is over: the record is what it has kept.
     fn end_record(&mut self, keeper: Self::Keeper)

@@ -33,7 +33,7 @@ use Rattle.machine_look.specs.Look.{IsGivenBack, IsLineOf, IsLook, IsLookOf}
 -- what was said on a line, as behind other things
 pub behind : (stop : Option LookStop) (first last : Reader) (line line' : Option (List Item)) (before : List Item) (s : Inquired most_turns (inquiry first last stop) line line')
     → Inquired most_turns (inquiry first last stop) (Some before) (Some (before ++ s.said))
-behind stop first last line line' before s = record { heard = s.heard; said = s.said; host = s.host; goes_on = s.goes_on; within = s.within; items = s.items; on_line = refl }
+behind stop first last line line' before s = record { heard = s.heard; said = s.said; host = s.host; goes_on = s.goes_on; within = s.within; items = s.items; unkept = s.unkept; on_line = refl }
 
 -- or alone
 pub alone : (stop : Option LookStop) (first last : Reader) (line line' : Option (List Item)) (s : Inquired most_turns (inquiry first last stop) line line') → Inquired most_turns (inquiry first last stop) (Some []) (Some s.said)
@@ -80,7 +80,7 @@ look_over stop first last reached told lines between lines' reads goes_on i fres
 -- before its first turn
 pub untouched : (reader : Reader) (line : LineTold) → IsReader reader → IsInquired most_turns (inquiry reader reader None) line line
 untouched reader line reads = inquired most_turns reader reader None line line reads reads record {
-  session = record { heard = []; said = []; host = refl; goes_on = tt; within = omega arith; items = inl refl; on_line = gains_none line.said };
+  session = record { heard = []; said = []; host = refl; goes_on = tt; within = omega arith; items = inl refl; unkept = λ none. inl refl; on_line = gains_none line.said };
   end = tt;
   counted = refl;
   named = tt;
@@ -96,6 +96,7 @@ no_look reader end lines reads is =
       goes_on = tt;
       within = omega arith;
       items = refl;
+      unkept = λ none. inl refl;
       on_line = refl;
     } in
     record {
@@ -112,10 +113,10 @@ no_look reader end lines reads is =
 
 -- ---- what it says
 
--- over an honest line what was read is true, with the losses or one more
+-- over an honest line what was read is true, with the losses, or one more where the line failed
 pub is_true : (stop : Option LookStop) (first last : Reader) (items : List Item) (machine now : Machine) (lost : ℕ) → IsBelievableBy stop first last items → MayLook first machine → IsHonest machine items lost now
     → (more : ℕ) × IsTrueReading machine.memory last now.memory (keys_of items) (lost + more)
-is_true None first last items machine now lost believed may honest = (1, believed.0 machine now lost may honest)
+is_true None first last items machine now lost believed may honest = (0, believed.0 machine now lost may honest)
 is_true (Some (Ended end)) first last items machine now lost believed may honest = (0, believed machine now lost may honest)
 is_true (Some TurnsOver) first last items machine now lost believed may honest = (0, believed machine now lost may honest)
 is_true (Some (LineFailed fault)) first last items machine now lost believed may honest = (1, believed.0 machine now lost may honest)

@@ -1,16 +1,20 @@
 -- Rows of the tables of what is asked, by what came of a call.
-use Rattle.std.proofs.Common.{◌≡◌, ℕ, ◌+◌, ◌<◌, ◌≤◌, ◌⊎◌, inl, inr, ◌∙◌, sym, subst, refl, List, [], ◌∷◌, ◌++◌, Bool, true, false, Option, Some, None, Result, Ok, Err}
-use Rattle.record_file.specs.Beginning.{IsLeftover, Left, Strange as StrangeNew, Taken, IsMaking, Fresh, Again, IsMakingHeld, new_name, Course, NotReplaced, GivenUp, Replaced, names, IsRenaming, Whole, Unsynced, NotRenamed, Moved, IsFileCut, IsLetGo, Goes, LeadsElsewhere, Stays, StaysBehindLink, IsWriting, NotHeld as NotHeldNew, NoRoom, NotWritten, Written, IsBeside, IsMadeReady, ReadyDevice, ReadyFile, IsUnready, MovedAway, IsWrittenOver, Device as OverDevice, PlainFile as OverFile, AtFolder, course, IsPlaceSynced, FolderShut, may_be_shut}
+use Rattle.std.proofs.Common.{◌≡◌, ℕ, ◌+◌, ◌<◌, ◌≤◌, ◌⊎◌, inl, inr, ◌∙◌, sym, ap, subst, refl, List, [], ◌∷◌, ◌++◌, length, Bool, true, false, Option, Some, None, Result, Ok, Err}
+use Rattle.record_file.specs.Beginning.{IsLeftover, Left, Strange as StrangeNew, Taken, IsMaking, Fresh, Again, IsMakingHeld, new_name, Course, NotReplaced, GivenUp, Replaced, new_record, IsRenaming, Whole, Unsynced, NotRenamed, Moved, IsFileCut, CutAndSynced, NotCut, IsLetGo, Goes, LeadsElsewhere, Stays, StaysBehindLink, IsWriting, NotHeld as NotHeldNew, NoRoom, NotWritten, Written, IsBeside, IsMadeReady, ReadyDevice, ReadyFile, IsUnready, MovedAway, IsAllWritten, IsWrittenOver, Device as OverDevice, PlainFile as OverFile, AtFolder, course, IsPlaceSynced, FolderShut, may_be_shut}
 use Rattle.record_file.specs.Course.{is_done, was_made, renamed}
 use Rattle.host_devices.proofs.Told.{tells_join}
 use Rattle.host_devices.specs.Told.{HasAsked, Tells}
-use Rattle.record_file.specs.DiskStep.{DiskStep, LedTo, Look, LookAtName, FindSoleFile, Open, Hold, Rename, Remove, SyncFolder, Did, Failed, step_by, answered, IsNameSeen, Seen, Unseen, IsLookAtName, SeenThere, UnseenThere}
+use Rattle.record_file.specs.DiskStep.{DiskStep, LedTo, Look, LookAtName, FindSoleFile, Open, Hold, Rename, Remove, SyncFolder, Cut, SyncFile, Did, Failed, step_by, answered, IsNameSeen, Seen, Unseen, IsLookAtName, SeenThere, UnseenThere}
 use Rattle.record_file.specs.Folder.{IsFolderOf}
 use Rattle.record_file.specs.Holding.{hold_steps, IsHeld, PlainFile, Device, Unknown, InUse, Moved as HeldMoved, DeviceMoved, IsFound, IsMade, Linked, Appeared, LeadsNowhere, IsOpened, Found, Strange, IsTry, Taken as TakenIn, NotHeld, AreVain, OneMore, IsHeldAtLast, IsNotHeld}
 use Rattle.record_file.specs.declared.disk.Access.TheVariants.{ReadOnly, New, Created}
+use Rattle.load_record.specs.Keeper.{Lasts}
 use Rattle.std.specs.Bool.{then_some}
+use Rattle.std.specs.Io.KnownBytes.{Appends}
+use Rattle.std.specs.Prelude.{IfSome, OnSome}
 use Rattle.std.specs.Result.{IsErr, IfOk, IfErr}
-use Rattle.record_file.specs.Taking.{made_of, tried, device_of, IsMadeSo}
+use Rattle.record_file.specs.Taking.{made_of, tried, device_of, IsMadeSo, OnHeld}
+use Rattle.record_file.specs.declared.held_file.HeldFile.{HeldFile}
 use Rattle.record_file.specs.declared.held_file.OpenTry.{OpenTry}
 use Rattle.record_file.specs.declared.held_file.Try.{Try}
 use Rattle.record_file.specs.declared.held_file.Try.TheVariants as try
@@ -77,28 +81,79 @@ pub stays : (name : List ℕ) (made : Made) → (made ≡ Before) ⊎ (made ≡ 
 stays name made (inl is) = subst (λ m. IsLetGo name m []) (sym is) Stays
 stays name made (inr is) = subst (λ m. IsLetGo name m []) (sym is) StaysBehindLink
 
-pub whole : (name new folder : List ℕ) (made : Made) (steps : List DiskStep) → IsNameSeen name true steps
-    → IsRenaming (names name new folder) made Replaced Before (steps ++ Did (Rename new name) ∷ Did (SyncFolder folder) ∷ [])
-whole name new folder made steps Seen = Whole
+-- what was told of a file is told still: who tells no longer does not begin again
+pub still : (X : Type 0) (a b : Option (List DiskStep)) (steps : List DiskStep) → Tells a b steps → OnSome a X → OnSome b X
+still X None None steps t h = tt
+still X None (Some y) steps t h = absurd t
+still X (Some x) None steps t h = tt
+still X (Some x) (Some y) steps t h = h
 
-pub unsynced : (name new folder : List ℕ) (made : Made) (steps : List DiskStep) → IsNameSeen name true steps
-    → IsRenaming (names name new folder) made GivenUp Before (steps ++ Did (Rename new name) ∷ Failed (SyncFolder folder) ∷ [])
-unsynced name new folder made steps Seen = Unsynced
+-- what the file of a rename has on the disk may be told as it is said to be: where nobody tells, it need not be told
+left_as : (a b : Option (List DiskStep)) (left : Option (List ℕ)) (text : List ℕ) (step : Option (List ℕ) → DiskStep) → OnSome a (Lasts left (Some text))
+    → Tells a b (step left ∷ []) → (left' : Option (List ℕ)) × Lasts left' (Some text) × Tells a b (step left' ∷ [])
+left_as None None left text step h t = (None, tt, tt)
+left_as None (Some x) left text step h t = absurd t
+left_as (Some x) b left text step h t = (left, h, t)
 
-pub not_renamed : {A E : Type 0} (name new folder : List ℕ) (made : Made) (removal : Result A E) (steps : List DiskStep) → IsNameSeen name true steps
-    → IsRenaming (names name new folder) made NotReplaced made (steps ++ Failed (Rename new name) ∷ answered (Remove new) removal ∷ [])
-not_renamed name new folder made (Ok u) steps Seen = NotRenamed true
-not_renamed name new folder made (Err e) steps Seen = NotRenamed false
+pub whole : (name new folder text : List ℕ) (made : Made) (left : Option (List ℕ)) (steps : List DiskStep) (a b c d : Option (List DiskStep))
+    → OnSome a (Lasts left (Some text)) → Tells a b steps → Tells b c (Did (Rename new name left) ∷ []) → Tells c d (Did (SyncFolder folder) ∷ [])
+    → IsNameSeen name true steps → HasAsked a d (IsRenaming (new_record name new folder text) made Replaced Before)
+whole name new folder text made left steps a b c d h t r s Seen =
+    let l = left_as b c left text (λ left'. Did (Rename new name left')) (still (Lasts left (Some text)) a b (Did (Look name) ∷ []) t h) r in (
+      Did (Look name) ∷ Did (Rename new name l.0) ∷ Did (SyncFolder folder) ∷ [],
+      tells_join a b d (Did (Look name) ∷ []) (Did (Rename new name l.0) ∷ Did (SyncFolder folder) ∷ []) t
+          (tells_join b c d (Did (Rename new name l.0) ∷ []) (Did (SyncFolder folder) ∷ []) l.2 s),
+      Whole l.0 l.1,
+    )
 
-pub moved_away : {A E : Type 0} (name new folder : List ℕ) (made : Made) (removal : Result A E) (steps : List DiskStep) → IsNameSeen name false steps
-    → IsRenaming (names name new folder) made GivenUp made (steps ++ answered (Remove new) removal ∷ [])
-moved_away name new folder made (Ok u) steps (Unseen found) = Moved found true
-moved_away name new folder made (Err e) steps (Unseen found) = Moved found false
+pub unsynced : (name new folder text : List ℕ) (made : Made) (left : Option (List ℕ)) (steps : List DiskStep) (a b c d : Option (List DiskStep))
+    → OnSome a (Lasts left (Some text)) → Tells a b steps → Tells b c (Did (Rename new name left) ∷ []) → Tells c d (Failed (SyncFolder folder) ∷ [])
+    → IsNameSeen name true steps → HasAsked a d (IsRenaming (new_record name new folder text) made GivenUp Before)
+unsynced name new folder text made left steps a b c d h t r s Seen =
+    let l = left_as b c left text (λ left'. Did (Rename new name left')) (still (Lasts left (Some text)) a b (Did (Look name) ∷ []) t h) r in (
+      Did (Look name) ∷ Did (Rename new name l.0) ∷ Failed (SyncFolder folder) ∷ [],
+      tells_join a b d (Did (Look name) ∷ []) (Did (Rename new name l.0) ∷ Failed (SyncFolder folder) ∷ []) t
+          (tells_join b c d (Did (Rename new name l.0) ∷ []) (Failed (SyncFolder folder) ∷ []) l.2 s),
+      Unsynced l.0 l.1,
+    )
 
-not_written : {A E : Type 0} (name folder : List ℕ) (made : Made) (removal : Result A E) (steps : List DiskStep) → IsMakingHeld (new_name name) true steps
-    → IsWriting name folder made GivenUp made (steps ++ answered (Remove (new_name name)) removal ∷ [])
-not_written name folder made (Ok u) steps h = NotWritten steps true h
-not_written name folder made (Err e) steps h = NotWritten steps false h
+pub not_renamed : {A E : Type 0} (name new folder text : List ℕ) (made : Made) (left : Option (List ℕ)) (removal : Result A E) (steps : List DiskStep) → IsNameSeen name true steps
+    → IsRenaming (new_record name new folder text) made NotReplaced made (steps ++ Failed (Rename new name left) ∷ answered (Remove new) removal ∷ [])
+not_renamed name new folder text made left (Ok u) steps Seen = NotRenamed left true
+not_renamed name new folder text made left (Err e) steps Seen = NotRenamed left false
+
+pub moved_away : {A E : Type 0} (name new folder text : List ℕ) (made : Made) (removal : Result A E) (steps : List DiskStep) → IsNameSeen name false steps
+    → IsRenaming (new_record name new folder text) made GivenUp made (steps ++ answered (Remove new) removal ∷ [])
+moved_away name new folder text made (Ok u) steps (Unseen found) = Moved found true
+moved_away name new folder text made (Err e) steps (Unseen found) = Moved found false
+
+not_written : {A E : Type 0} (name folder text : List ℕ) (made : Made) (removal : Result A E) (steps : List DiskStep) → IsMakingHeld (new_name name) true steps
+    → IsWriting name folder text made GivenUp made (steps ++ answered (Remove (new_name name)) removal ∷ [])
+not_written name folder text made (Ok u) steps h = NotWritten steps true h
+not_written name folder text made (Err e) steps h = NotWritten steps false h
+
+-- a text that was written to a new file, and lasts there, is what the file has on the disk
+pub on_disk : (a : Option (List DiskStep)) (fresh wrote left : Option (List ℕ)) (text : List ℕ) → OnSome a (fresh ≡ Some []) → Appends fresh wrote text
+    → Lasts left wrote → OnSome a (Lasts left (Some text))
+on_disk None fresh wrote left text f w l = tt
+on_disk (Some x) None wrote left text f w l = absurd (cc f)
+on_disk (Some x) (Some y) None left text f w l = absurd w
+on_disk (Some x) (Some y) (Some z) left text f w l = subst (λ t. Lasts left (Some t)) (w ∙ ap (λ front. front ++ text) (some_is y [] f)) l where
+  some_is : (a b : List ℕ) → Some a ≡ Some b → a ≡ b
+  some_is a b e = cc e
+
+-- so of a file that was made, which is written and made to last
+pub lies_on_disk : {T : Type 0} (contents : T → Option (List ℕ)) (a : Option (List DiskStep)) (made : Option T) (file now : T) (wrote lasting left : Option (List ℕ)) (text : List ℕ)
+    → made ≡ Some file → IfSome made (λ new. OnSome a (contents new ≡ Some [])) → contents now ≡ contents file → Appends (contents now) wrote text → Lasts lasting wrote
+    → left ≡ lasting → OnSome a (Lasts left (Some text))
+lies_on_disk contents a made file now wrote lasting left text is fresh same w l there =
+    on_disk a (contents now) wrote left text
+    (subst (λ x. OnSome a (x ≡ Some [])) (sym same) (subst (λ m. IfSome m (λ new. OnSome a (contents new ≡ Some []))) is fresh)) w
+    (subst (λ x. Lasts x wrote) (sym there) l)
+
+-- what holds of a file that a try holds
+pub of_held : {T : Type 0} (P : T → Type 0) (before : Try T) (held : HeldFile T) → before ≡ try.Held held → OnHeld P before → P held.file
+of_held P before held is h = subst (OnHeld P) is h
 
 -- ---- opening
 
@@ -168,36 +223,36 @@ same_place name before after synced a b is h = subst (λ kind. HasAsked a b (IsP
 
 -- ---- what came of a part
 
-pub beside_at_folder : (name folder : List ℕ) (made : Made) (way : Course) (after : Made) (a b c d : Option (List DiskStep)) → IsFolderOf name folder
-    → Tells a b (Did (FindSoleFile name) ∷ []) → Tells b c (Did (Open ReadOnly folder) ∷ []) → HasAsked c d (IsWriting name folder made way after)
-    → HasAsked a d (IsBeside name made way after)
-beside_at_folder name folder made way after a b c d f h o w = (
+pub beside_at_folder : (name folder text : List ℕ) (made : Made) (way : Course) (after : Made) (a b c d : Option (List DiskStep)) → IsFolderOf name folder
+    → Tells a b (Did (FindSoleFile name) ∷ []) → Tells b c (Did (Open ReadOnly folder) ∷ []) → HasAsked c d (IsWriting name folder text made way after)
+    → HasAsked a d (IsBeside name text made way after)
+beside_at_folder name folder text made way after a b c d f h o w = (
   Did (FindSoleFile name) ∷ Did (Open ReadOnly folder) ∷ w.0,
   tells_join a b d (Did (FindSoleFile name) ∷ []) (Did (Open ReadOnly folder) ∷ w.0) h (tells_join b c d (Did (Open ReadOnly folder) ∷ []) w.0 o w.1),
   AtFolder folder way after w.0 f w.2,
 )
 
-pub not_held_new : (name new folder : List ℕ) (made : Made) (a b : Option (List DiskStep)) → new ≡ new_name name → HasAsked a b (IsMakingHeld new false)
-    → HasAsked a b (IsWriting name folder made NotReplaced made)
-not_held_new name new folder made a b is m = (m.0, m.1, NotHeldNew m.0 (subst (λ n. IsMakingHeld n false m.0) is m.2))
+pub not_held_new : (name new folder text : List ℕ) (made : Made) (a b : Option (List DiskStep)) → new ≡ new_name name → HasAsked a b (IsMakingHeld new false)
+    → HasAsked a b (IsWriting name folder text made NotReplaced made)
+not_held_new name new folder text made a b is m = (m.0, m.1, NotHeldNew m.0 (subst (λ n. IsMakingHeld n false m.0) is m.2))
 
-pub no_room : (name new folder : List ℕ) (made : Made) (a b : Option (List DiskStep)) → new ≡ new_name name → HasAsked a b (IsMakingHeld new false)
-    → HasAsked a b (IsWriting name folder made GivenUp made)
-no_room name new folder made a b is m = (m.0, m.1, NoRoom m.0 (subst (λ n. IsMakingHeld n false m.0) is m.2))
+pub no_room : (name new folder text : List ℕ) (made : Made) (a b : Option (List DiskStep)) → new ≡ new_name name → HasAsked a b (IsMakingHeld new false)
+    → HasAsked a b (IsWriting name folder text made GivenUp made)
+no_room name new folder text made a b is m = (m.0, m.1, NoRoom m.0 (subst (λ n. IsMakingHeld n false m.0) is m.2))
 
-pub unwritten : {A E : Type 0} (name new folder : List ℕ) (made : Made) (a b c : Option (List DiskStep)) (removal : Result A E) → new ≡ new_name name
-    → HasAsked a b (IsMakingHeld new true) → Tells b c (answered (Remove new) removal ∷ []) → HasAsked a c (IsWriting name folder made GivenUp made)
-unwritten name new folder made a b c removal is m r = (
+pub unwritten : {A E : Type 0} (name new folder text : List ℕ) (made : Made) (a b c : Option (List DiskStep)) (removal : Result A E) → new ≡ new_name name
+    → HasAsked a b (IsMakingHeld new true) → Tells b c (answered (Remove new) removal ∷ []) → HasAsked a c (IsWriting name folder text made GivenUp made)
+unwritten name new folder text made a b c removal is m r = (
   m.0 ++ answered (Remove (new_name name)) removal ∷ [],
   tells_join a b c m.0 (answered (Remove (new_name name)) removal ∷ []) m.1
       (subst (λ n. Tells b c (answered (Remove n) removal ∷ [])) is r),
-  not_written name folder made removal m.0 (subst (λ n. IsMakingHeld n true m.0) is m.2),
+  not_written name folder text made removal m.0 (subst (λ n. IsMakingHeld n true m.0) is m.2),
 )
 
-pub written : (name new folder : List ℕ) (made : Made) (way : Course) (after : Made) (a b c : Option (List DiskStep)) → new ≡ new_name name
-    → HasAsked a b (IsMakingHeld new true) → HasAsked b c (IsRenaming (names name new folder) made way after) → HasAsked a c (IsWriting name folder made way after)
-written name new folder made way after a b c is m r =
-    (m.0 ++ r.0, tells_join a b c m.0 r.0 m.1 r.1, Written way after m.0 r.0 (subst (λ n. IsMakingHeld n true m.0) is m.2) (subst (λ n. IsRenaming (names name n folder) made way after r.0) is r.2))
+pub written : (name new folder text : List ℕ) (made : Made) (way : Course) (after : Made) (a b c : Option (List DiskStep)) → new ≡ new_name name
+    → HasAsked a b (IsMakingHeld new true) → HasAsked b c (IsRenaming (new_record name new folder text) made way after) → HasAsked a c (IsWriting name folder text made way after)
+written name new folder text made way after a b c is m r =
+    (m.0 ++ r.0, tells_join a b c m.0 r.0 m.1 r.1, Written way after m.0 r.0 (subst (λ n. IsMakingHeld n true m.0) is m.2) (subst (λ n. IsRenaming (new_record name n folder text) made way after r.0) is r.2))
 
 -- what a new file was asked, where it is known what came of it
 pub held_none : {A : Type 0} (new : List ℕ) (a b : Option (List DiskStep)) (kept : Option A) → kept ≡ None → HasAsked a b (IsMakingHeld new (was_made {E = RecordFault} (Ok kept)))
@@ -208,16 +263,16 @@ pub held_some : {A : Type 0} (new : List ℕ) (a b : Option (List DiskStep)) (ke
     → HasAsked a b (IsMakingHeld new (was_made {E = RecordFault} (Ok kept))) → HasAsked a b (IsMakingHeld new true)
 held_some new a b kept file is h = subst (λ k. HasAsked a b (IsMakingHeld new (was_made {E = RecordFault} (Ok k)))) is h
 
-pub beside_failed : {A E : Type 0} (name : List ℕ) (made after : Made) (a b : Option (List DiskStep)) (result : Result (Option A) E) → IsErr result
-    → HasAsked a b (IsBeside name made GivenUp after) → HasAsked a b (IsBeside name made (course result) after)
-beside_failed name made after a b (Ok value) is h = absurd (cc is)
-beside_failed name made after a b (Err fault) is h = h
+pub beside_failed : {A E : Type 0} (name text : List ℕ) (made after : Made) (a b : Option (List DiskStep)) (result : Result (Option A) E) → IsErr result
+    → HasAsked a b (IsBeside name text made GivenUp after) → HasAsked a b (IsBeside name text made (course result) after)
+beside_failed name text made after a b (Ok value) is h = absurd (cc is)
+beside_failed name text made after a b (Err fault) is h = h
 
-pub beside_kept : {A : Type 0} (name : List ℕ) (made after : Made) (a b : Option (List DiskStep)) (kept : Option A) (replaced : Bool) (keeper : A)
-    → kept ≡ then_some replaced keeper → HasAsked a b (IsBeside name made (renamed {E = RecordFault} (Ok replaced)) after)
-    → HasAsked a b (IsBeside name made (course {E = RecordFault} (Ok kept)) after)
-beside_kept name made after a b kept true keeper is h = subst (λ k. HasAsked a b (IsBeside name made (course {E = RecordFault} (Ok k)) after)) (sym is) h
-beside_kept name made after a b kept false keeper is h = subst (λ k. HasAsked a b (IsBeside name made (course {E = RecordFault} (Ok k)) after)) (sym is) h
+pub beside_kept : {A : Type 0} (name text : List ℕ) (made after : Made) (a b : Option (List DiskStep)) (kept : Option A) (replaced : Bool) (keeper : A)
+    → kept ≡ then_some replaced keeper → HasAsked a b (IsBeside name text made (renamed {E = RecordFault} (Ok replaced)) after)
+    → HasAsked a b (IsBeside name text made (course {E = RecordFault} (Ok kept)) after)
+beside_kept name text made after a b kept true keeper is h = subst (λ k. HasAsked a b (IsBeside name text made (course {E = RecordFault} (Ok k)) after)) (sym is) h
+beside_kept name text made after a b kept false keeper is h = subst (λ k. HasAsked a b (IsBeside name text made (course {E = RecordFault} (Ok k)) after)) (sym is) h
 
 -- ---- in place
 
@@ -241,23 +296,40 @@ pub unready_file : (name : List ℕ) (made : Made) (a b c : Option (List DiskSte
     → HasAsked b c (IsNameSeen name false) → HasAsked a c (IsUnready name made)
 unready_file name made a b c h l = (h.0 ++ l.0, tells_join a b c h.0 l.0 h.1 l.1, looked_in_vain name made h.0 l.0 h.2 l.2)
 
-pub over_device : (name : List ℕ) (made : Made) (text : Option (List ℕ)) (size : ℕ) (device known : Bool) (a b : Option (List DiskStep)) → known ≡ device → known ≡ true
-    → HasAsked a b (IsMadeReady name made device) → HasAsked a b (IsWrittenOver name made text size device)
-over_device name made text size device known a b same is =
-    subst (λ d. HasAsked a b (IsMadeReady name made d) → HasAsked a b (IsWrittenOver name made text size d)) (sym is ∙ same) (λ h. (h.0, h.1, OverDevice h.0 h.2))
+pub not_cut : (before wrote : Option (List ℕ)) (text : List ℕ) (size : ℕ) (a b : Option (List DiskStep)) → IsAllWritten before text wrote → size ≡ length text
+    → Tells a b (Failed (Cut wrote size) ∷ []) → HasAsked a b (IsFileCut before text false)
+not_cut before wrote text size a b w is t =
+    (Failed (Cut wrote (length text)) ∷ [], subst (λ n. Tells a b (Failed (Cut wrote n) ∷ [])) is t, NotCut wrote w)
 
-pub over_file : (name : List ℕ) (made : Made) (text cut : Option (List ℕ)) (size at : ℕ) (device known : Bool) (a b c : Option (List DiskStep)) → known ≡ device
-    → known ≡ false → cut ≡ text → (device ≡ false → at ≡ size) → HasAsked a b (IsMadeReady name made device) → HasAsked b c (IsFileCut cut at true)
-    → HasAsked a c (IsWrittenOver name made text size device)
-over_file name made text cut size at device known a b c same is t s h q =
-    subst (λ d. HasAsked a b (IsMadeReady name made d) → HasAsked a c (IsWrittenOver name made text size d)) (sym is ∙ same)
-    (λ r. (
-      r.0 ++ q.0,
-      tells_join a b c r.0 q.0 r.1 q.1,
-      OverFile r.0 q.0 r.2
-          (subst (λ n. IsFileCut text n true q.0) (s (sym same ∙ is)) (subst (λ x. IsFileCut x at true q.0) t q.2)),
-    ))
+pub cut_behind_text : (before wrote : Option (List ℕ)) (text : List ℕ) (size : ℕ) (synced : Bool) (a b c : Option (List DiskStep)) → IsAllWritten before text wrote
+    → size ≡ length text → Tells a b (Did (Cut wrote size) ∷ []) → Tells b c (step_by (SyncFile wrote) synced ∷ []) → HasAsked a c (IsFileCut before text synced)
+cut_behind_text before wrote text size synced a b c w is t s = (
+  Did (Cut wrote (length text)) ∷ step_by (SyncFile wrote) synced ∷ [],
+  tells_join a b c (Did (Cut wrote (length text)) ∷ []) (step_by (SyncFile wrote) synced ∷ []) (subst (λ n. Tells a b (Did (Cut wrote n) ∷ [])) is t) s,
+  CutAndSynced wrote synced w,
+)
+
+pub over_device : (name : List ℕ) (made : Made) (before : Option (List ℕ)) (text : List ℕ) (device known : Bool) (a b : Option (List DiskStep)) → known ≡ device → known ≡ true
+    → HasAsked a b (IsMadeReady name made device) → HasAsked a b (IsWrittenOver name made before text device)
+over_device name made before text device known a b same is =
+    subst (λ d. HasAsked a b (IsMadeReady name made d) → HasAsked a b (IsWrittenOver name made before text d)) (sym is ∙ same) (λ h. (h.0, h.1, OverDevice h.0 h.2))
+
+pub over_file : (name : List ℕ) (made : Made) (before : Option (List ℕ)) (text : List ℕ) (device known : Bool) (a b c : Option (List DiskStep)) → known ≡ device
+    → known ≡ false → HasAsked a b (IsMadeReady name made device) → HasAsked b c (IsFileCut before text true)
+    → HasAsked a c (IsWrittenOver name made before text device)
+over_file name made before text device known a b c same is h q =
+    subst (λ d. HasAsked a b (IsMadeReady name made d) → HasAsked a c (IsWrittenOver name made before text d)) (sym is ∙ same)
+    (λ r. (r.0 ++ q.0, tells_join a b c r.0 q.0 r.1 q.1, OverFile r.0 q.0 r.2 q.2))
     h
+
+-- the file was at its front, and this was written from there on
+pub all_written : (before contents wrote : Option (List ℕ)) (text : List ℕ) → (before ≡ Some [] → contents ≡ Some []) → Appends contents wrote text
+    → IsAllWritten before text wrote
+all_written before None wrote text f w is = absurd (cc (f is))
+all_written before (Some x) None text f w is = absurd w
+all_written before (Some x) (Some y) text f w is = ap Some (w ∙ ap (λ front. front ++ text) (inner x (f is))) where
+  inner : (x : List ℕ) → Some x ≡ Some [] → x ≡ []
+  inner x e = cc e
 
 -- ---- tries
 

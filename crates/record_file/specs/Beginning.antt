@@ -1,8 +1,10 @@
 -- What is asked of a system of files to begin a record anew.
-use Rattle.std.specs.Prelude.{ℕ, List, [], ◌∷◌, ◌++◌, Bool, true, false, Option, Some, None, Result, Ok, Err, codes}
+use Rattle.std.specs.Prelude.{◌≡◌, List, [], ◌∷◌, ◌++◌, Bool, true, false, Option, Some, None, Result, Ok, Err, codes, length, ℕ}
+use Rattle.load_record.specs.Keeper.{Lasts}
 use Rattle.record_file.specs.DiskStep.{Look, LookAtName, FindSoleFile, Resolve, Open, Hold, Rename, Remove, SyncFolder, Cut, SyncFile}
 use Rattle.record_file.specs.DiskStep.{DiskStep, Did, Failed, LedTo, step_by}
 use Rattle.record_file.specs.Folder.{IsFolderOf}
+use Rattle.record_file.specs.Known.{Known}
 use Rattle.record_file.specs.declared.disk.Access.TheVariants.{ReadOnly, New}
 use Rattle.record_file.specs.declared.made.Made.{Made}
 use Rattle.record_file.specs.declared.made.Made.TheVariants.{Before, Here, BehindLink}
@@ -46,40 +48,44 @@ course (Ok (Some keeper)) = Replaced
 course (Ok None) = NotReplaced
 course (Err fault) = GivenUp
 
--- the name of a record, that of the new one beside it, and that of their folder
-pub record Names : Type 0 where
+-- the name of a record, that of the new one beside it, that of their folder, and the new record's text
+pub record NewRecord : Type 0 where
   pub name : List ℕ
   pub new : List ℕ
   pub folder : List ℕ
+  pub text : List ℕ
 
-abbrev pub names : List ℕ → List ℕ → List ℕ → Names
-names name new folder = record { name = name; new = new; folder = folder }
+abbrev pub new_record : List ℕ → List ℕ → List ℕ → List ℕ → NewRecord
+new_record name new folder text = record { name = name; new = new; folder = folder; text = text }
 
--- the new record that was written is renamed over the old one, while the name still leads to that, and the folder is synced. From the
+-- the new record, whose text is on the disk, is renamed over the old one, while the name still leads to that, and the folder is synced. From the
 -- rename on the old file is none that this load made; the new one goes where it was not renamed
-pub data IsRenaming (of : Names) (made : Made) : Course → Made → List DiskStep → Type 0 where
-  Whole : IsRenaming of made Replaced Before (Did (Look of.name) ∷ Did (Rename of.new of.name) ∷ Did (SyncFolder of.folder) ∷ [])
-  Unsynced : IsRenaming of made GivenUp Before (Did (Look of.name) ∷ Did (Rename of.new of.name) ∷ Failed (SyncFolder of.folder) ∷ [])
-  NotRenamed : (removed : Bool)
-      → IsRenaming of made NotReplaced made (Did (Look of.name) ∷ Failed (Rename of.new of.name) ∷ step_by (Remove of.new) removed ∷ [])
+pub data IsRenaming (of : NewRecord) (made : Made) : Course → Made → List DiskStep → Type 0 where
+  Whole : (left : Option (List ℕ)) → Lasts left (Some of.text)
+      → IsRenaming of made Replaced Before (Did (Look of.name) ∷ Did (Rename of.new of.name left) ∷ Did (SyncFolder of.folder) ∷ [])
+  Unsynced : (left : Option (List ℕ)) → Lasts left (Some of.text)
+      → IsRenaming of made GivenUp Before (Did (Look of.name) ∷ Did (Rename of.new of.name left) ∷ Failed (SyncFolder of.folder) ∷ [])
+  NotRenamed : (left : Option (List ℕ)) (removed : Bool)
+      → IsRenaming of made NotReplaced made (Did (Look of.name) ∷ Failed (Rename of.new of.name left) ∷ step_by (Remove of.new) removed ∷ [])
   Moved : (found removed : Bool) → IsRenaming of made GivenUp made (step_by (Look of.name) found ∷ step_by (Remove of.new) removed ∷ [])
 
 -- the new file is made, held and written, and then renamed; one that can't be written goes
-pub data IsWriting (name folder : List ℕ) (made : Made) : Course → Made → List DiskStep → Type 0 where
-  NotHeld : (steps : List DiskStep) → IsMakingHeld (new_name name) false steps → IsWriting name folder made NotReplaced made steps
-  NoRoom : (steps : List DiskStep) → IsMakingHeld (new_name name) false steps → IsWriting name folder made GivenUp made steps
+pub data IsWriting (name folder text : List ℕ) (made : Made) : Course → Made → List DiskStep → Type 0 where
+  NotHeld : (steps : List DiskStep) → IsMakingHeld (new_name name) false steps → IsWriting name folder text made NotReplaced made steps
+  NoRoom : (steps : List DiskStep) → IsMakingHeld (new_name name) false steps → IsWriting name folder text made GivenUp made steps
   NotWritten : (steps : List DiskStep) (removed : Bool) → IsMakingHeld (new_name name) true steps
-      → IsWriting name folder made GivenUp made (steps ++ step_by (Remove (new_name name)) removed ∷ [])
+      → IsWriting name folder text made GivenUp made (steps ++ step_by (Remove (new_name name)) removed ∷ [])
   Written : (course : Course) (after : Made) (steps renaming : List DiskStep) → IsMakingHeld (new_name name) true steps
-      → IsRenaming (names name (new_name name) folder) made course after renaming → IsWriting name folder made course after (steps ++ renaming)
+      → IsRenaming (new_record name (new_name name) folder text) made course after renaming → IsWriting name folder text made course after (steps ++ renaming)
 
 -- before that it is found out whether a rename would reach the old record, and its folder is opened
-pub data IsBeside (name : List ℕ) (made : Made) : Course → Made → List DiskStep → Type 0 where
-  OutOfReach : IsBeside name made NotReplaced made (Failed (FindSoleFile name) ∷ [])
-  NoMemory : IsBeside name made GivenUp made (Did (FindSoleFile name) ∷ [])
-  NoFolder : (folder : List ℕ) → IsFolderOf name folder → IsBeside name made NotReplaced made (Did (FindSoleFile name) ∷ Failed (Open ReadOnly folder) ∷ [])
+pub data IsBeside (name text : List ℕ) (made : Made) : Course → Made → List DiskStep → Type 0 where
+  OutOfReach : IsBeside name text made NotReplaced made (Failed (FindSoleFile name) ∷ [])
+  NoMemory : IsBeside name text made GivenUp made (Did (FindSoleFile name) ∷ [])
+  NoFolder : (folder : List ℕ) → IsFolderOf name folder
+      → IsBeside name text made NotReplaced made (Did (FindSoleFile name) ∷ Failed (Open ReadOnly folder) ∷ [])
   AtFolder : (folder : List ℕ) (course : Course) (after : Made) (steps : List DiskStep) → IsFolderOf name folder
-      → IsWriting name folder made course after steps → IsBeside name made course after (Did (FindSoleFile name) ∷ Did (Open ReadOnly folder) ∷ steps)
+      → IsWriting name folder text made course after steps → IsBeside name text made course after (Did (FindSoleFile name) ∷ Did (Open ReadOnly folder) ∷ steps)
 
 -- ---- the record written where it is
 
@@ -96,10 +102,15 @@ pub data IsPlaceSynced (name : List ℕ) (made : Made) : Bool → List DiskStep 
       → IsPlaceSynced name made (may_be_shut made) (LedTo name target ∷ Failed (Open ReadOnly folder) ∷ [])
   Unresolved : IsPlaceSynced name made false (Failed (Resolve name) ∷ [])
 
--- a file of which this was written is cut at a size, and synced
-pub data IsFileCut (text : Option (List ℕ)) (size : ℕ) : Bool → List DiskStep → Type 0 where
-  CutAndSynced : (synced : Bool) → IsFileCut text size synced (Did (Cut text size) ∷ step_by (SyncFile text) synced ∷ [])
-  NotCut : IsFileCut text size false (Failed (Cut text size) ∷ [])
+-- from its front on this text was written to a file, and nothing else, if nothing but that was written to it before
+abbrev pub IsAllWritten : Option (List ℕ) → List ℕ → Option (List ℕ) → Type 0
+IsAllWritten before text wrote = before ≡ Some [] → wrote ≡ Some text
+
+-- a file to which this text was written is cut behind it, and synced
+pub data IsFileCut (before : Option (List ℕ)) (text : List ℕ) : Bool → List DiskStep → Type 0 where
+  CutAndSynced : (wrote : Option (List ℕ)) (synced : Bool) → IsAllWritten before text wrote
+      → IsFileCut before text synced (Did (Cut wrote (length text)) ∷ step_by (SyncFile wrote) synced ∷ [])
+  NotCut : (wrote : Option (List ℕ)) → IsAllWritten before text wrote → IsFileCut before text false (Failed (Cut wrote (length text)) ∷ [])
 
 -- a file that this load made under this very name goes with it, where the name still leads to it
 pub data IsLetGo (name : List ℕ) : Made → List DiskStep → Type 0 where
@@ -119,32 +130,31 @@ pub data IsUnready (name : List ℕ) (made : Made) : List DiskStep → Type 0 wh
   NotSynced : (steps : List DiskStep) → IsPlaceSynced name made false steps → IsUnready name made steps
   MovedAway : (found : Bool) (steps : List DiskStep) → IsPlaceSynced name made true steps → IsUnready name made (steps ++ step_by (Look name) found ∷ [])
 
--- the record was written where it is, and cut at its size; a device is not cut
-pub data IsWrittenOver (name : List ℕ) (made : Made) (text : Option (List ℕ)) (size : ℕ) : Bool → List DiskStep → Type 0 where
-  Device : (steps : List DiskStep) → IsMadeReady name made true steps → IsWrittenOver name made text size true steps
-  PlainFile : (steps cutting : List DiskStep) → IsMadeReady name made false steps → IsFileCut text size true cutting
-      → IsWrittenOver name made text size false (steps ++ cutting)
+-- the text of the record was written where it is, to a file to which this was written before, and cut behind it; a device is not cut
+pub data IsWrittenOver (name : List ℕ) (made : Made) (before : Option (List ℕ)) (text : List ℕ) : Bool → List DiskStep → Type 0 where
+  Device : (steps : List DiskStep) → IsMadeReady name made true steps → IsWrittenOver name made before text true steps
+  PlainFile : (steps cutting : List DiskStep) → IsMadeReady name made false steps → IsFileCut before text true cutting
+      → IsWrittenOver name made before text false (steps ++ cutting)
 
 -- it was not: the file is let go before anything is written to it, and stays behind that
-pub data IsNotWrittenOver (name : List ℕ) (made : Made) : List DiskStep → Type 0 where
-  Unready : (steps going : List DiskStep) → IsUnready name made steps → IsLetGo name made going → IsNotWrittenOver name made (steps ++ going)
-  Unwritten : (device : Bool) (steps : List DiskStep) → IsMadeReady name made device steps → IsNotWrittenOver name made steps
-  Uncut : (text : Option (List ℕ)) (size : ℕ) (steps cutting : List DiskStep) → IsMadeReady name made false steps → IsFileCut text size false cutting
-      → IsNotWrittenOver name made (steps ++ cutting)
+pub data IsNotWrittenOver (name : List ℕ) (made : Made) (before : Option (List ℕ)) (text : List ℕ) : List DiskStep → Type 0 where
+  Unready : (steps going : List DiskStep) → IsUnready name made steps → IsLetGo name made going → IsNotWrittenOver name made before text (steps ++ going)
+  Unwritten : (device : Bool) (steps : List DiskStep) → IsMadeReady name made device steps → IsNotWrittenOver name made before text steps
+  Uncut : (steps cutting : List DiskStep) → IsMadeReady name made false steps → IsFileCut before text false cutting
+      → IsNotWrittenOver name made before text (steps ++ cutting)
 
 -- ---- the whole
 
--- a record is begun, of whose file this load knows whether it made it and whether it is a device, and of which this was written: the new one
--- has the old one's name; or that can't be, and it was written where it is
-pub data IsBegun (name : List ℕ) (made : Made) (device : Bool) (text : Option (List ℕ)) : List DiskStep → Type 0 where
-  Beside : (after : Made) (steps : List DiskStep) → IsBeside name made Replaced after steps → IsBegun name made device text steps
-  InPlace : (after : Made) (size : ℕ) (before writing : List DiskStep) → IsBeside name made NotReplaced after before
-      → IsWrittenOver name after text size device writing
-      → IsBegun name made device text (before ++ writing)
+-- a record with this text is begun, of whose file this is known: the new one has the old one's name; or that can't be, and it was written
+-- where it is
+pub data IsBegun (name : List ℕ) (known : Known) (text : List ℕ) : List DiskStep → Type 0 where
+  Beside : (after : Made) (steps : List DiskStep) → IsBeside name text known.made Replaced after steps → IsBegun name known text steps
+  InPlace : (after : Made) (before writing : List DiskStep) → IsBeside name text known.made NotReplaced after before
+      → IsWrittenOver name after known.written text known.device writing → IsBegun name known text (before ++ writing)
 
 -- it is not begun
-pub data IsNotBegun (name : List ℕ) (made : Made) : List DiskStep → Type 0 where
-  NotBeside : (after : Made) (before going : List DiskStep) → IsBeside name made GivenUp after before → IsLetGo name after going
-      → IsNotBegun name made (before ++ going)
-  NotInPlace : (after : Made) (before writing : List DiskStep) → IsBeside name made NotReplaced after before → IsNotWrittenOver name after writing
-      → IsNotBegun name made (before ++ writing)
+pub data IsNotBegun (name : List ℕ) (known : Known) (text : List ℕ) : List DiskStep → Type 0 where
+  NotBeside : (after : Made) (before going : List DiskStep) → IsBeside name text known.made GivenUp after before → IsLetGo name after going
+      → IsNotBegun name known text (before ++ going)
+  NotInPlace : (after : Made) (before writing : List DiskStep) → IsBeside name text known.made NotReplaced after before
+      → IsNotWrittenOver name after known.written text writing → IsNotBegun name known text (before ++ writing)

@@ -7,8 +7,8 @@ use Rattle.record_file.specs.declared.disk.Access.{Access}
 
 -- what a name leads to is looked at, or what stands under it, or whether that is a plain file without another name, or an open file of which
 -- this much was written, or which name it leads to; a file is opened or made; it is held by this program alone, or given a second name, or
--- renamed, or its name taken away; the folder of a name is brought to the disk; or a file of which this much was written is cut at this
--- length, or brought to the disk
+-- renamed, with this much of it on the disk, or its name taken away; the folder of a name is brought to the disk; or a file of which this much was
+-- written is cut at this length, or brought to the disk
 pub data DiskRequest : Type 0 where
   Look : List ℕ → DiskRequest
   LookAtName : List ℕ → DiskRequest
@@ -18,7 +18,7 @@ pub data DiskRequest : Type 0 where
   Open : Access → List ℕ → DiskRequest
   Hold : List ℕ → DiskRequest
   Link : List ℕ → List ℕ → DiskRequest
-  Rename : List ℕ → List ℕ → DiskRequest
+  Rename : List ℕ → List ℕ → Option (List ℕ) → DiskRequest
   Remove : List ℕ → DiskRequest
   SyncFolder : List ℕ → DiskRequest
   Cut : Option (List ℕ) → ℕ → DiskRequest

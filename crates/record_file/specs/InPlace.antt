@@ -1,5 +1,5 @@
 -- What may be written over a record where it is, so that the file is at no moment anything but the old record or the new one, or a front of it.
-use Rattle.std.specs.Prelude.{◌≡◌, ◌⊎◌, ℕ, List, ◌++◌, IsTrue, IfSome, MatchOption, Option, Some}
+use Rattle.std.specs.Prelude.{◌≡◌, ◌⊎◌, ℕ, List, ◌++◌, IsTrue, MatchOption}
 use Rattle.record_file.specs.declared.held_file.HeldFile.{HeldFile}
 
 -- the text begins with this one
@@ -9,10 +9,6 @@ IsFrontOf front text = (rest : List ℕ) × (front ++ rest ≡ text)
 -- no byte that stands there becomes another one: the new text is a front of what stands there, or goes on behind all of it
 abbrev pub ChangesNoByte : List ℕ → List ℕ → Type 0
 ChangesNoByte text standing = IsFrontOf text standing ⊎ IsFrontOf standing text
-
--- a file is at its front, where it told its place before
-abbrev pub IsGoneBack : Option ℕ → Option ℕ → Type 0
-IsGoneBack before after = IfSome before (λ _. after ≡ Some 0)
 
 -- what was read in a file that is held is this
 abbrev pub HasRead : {T : Type 0} → (List ℕ → Type 0) → HeldFile T → Type 0

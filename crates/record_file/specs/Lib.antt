@@ -7,6 +7,7 @@ pub mod DiskStep
 pub mod Folder
 pub mod Holding
 pub mod InPlace
+pub mod Known
 pub mod OldRecord
 pub mod Reading
 pub mod RecordFault

@@ -1,8 +1,9 @@
 -- What is asked of a system of files to read the old record.
-use Rattle.std.specs.Prelude.{◌≡◌, ℕ, List, [], ◌∷◌, ◌++◌, Bool, true, false, Option, Some}
+use Rattle.std.specs.Prelude.{◌≡◌, ℕ, List, [], ◌∷◌, ◌++◌, Bool, true, false, Option, Some, None, take, ⊤}
 use Rattle.record_file.specs.Beginning.{IsLetGo}
 use Rattle.record_file.specs.DiskStep.{DiskStep, FindSoleFile, Did, Failed}
 use Rattle.record_file.specs.Holding.{IsHeldAtLast, IsNotHeld}
+use Rattle.record_file.specs.Known.{Known, known_as}
 use Rattle.record_file.specs.declared.made.Made.{Made}
 use Rattle.record_file.specs.declared.made.Made.TheVariants.{Before}
 use Rattle.record_file.specs.declared.old_record.OldRecord.{OldRecord}
@@ -30,10 +31,15 @@ pub record OldText : Type 0 where
 abbrev pub found_in : OldRecord → OldText
 found_in old = record { text = old.text.items; writable = old.writable }
 
+-- of a file that holds this, as far as that is told, this was read: all of it, or its first bytes, one more than a record may have
+abbrev pub IsReadOf : Option (List ℕ) → List ℕ → Type 0
+IsReadOf None text = ⊤
+IsReadOf (Some all) text = text ≡ take 1048577 all
+
 -- the file is held and read, it may be begun anew so, and from there on this is known of it; or there is none, and what was known stays so
-pub data IsRead (name : List ℕ) (found : OldText) (known : Option (Made × Bool)) : Option (Made × Bool) → List DiskStep → Type 0 where
-  Held : (kind : Made × Bool) (steps finding : List DiskStep) → IsHeldAtLast name kind steps → IsWayFound name kind.1 found.writable finding
-      → IsRead name found known (Some (kind_after found.text kind)) (steps ++ finding)
+pub data IsRead (name : List ℕ) (found : OldText) (known : Option Known) : Option Known → List DiskStep → Type 0 where
+  Held : (kind : Made × Bool) (written : Option (List ℕ)) (steps finding : List DiskStep) → IsHeldAtLast name kind steps
+      → IsWayFound name kind.1 found.writable finding → IsRead name found known (Some (known_as (kind_after found.text kind) written)) (steps ++ finding)
   Absent : (steps : List DiskStep) → IsNotHeld name steps → found.text ≡ [] → found.writable ≡ No → IsRead name found known known steps
 
 -- it is not held, or is held and let go

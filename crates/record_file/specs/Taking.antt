@@ -12,10 +12,10 @@ abbrev pub made_of : {T : Type 0} → OpenTry T → Option Made
 made_of (Opened opened) = Some opened.made
 made_of other = None
 
--- it was opened under this name
-abbrev pub IsOpenedAs : {T : Type 0} → (T → List ℕ → Type 0) → List ℕ → OpenTry T → Type 0
-IsOpenedAs P name (Opened opened) = P opened.file name
-IsOpenedAs P name other = ⊤
+-- this holds of the file that was opened, where one was
+abbrev pub OnOpened : {T : Type 0} → (T → Type 0) → OpenTry T → Type 0
+OnOpened P (Opened opened) = P opened.file
+OnOpened P other = ⊤
 
 -- whether a file that is held was made, and whether it is a device
 abbrev pub kind_of : {T : Type 0} → HeldFile T → Made × Bool
@@ -35,3 +35,8 @@ device_of other = None
 abbrev pub IsMadeSo : {T : Type 0} → Made → Try T → Type 0
 IsMadeSo made (try.Held held) = held.made ≡ made
 IsMadeSo made other = ⊤
+
+-- this holds of the file that is held, where one is
+abbrev pub OnHeld : {T : Type 0} → (T → Type 0) → Try T → Type 0
+OnHeld P (try.Held held) = P held.file
+OnHeld P other = ⊤

@@ -5,12 +5,12 @@ ghost use Rattle.record_file.specs.DiskStep.{Look, LookAtName, FindSoleFile, Fin
 ghost use Rattle.host_devices.specs.Told.{Tells};
 ghost use Rattle.record_file.specs.DiskStep.{DiskStep, HoldStill, answered, resolved, step_by};
 
+use crate::disk_file::{DiskFile, SystemFile};
 use crate::file_id::{found_same, found_sole};
 use crate::locks::Locks;
 use crate::synced::synced;
 use std::alloc::Global;
 use std::fs::{File, Metadata, OpenFile, OpenOptions};
-use std::io::{Read, Seek, Write};
 use std::path::PathBuf;
 use std::{fs, io};
 
@@ -61,7 +61,7 @@ impl Access {
 /// A reference to any system that locks files is one, and tells nothing of what was asked of it.
 pub trait Disk {
     /// An open file.
-    type File: Read + Write + Seek + OpenFile + Drop;
+    type File: DiskFile;
 
     /// What was asked so far, in its order, with whether it went well; None where the type doesn't tell, or
     /// does so no longer.
@@ -75,7 +75,8 @@ pub trait Disk {
 
     /// What a name leads to.
     fn look(&mut self, name: &str) -> io::Result<Metadata>
-        ensures asked { Tells (asked self.old) (asked self.new) (answered (Look name.now) result ∷ []) };
+        ensures asked { Tells (asked self.old) (asked self.new) (answered (Look name.now) result ∷ []) }
+        ensures kept { HoldStill (holds self.old) (holds self.new) };
 
     /// What stands under the name itself, which may be a link.
     fn look_at_name(&mut self, name: &str) -> io::Result<Metadata>
@@ -101,7 +102,8 @@ pub trait Disk {
         ensures asked { Tells (asked self.old) (asked self.new) (answered (Open access name.now) result ∷ []) }
         ensures opened { IfOk result (λ file. is_opened_as file name.now) }
         ensures fresh { IfOk result (λ file. OnSome (asked self.new) (Self.File.contents file ≡ Some [])) }
-        ensures text { IfOk result (λ file. Keeps (holds self.old name.now) (Self.File.remaining file)) }
+        ensures untouched { IfOk result (λ file. OnSome (asked self.new) (Self.File.written file ≡ Some [])) }
+        ensures text { IfOk result (λ file. Keeps (holds self.old name.now) (Self.File.unread file)) }
         ensures kept { HoldStill (holds self.old) (holds self.new) };
 
     /// Holds an open file until it is closed, which the program's death does, too. False where somebody
@@ -114,9 +116,10 @@ pub trait Disk {
     fn link(&mut self, from: &str, to: &str) -> io::Result<()>
         ensures asked { Tells (asked self.old) (asked self.new) (answered (Link from.now to.now) result ∷ []) };
 
-    /// Gives a file another name, whatever has it.
-    fn rename(&mut self, from: &str, to: &str) -> io::Result<()>
-        ensures asked { Tells (asked self.old) (asked self.new) (answered (Rename from.now to.now) result ∷ []) };
+    /// Gives an open file another name in place of the one that it has, whatever has it: which of its bytes are on the
+    /// disk is told with it.
+    fn rename(&mut self, file: &Self::File, from: &str, to: &str) -> io::Result<()>
+        ensures asked { Tells (asked self.old) (asked self.new) (answered (Rename from.now to.now (Self.File.on_disk file.now)) result ∷ []) };
 
     /// Takes a name away.
     fn remove(&mut self, name: &str) -> io::Result<()>
@@ -136,7 +139,7 @@ pub trait Disk {
 }
 
 impl<F: Locks> Disk for &F {
-    type File = F::File;
+    type File = SystemFile<F::File>;
 
     fn look(&mut self, name: &str) -> io::Result<Metadata> {
         fs::metadata(*self, name)
@@ -150,7 +153,7 @@ impl<F: Locks> Disk for &F {
         found_sole(&fs::symlink_metadata(*self, name))
     }
 
-    fn has_name(&mut self, name: &str, file: &F::File) -> bool {
+    fn has_name(&mut self, name: &str, file: &SystemFile<F::File>) -> bool {
         found_same(&fs::symlink_metadata(*self, name), &file.metadata())
     }
 
@@ -158,19 +161,22 @@ impl<F: Locks> Disk for &F {
         self.canonicalize(alloc, name)
     }
 
-    fn open(&mut self, access: Access, name: &str) -> io::Result<F::File> {
-        access.options().open(*self, name)
+    fn open(&mut self, access: Access, name: &str) -> io::Result<SystemFile<F::File>> {
+        match access.options().open(*self, name) {
+            Ok(file) => Ok(SystemFile { file }),
+            Err(error) => Err(error),
+        }
     }
 
-    fn hold(&mut self, file: &F::File) -> bool {
-        Locks::hold(*self, file)
+    fn hold(&mut self, file: &SystemFile<F::File>) -> bool {
+        Locks::hold(*self, &file.file)
     }
 
     fn link(&mut self, from: &str, to: &str) -> io::Result<()> {
         fs::hard_link(*self, from, to)
     }
 
-    fn rename(&mut self, from: &str, to: &str) -> io::Result<()> {
+    fn rename(&mut self, _file: &SystemFile<F::File>, from: &str, to: &str) -> io::Result<()> {
         fs::rename(*self, from, to)
     }
 
@@ -178,15 +184,15 @@ impl<F: Locks> Disk for &F {
         fs::remove_file(*self, name)
     }
 
-    fn sync_folder(&mut self, folder: &F::File) -> io::Result<()> {
-        synced(folder.sync_all())
+    fn sync_folder(&mut self, folder: &SystemFile<F::File>) -> io::Result<()> {
+        synced(folder.file.sync_all())
     }
 
-    fn cut(&mut self, file: &F::File, length: u64) -> io::Result<()> {
-        file.set_len(length)
+    fn cut(&mut self, file: &SystemFile<F::File>, length: u64) -> io::Result<()> {
+        file.file.set_len(length)
     }
 
-    fn sync_file(&mut self, file: &F::File) -> io::Result<()> {
-        synced(file.sync_all())
+    fn sync_file(&mut self, file: &SystemFile<F::File>) -> io::Result<()> {
+        synced(file.file.sync_all())
     }
 }

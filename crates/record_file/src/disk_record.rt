@@ -1,20 +1,22 @@
 //! A record that is begun anew: the old one is replaced whole, or written over where it is.
-ghost use Rattle.std.specs.Prelude.{◌≡◌, false, length, List, ℕ, IfOk, IfErr, IfSome, OnOk};
+ghost use Rattle.std.specs.Prelude.{◌≡◌, [], false, length, List, ℕ, Option, Some, IfOk, IfErr, IfSome, OnOk, OnSome};
 ghost use Rattle.std.specs.Io.KnownBytes.{Appends};
 ghost use Rattle.host_devices.specs.declared.fault.KeepFault.TheVariants as keep;
 ghost use Rattle.load_record.specs.declared.version.Version.TheVariants.{Second};
+ghost use Rattle.load_record.specs.Keeper.{Lasts};
 ghost use Rattle.load_record.specs.RecordText.{record_text};
-ghost use Rattle.record_file.specs.Beginning.{course, names, IsMakingHeld, IsRenaming, IsBeside, IsPlaceSynced, may_be_shut};
+ghost use Rattle.record_file.specs.Beginning.{course, new_record, IsAllWritten, IsMakingHeld, IsRenaming, IsBeside, IsPlaceSynced, may_be_shut};
 ghost use Rattle.record_file.specs.Beginning.{IsFileCut, IsMadeReady, IsUnready, IsWrittenOver, IsNotWrittenOver};
 ghost use Rattle.record_file.specs.Course.{is_done, was_made, renamed};
 ghost use Rattle.record_file.specs.DiskRecord.{HasBegun};
 ghost use Rattle.host_devices.specs.Told.{HasAsked};
-ghost use Rattle.record_file.specs.InPlace.{ChangesNoByte, HasRead, IsGoneBack, MayBeWrittenOver};
+ghost use Rattle.record_file.specs.InPlace.{ChangesNoByte, HasRead, MayBeWrittenOver};
 ghost use Rattle.record_file.specs.RecordFault.{IsUnbegun};
 ghost use Rattle.record_file.specs.Taking.{kind_of};
 
 use crate::beside::{BESIDE, folder_of, make_new};
 use crate::disk::{Access, Disk};
+use crate::disk_file::DiskFile;
 use crate::durable::DurableWriter;
 use crate::held_file::{HeldFile, is_named, let_go};
 use crate::in_place::begun_in_memory;
@@ -23,8 +25,7 @@ use crate::record_fault::RecordFault;
 use host_devices::KeepFault;
 use load_record::FileKeep;
 use std::alloc::Global;
-use std::fs::OpenFile;
-use std::io::{ErrorKind, Read, Seek, Write};
+use std::io::ErrorKind;
 use tape_image::Plan;
 
 /// A record on the disk: what its keeper has flushed survives a loss of power.
@@ -51,7 +52,8 @@ pub(crate) fn begin_beside<D: Disk>(
     ensures device { held.new.device ≡ held.old.device }
     ensures standing { held.new.standing ≡ held.old.standing }
     ensures old_record { held.new.file ≡ held.old.file }
-    ensures asked { HasAsked (D.asked disk.old) (D.asked disk.new) (IsBeside name.now held.old.made (course result) held.new.made) }
+    ensures asked { HasAsked (D.asked disk.old) (D.asked disk.new)
+        (IsBeside name.now (record_text Second plan.now verified false) held.old.made (course result) held.new.made) }
 {
     // A rename does not reach what a link leads to, and leaves the old record under another name.
     if !disk.is_sole_file(name) {
@@ -62,15 +64,14 @@ pub(crate) fn begin_beside<D: Disk>(
     let Ok(folder) = disk.open(Access::ReadOnly, folder_of(name)) else {
         return Ok(None);
     };
-    let Some(file) = make_beside(disk, beside)? else {
+    let Some(mut file) = make_beside(disk, beside)? else {
         return Ok(None);
     };
-    if let Ok(metadata) = held.file.metadata() {
-        let _ = file.set_permissions(metadata.permissions());
-    }
+    permit_as(&mut file, &held.file);
     match begun(file, plan, verified) {
         Ok(keeper) => {
-            let replaced = replace(disk, name, held, beside, &folder)?;
+            let new = &keeper.writer().file;
+            let replaced = replace(disk, name, held, beside, new, &folder)?;
             Ok(replaced.then_some(keeper))
         }
         Err(fault) => {
@@ -87,20 +88,22 @@ fn replace<D: Disk>(
     name: &str,
     held: &mut HeldFile<D::File>,
     beside: &str,
+    new: &D::File,
     folder: &D::File,
 ) -> Result<bool, RecordFault>
     ensures fault { IfErr result IsUnbegun }
     ensures device { held.new.device ≡ held.old.device }
     ensures standing { held.new.standing ≡ held.old.standing }
     ensures old_record { held.new.file ≡ held.old.file }
-    ensures asked { (dir : List ℕ) → D.is_opened_as folder.now dir
-        → HasAsked (D.asked disk.old) (D.asked disk.new) (IsRenaming (names name.now beside.now dir) held.old.made (renamed result) held.new.made) }
+    ensures asked { (dir text : List ℕ) → D.is_opened_as folder.now dir → OnSome (D.asked disk.old) (Lasts (D.File.on_disk new.now) (Some text))
+        → HasAsked (D.asked disk.old) (D.asked disk.new)
+        (IsRenaming (new_record name.now beside.now dir text) held.old.made (renamed result) held.new.made) }
 {
     if !is_named(disk, name, held) {
         let _ = disk.remove(beside);
         return Err(RecordFault::Write);
     }
-    if disk.rename(beside, name).is_err() {
+    if disk.rename(new, beside, name).is_err() {
         let _ = disk.remove(beside);
         return Ok(false);
     }
@@ -128,9 +131,10 @@ pub(crate) fn begin_in_place<D: Disk>(
     ensures begun { IfOk result (HasBegun D.File.contents plan.now verified) }
     ensures over { OnOk result (MayBeWrittenOver (record_text Second plan.now verified false) held) }
     ensures fault { IfErr result IsUnbegun }
-    ensures asked { IfOk result (λ keeper. HasAsked (D.asked disk.old) (D.asked disk.new)
-        (IsWrittenOver name.now held.made keeper.text (length (record_text Second plan.now verified false)) held.device)) }
-    ensures failed { IfErr result (λ _. HasAsked (D.asked disk.old) (D.asked disk.new) (IsNotWrittenOver name.now held.made)) }
+    ensures asked { OnOk result (HasAsked (D.asked disk.old) (D.asked disk.new)
+        (IsWrittenOver name.now held.made (D.File.written held.file) (record_text Second plan.now verified false) held.device)) }
+    ensures failed { IfErr result (λ _. HasAsked (D.asked disk.old) (D.asked disk.new)
+        (IsNotWrittenOver name.now held.made (D.File.written held.file) (record_text Second plan.now verified false))) }
 {
     let size = match make_ready(disk, name, alloc, plan, verified, &mut held) {
         Ok(size) => size,
@@ -160,7 +164,7 @@ fn make_ready<D: Disk>(
     held: &mut HeldFile<D::File>,
 ) -> Result<u64, RecordFault>
     ensures size { IfOk result (λ size. held.old.device ≡ false → size ≡ length (record_text Second plan.now verified false)) }
-    ensures front { OnOk result (held.old.device ≡ false → IsGoneBack (D.File.stream_position held.old.file) (D.File.stream_position held.new.file)) }
+    ensures front { OnOk result (held.old.device ≡ false → D.File.written held.old.file ≡ Some [] → D.File.contents held.new.file ≡ Some []) }
     ensures over { OnOk result (MayBeWrittenOver (record_text Second plan.now verified false) held.old) }
     ensures fault { IfErr result IsUnbegun }
     ensures made { held.new.made ≡ held.old.made }
@@ -182,14 +186,14 @@ fn make_ready<D: Disk>(
 
 // Goes back to a file's beginning, where the record of a plan's first words may be written over what stands there, and
 // answers how many bytes that has.
-fn rewind<T: Read + Seek + OpenFile + Drop>(
+fn rewind<T: DiskFile>(
     alloc: Global,
     plan: &Plan,
     verified: u32,
     held: &mut HeldFile<T>,
 ) -> Result<u64, RecordFault>
     ensures size { IfOk result (λ size. size ≡ length (record_text Second plan.now verified false)) }
-    ensures front { OnOk result (IsGoneBack (T.stream_position held.old.file) (T.stream_position held.new.file)) }
+    ensures front { OnOk result (T.written held.old.file ≡ Some [] → T.contents held.new.file ≡ Some []) }
     ensures over { OnOk result (HasRead (ChangesNoByte (record_text Second plan.now verified false)) held.old) }
     ensures kind { kind_of held.new ≡ kind_of held.old }
     ensures fault { IfErr result IsUnbegun }
@@ -240,6 +244,7 @@ fn without_folder(made: Made) -> Result<(), RecordFault>
 // of that name.
 fn make_beside<D: Disk>(disk: &mut D, name: &str) -> Result<Option<D::File>, RecordFault>
     ensures fault { IfErr result IsUnbegun }
+    ensures fresh { IfOk result (λ made. IfSome made (λ file. OnSome (D.asked disk.new) (D.File.contents file ≡ Some []))) }
     ensures asked { HasAsked (D.asked disk.old) (D.asked disk.new) (IsMakingHeld name.now (was_made result)) }
 {
     match make_new(disk, name) {
@@ -255,11 +260,16 @@ fn make_beside<D: Disk>(disk: &mut D, name: &str) -> Result<Option<D::File>, Rec
     }
 }
 
-fn begun<T: OpenFile + Write + Drop>(
-    file: T,
-    plan: &Plan,
-    verified: u32,
-) -> Result<DiskRecord<T>, KeepFault>
+// Lets others read and write a file as they may another one, where that can be.
+fn permit_as<T: DiskFile>(file: &mut T, other: &T)
+    ensures same { T.contents file.new ≡ T.contents file.old }
+{
+    if let Ok(metadata) = other.metadata() {
+        let _ = file.set_permissions(metadata.permissions());
+    }
+}
+
+fn begun<T: DiskFile>(file: T, plan: &Plan, verified: u32) -> Result<DiskRecord<T>, KeepFault>
     ensures written { IfOk result (λ keeper. Appends (T.contents file) keeper.text (record_text Second plan.now verified false)) }
     ensures begun { IfOk result (HasBegun T.contents plan.now verified) }
     ensures fault { IfErr result (λ fault. fault ≡ keep.Write) }
@@ -276,7 +286,8 @@ fn cut_behind<D: Disk>(
     size: u64,
 ) -> Result<(), RecordFault>
     ensures fault { IfErr result IsUnbegun }
-    ensures asked { HasAsked (D.asked disk.old) (D.asked disk.new) (IsFileCut (D.File.contents writer.now.file) size (is_done result)) }
+    ensures asked { (before : Option (List ℕ)) (text : List ℕ) → IsAllWritten before text (D.File.contents writer.now.file) → size ≡ length text
+        → HasAsked (D.asked disk.old) (D.asked disk.new) (IsFileCut before text (is_done result)) }
 {
     if disk.cut(&writer.file, size).is_err() {
         return Err(RecordFault::Write);

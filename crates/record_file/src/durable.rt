@@ -3,15 +3,11 @@ ghost use Rattle.std.specs.Prelude.{◌≡◌, ℕ, List, Option, None, OnOk};
 ghost use Rattle.std.specs.Io.KnownBytes.{Keeps};
 ghost use Rattle.load_record.specs.Keeper.{Lasts};
 
-use crate::synced::synced;
 use load_record::LastingWrite;
-use std::fs::OpenFile;
 use std::io;
 use std::io::Write;
 
 /// A writer whose bytes can be made to reach the disk, and not only a buffer of the system.
-///
-/// Every open file of std is one.
 pub trait SyncWrite: Write {
     /// What the writer has handed on to the system; None where the type doesn't tell.
     ghost handed_on: { Self → Option (List ℕ) } = { λ _. None };
@@ -28,16 +24,6 @@ pub trait SyncWrite: Write {
     fn sync(&mut self) -> io::Result<()>
         ensures on_disk { OnOk result (on_disk self.new ≡ handed_on self.old) }
         ensures same { Keeps (Self.contents self.old) (Self.contents self.new) };
-}
-
-impl<F: Write + OpenFile> SyncWrite for F {
-    fn hand_on(&mut self) -> io::Result<()> {
-        self.flush()
-    }
-
-    fn sync(&mut self) -> io::Result<()> {
-        synced(self.sync_data())
-    }
 }
 
 /// A writer to a file, which lasts once it was handed on and is on the disk.

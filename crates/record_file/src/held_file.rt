@@ -1,27 +1,28 @@
 //! The file of a record, which one load at a time holds.
-ghost use Rattle.std.specs.Prelude.{◌≡◌, OnErr, ◌∷◌, IfErr, IfOk, None, Some, option_map, true, false};
+ghost use Rattle.std.specs.Prelude.{◌≡◌, OnErr, ◌∷◌, [], IfErr, IfOk, IfSome, OnSome, None, Some, option_map, true, false};
+ghost use Rattle.std.specs.Io.KnownBytes.{Keeps};
 ghost use Rattle.std.specs.Bool.{OnTrue};
 ghost use Rattle.record_file.specs.Beginning.{IsLetGo};
 ghost use Rattle.host_devices.specs.Told.{HasAsked, Tells};
-ghost use Rattle.record_file.specs.DiskStep.{IsNameSeen, IsLookAtName, Failed, Open};
+ghost use Rattle.record_file.specs.DiskStep.{HoldStill, IsNameSeen, IsLookAtName, Failed, Open};
 ghost use Rattle.record_file.specs.Holding.{IsFound, IsMade, IsOpened, hold_steps, IsHeld, IsTry, IsHolding, IsNotHeld};
-ghost use Rattle.record_file.specs.Taking.{made_of, IsOpenedAs, kind_of, tried, device_of, IsMadeSo};
+ghost use Rattle.record_file.specs.Taking.{made_of, OnOpened, OnHeld, kind_of, tried, device_of, IsMadeSo};
 ghost use Rattle.byte_io.specs.Input.{IsTaken};
-ghost use Rattle.record_file.specs.InPlace.{ChangesNoByte, HasRead, IsGoneBack};
+ghost use Rattle.record_file.specs.InPlace.{ChangesNoByte, HasRead};
 ghost use Rattle.record_file.specs.Reading.{IsWayFound, kind_after};
 ghost use Rattle.record_file.specs.RecordFault.{IsUnread};
 
 use crate::disk::{Access, Disk};
+use crate::disk_file::{DiskFile, take_up_to};
 use crate::file_id::FileId;
 use crate::in_place::changes_no_byte;
 use crate::made::Made;
 use crate::old_record::Writable;
 use crate::record_fault::RecordFault;
-use byte_io::read_up_to;
 use load_record::RECORD_LIMIT;
 use std::alloc::Global;
-use std::fs::{Metadata, OpenFile};
-use std::io::{ErrorKind, Read, Seek};
+use std::fs::Metadata;
+use std::io::ErrorKind;
 use std::os::unix::fs::FileTypeExt;
 
 // How often a file is opened again that somebody replaces between its opening and its lock.
@@ -78,7 +79,7 @@ pub(crate) enum Try<T: Drop> {
     Nothing,
 }
 
-impl<T: Read + Seek + Drop> HeldFile<T> {
+impl<T: DiskFile> HeldFile<T> {
     /// All that it holds, or so much that it is too long for a record.
     ///
     /// `Read` comes where reading fails, `Memory` where a growth is refused.
@@ -87,9 +88,10 @@ impl<T: Read + Seek + Drop> HeldFile<T> {
         ensures kind { IfOk result (λ text. kind_of self.new ≡ kind_after text.items (kind_of self.old)) }
         ensures standing { IfOk result (λ text. HasRead (λ standing. standing ≡ text.items) self.new) }
         ensures same { OnErr result (kind_of self.new ≡ kind_of self.old) }
-        ensures text { IfOk result (λ text. IsTaken (T.remaining self.old.file) (T.remaining self.new.file) 1048577 text.items) }
+        ensures text { IfOk result (λ text. IsTaken (T.unread self.old.file) (T.unread self.new.file) 1048577 text.items) }
+        ensures untouched { T.written self.new.file ≡ T.written self.old.file }
     {
-        let text = read_up_to(alloc, &mut self.file, RECORD_LIMIT + 1)?;
+        let text = take_up_to(alloc, &mut self.file, RECORD_LIMIT + 1)?;
         let mut standing = Vec::new(alloc);
         standing.extend_from_slice(&text)?;
         self.standing = Some(standing);
@@ -105,7 +107,7 @@ impl<T: Read + Seek + Drop> HeldFile<T> {
     pub(crate) fn rewind_for(&mut self, text: &[u8]) -> bool
         ensures kind { kind_of self.new ≡ kind_of self.old }
         ensures agrees { OnTrue result (HasRead (ChangesNoByte text.now) self.old) }
-        ensures front { OnTrue result (IsGoneBack (T.stream_position self.old.file) (T.stream_position self.new.file)) }
+        ensures front { OnTrue result (T.written self.old.file ≡ Some [] → T.contents self.new.file ≡ Some []) }
     {
         let agrees = match &self.standing {
             Some(standing) => changes_no_byte(text, standing),
@@ -114,7 +116,7 @@ impl<T: Read + Seek + Drop> HeldFile<T> {
         if !agrees {
             return false;
         }
-        match self.file.rewind() {
+        match self.file.go_back() {
             Ok(()) => true,
             Err(_) => false,
         }
@@ -131,6 +133,8 @@ pub(crate) fn hold<D: Disk>(
     name: &str,
 ) -> Result<Option<HeldFile<D::File>>, RecordFault>
     ensures fault { IfErr result IsUnread }
+    ensures text { IfOk result (λ found. IfSome found (λ held. Keeps (D.holds disk.old name.now) (D.File.unread held.file))) }
+    ensures untouched { IfOk result (λ found. IfSome found (λ held. OnSome (D.asked disk.new) (D.File.written held.file ≡ Some []))) }
     ensures asked { IfOk result (λ found. HasAsked (D.asked disk.old) (D.asked disk.new) (IsHolding name.now (option_map kind_of found))) }
     ensures failed { IfErr result (λ _. HasAsked (D.asked disk.old) (D.asked disk.new) (IsNotHeld name.now)) }
 {
@@ -147,6 +151,9 @@ pub(crate) fn hold<D: Disk>(
 // Tries once to open and hold the file of this name.
 fn try_hold<D: Disk>(disk: &mut D, name: &str) -> Result<Try<D::File>, RecordFault>
     ensures fault { IfErr result IsUnread }
+    ensures text { IfOk result (OnHeld (λ file. Keeps (D.holds disk.old name.now) (D.File.unread file))) }
+    ensures untouched { IfOk result (OnHeld (λ file. OnSome (D.asked disk.new) (D.File.written file ≡ Some []))) }
+    ensures kept { HoldStill (D.holds disk.old) (D.holds disk.new) }
     ensures asked { IfOk result (λ outcome. HasAsked (D.asked disk.old) (D.asked disk.new) (IsTry name.now (tried outcome))) }
     ensures failed { IfErr result (λ _. HasAsked (D.asked disk.old) (D.asked disk.new) (IsTry name.now None)) }
 {
@@ -168,6 +175,8 @@ fn hold_opened<D: Disk>(
     requires { D.is_opened_as opened.file name.now }
     ensures fault { IfErr result IsUnread }
     ensures made { IfOk result (IsMadeSo opened.made) }
+    ensures same { IfOk result (OnHeld (λ file. file ≡ opened.file)) }
+    ensures kept { HoldStill (D.holds disk.old) (D.holds disk.new) }
     ensures asked { IfOk result (λ outcome. HasAsked (D.asked disk.old) (D.asked disk.new) (IsHeld name.now (device_of outcome))) }
     ensures failed { IfErr result (λ _. HasAsked (D.asked disk.old) (D.asked disk.new) (IsHeld name.now None)) }
 {
@@ -197,6 +206,7 @@ fn hold_opened<D: Disk>(
 fn is_free<D: Disk>(disk: &mut D, name: &str, file: &D::File, device: bool) -> bool
     requires { D.is_opened_as file.now name.now }
     ensures asked { Tells (D.asked disk.old) (D.asked disk.new) (hold_steps name.now device result) }
+    ensures kept { HoldStill (D.holds disk.old) (D.holds disk.new) }
 {
     if device {
         return true;
@@ -256,7 +266,10 @@ fn can_be_read(metadata: &Metadata) -> bool {
 fn open<D: Disk>(disk: &mut D, name: &str) -> Result<OpenTry<D::File>, RecordFault>
     ensures fault { IfErr result IsUnread }
     ensures asked { IfOk result (λ opening. HasAsked (D.asked disk.old) (D.asked disk.new) (IsOpened name.now (made_of opening))) }
-    ensures named { IfOk result (IsOpenedAs D.is_opened_as name.now) }
+    ensures named { IfOk result (OnOpened (λ file. D.is_opened_as file name.now)) }
+    ensures text { IfOk result (OnOpened (λ file. Keeps (D.holds disk.old name.now) (D.File.unread file))) }
+    ensures untouched { IfOk result (OnOpened (λ file. OnSome (D.asked disk.new) (D.File.written file ≡ Some []))) }
+    ensures kept { HoldStill (D.holds disk.old) (D.holds disk.new) }
     ensures failed { IfErr result (λ _. HasAsked (D.asked disk.old) (D.asked disk.new) (IsOpened name.now None)) }
 {
     match disk.look(name) {
@@ -270,7 +283,10 @@ fn open<D: Disk>(disk: &mut D, name: &str) -> Result<OpenTry<D::File>, RecordFau
 fn open_found<D: Disk>(disk: &mut D, name: &str) -> Result<OpenTry<D::File>, RecordFault>
     ensures fault { IfErr result IsUnread }
     ensures asked { IfOk result (λ opening. HasAsked (D.asked disk.old) (D.asked disk.new) (IsFound name.now (made_of opening))) }
-    ensures named { IfOk result (IsOpenedAs D.is_opened_as name.now) }
+    ensures named { IfOk result (OnOpened (λ file. D.is_opened_as file name.now)) }
+    ensures text { IfOk result (OnOpened (λ file. Keeps (D.holds disk.old name.now) (D.File.unread file))) }
+    ensures untouched { IfOk result (OnOpened (λ file. OnSome (D.asked disk.new) (D.File.written file ≡ Some []))) }
+    ensures kept { HoldStill (D.holds disk.old) (D.holds disk.new) }
     ensures failed { IfErr result (λ _. HasAsked (D.asked disk.old) (D.asked disk.new) (IsFound name.now None)) }
 {
     if let Ok(file) = disk.open(Access::ReadWrite, name) {
@@ -294,7 +310,10 @@ fn open_found<D: Disk>(disk: &mut D, name: &str) -> Result<OpenTry<D::File>, Rec
 // Makes a file, also where a link leads to, if it can be made.
 fn make<D: Disk>(disk: &mut D, name: &str) -> OpenTry<D::File>
     ensures asked { HasAsked (D.asked disk.old) (D.asked disk.new) (IsMade name.now (made_of result)) }
-    ensures named { IsOpenedAs D.is_opened_as name.now result }
+    ensures named { OnOpened (λ file. D.is_opened_as file name.now) result }
+    ensures text { OnOpened (λ file. Keeps (D.holds disk.old name.now) (D.File.unread file)) result }
+    ensures untouched { OnOpened (λ file. OnSome (D.asked disk.new) (D.File.written file ≡ Some [])) result }
+    ensures kept { HoldStill (D.holds disk.old) (D.holds disk.new) }
 {
     match disk.open(Access::New, name) {
         Ok(file) => OpenTry::Opened(Opened {
@@ -310,7 +329,10 @@ fn make<D: Disk>(disk: &mut D, name: &str) -> OpenTry<D::File>
 // Makes the file that a link leads to. Where the name is no link, somebody has made the file just now.
 fn make_behind_link<D: Disk>(disk: &mut D, name: &str) -> OpenTry<D::File>
     ensures asked { HasAsked (D.asked disk.old) (D.asked disk.new) (λ steps. IsMade name.now (made_of result) (Failed (Open Access.New name.now) ∷ steps)) }
-    ensures named { IsOpenedAs D.is_opened_as name.now result }
+    ensures named { OnOpened (λ file. D.is_opened_as file name.now) result }
+    ensures text { OnOpened (λ file. Keeps (D.holds disk.old name.now) (D.File.unread file)) result }
+    ensures untouched { OnOpened (λ file. OnSome (D.asked disk.new) (D.File.written file ≡ Some [])) result }
+    ensures kept { HoldStill (D.holds disk.old) (D.holds disk.new) }
 {
     if !is_link(disk, name) {
         return OpenTry::Changed;
@@ -327,6 +349,7 @@ fn make_behind_link<D: Disk>(disk: &mut D, name: &str) -> OpenTry<D::File>
 
 fn is_link<D: Disk>(disk: &mut D, name: &str) -> bool
     ensures asked { HasAsked (D.asked disk.old) (D.asked disk.new) (IsLookAtName name.now result) }
+    ensures kept { HoldStill (D.holds disk.old) (D.holds disk.new) }
 {
     match disk.look_at_name(name) {
         Ok(metadata) => metadata.is_symlink(),

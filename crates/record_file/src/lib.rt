@@ -13,6 +13,7 @@
 
 mod beside;
 mod disk;
+mod disk_file;
 mod disk_record;
 mod durable;
 mod file_id;
@@ -27,6 +28,7 @@ mod synced;
 
 pub use beside::{BESIDE, folder_of, make_new};
 pub use disk::{Access, Disk};
+pub use disk_file::{DiskFile, SystemFile, take_up_to};
 pub use disk_record::DiskRecord;
 pub use durable::{DurableWriter, SyncWrite};
 pub use locks::Locks;

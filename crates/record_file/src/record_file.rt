@@ -1,5 +1,6 @@
 //! The record's file over a whole load.
 ghost use Rattle.std.specs.Prelude.{◌≡◌, None, false, IfErr, IfOk, IsSome, OnErr, OnOk, MatchOption, option_map};
+ghost use Rattle.record_file.specs.Known.{IsUntouched, known_of};
 ghost use Rattle.record_file.specs.Beginning.{IsBegun, IsNotBegun};
 ghost use Rattle.record_file.specs.Closing.{IsRecordClosed, Remains};
 ghost use Rattle.record_file.specs.DiskRecord.{HasBegun};
@@ -8,9 +9,8 @@ ghost use Rattle.record_file.specs.InPlace.{HasRead, MayBeWrittenOver};
 ghost use Rattle.load_record.specs.RecordText.{record_text};
 ghost use Rattle.load_record.specs.declared.version.Version.TheVariants.{Second};
 ghost use Rattle.record_file.specs.OldRecord.{IsWritable};
-ghost use Rattle.record_file.specs.Reading.{IsRead, IsNotRead, found_in};
+ghost use Rattle.record_file.specs.Reading.{IsRead, IsReadOf, IsNotRead, found_in};
 ghost use Rattle.record_file.specs.RecordFault.{IsUnbegun, IsUnread};
-ghost use Rattle.record_file.specs.Taking.{kind_of};
 
 use crate::disk::Disk;
 use crate::disk_record::{DiskRecord, begin_beside, begin_in_place};
@@ -35,7 +35,7 @@ impl<'a, D: Disk + Drop> RecordFile<'a, D> {
     pub fn new(disk: D, name: &'a str) -> RecordFile<'a, D>
         ensures disk { result.disk ≡ disk }
         ensures name { result.name.now ≡ name.now }
-        ensures held { option_map kind_of result.held ≡ None }
+        ensures held { option_map (known_of D.File.written) result.held ≡ None }
     {
         RecordFile {
             disk,
@@ -55,10 +55,13 @@ impl<'a, D: Disk + Drop> RecordFile<'a, D> {
         ensures name { self.new.name.now ≡ self.old.name.now }
         ensures writable { IfOk result (λ old. IsWritable old.writable → IsSome self.new.held) }
         ensures standing { IfOk result (λ old. IsWritable old.writable → MatchOption self.new.held ⊥ (HasRead (λ standing. standing ≡ old.text.items))) }
+        ensures text { IfOk result (λ old. self.old.held ≡ None → IsSome self.new.held → IsReadOf (D.holds self.old.disk self.old.name.now) old.text.items) }
+        ensures untouched { OnOk result (self.old.held ≡ None → IsUntouched (D.asked self.new.disk) (option_map (known_of D.File.written) self.new.held)) }
         ensures asked { IfOk result (λ old. HasAsked (D.asked self.old.disk) (D.asked self.new.disk)
-            (IsRead self.old.name.now (found_in old) (option_map kind_of self.old.held) (option_map kind_of self.new.held))) }
+            (IsRead self.old.name.now (found_in old) (option_map (known_of D.File.written) self.old.held)
+            (option_map (known_of D.File.written) self.new.held))) }
         ensures failed { IfErr result (λ _. HasAsked (D.asked self.old.disk) (D.asked self.new.disk) (IsNotRead self.old.name.now)) }
-        ensures kept { OnErr result (option_map kind_of self.new.held ≡ option_map kind_of self.old.held) }
+        ensures kept { OnErr result (option_map (known_of D.File.written) self.new.held ≡ option_map (known_of D.File.written) self.old.held) }
     {
         let Some(mut held) = hold(&mut self.disk, self.name)? else {
             return Ok(OldRecord {
@@ -99,14 +102,15 @@ impl<'a, D: Disk + Drop> RecordFile<'a, D> {
         ensures begun { IfOk result (HasBegun D.File.contents plan.now verified) }
         ensures fault { IfErr result IsUnbegun }
         ensures name { self.new.name.now ≡ self.old.name.now }
-        ensures asked { IfOk result (λ keeper. MatchOption (option_map kind_of self.old.held) ⊥ (λ kind.
-            HasAsked (D.asked self.old.disk) (D.asked self.new.disk) (IsBegun self.old.name.now kind.0 kind.1 keeper.text))) }
-        ensures failed { IfErr result (λ _. MatchOption (option_map kind_of self.old.held) (D.asked self.new.disk ≡ D.asked self.old.disk) (λ kind.
-            HasAsked (D.asked self.old.disk) (D.asked self.new.disk) (IsNotBegun self.old.name.now kind.0))) }
-        ensures remains { OnOk result (Remains (option_map kind_of self.new.held)) }
-        ensures over { OnOk result (option_map kind_of self.new.held ≡ None
+        ensures asked { OnOk result (MatchOption (option_map (known_of D.File.written) self.old.held) ⊥ (λ known.
+            HasAsked (D.asked self.old.disk) (D.asked self.new.disk) (IsBegun self.old.name.now known (record_text Second plan.now verified false)))) }
+        ensures failed { OnErr result (MatchOption (option_map (known_of D.File.written) self.old.held)
+            (D.asked self.new.disk ≡ D.asked self.old.disk) (λ known. HasAsked (D.asked self.old.disk) (D.asked self.new.disk)
+            (IsNotBegun self.old.name.now known (record_text Second plan.now verified false)))) }
+        ensures remains { OnOk result (Remains (option_map (known_of D.File.written) self.new.held)) }
+        ensures over { OnOk result (option_map (known_of D.File.written) self.new.held ≡ None
             → MatchOption self.old.held ⊥ (MayBeWrittenOver (record_text Second plan.now verified false))) }
-        ensures not_held { OnErr result (option_map kind_of self.new.held ≡ None) }
+        ensures not_held { OnErr result (option_map (known_of D.File.written) self.new.held ≡ None) }
     {
         let Some(mut held) = self.held.take() else {
             return Err(RecordFault::Write);
@@ -129,7 +133,8 @@ impl<'a, D: Disk + Drop> RecordFile<'a, D> {
     /// Where the load made the file under this very name, and nothing was written to it, it is removed, while it
     /// is held. One that was made where a link leads to stays, empty.
     pub fn close(self) -> D
-        ensures asked { HasAsked (D.asked self.entry.disk) (D.asked result) (IsRecordClosed self.entry.name.now (option_map kind_of self.entry.held)) }
+        ensures asked { HasAsked (D.asked self.entry.disk) (D.asked result)
+            (IsRecordClosed self.entry.name.now (option_map (known_of D.File.written) self.entry.held)) }
     {
         let RecordFile {
             mut disk,

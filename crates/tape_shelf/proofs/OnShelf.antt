@@ -72,13 +72,13 @@ folder_name name false some h = (λ e. absurd (cc e), either) where
   either (inl none) = absurd (omega (arith, ap length none, eqb-false (length name) 0 (sym some)))
   either (inr folder) = absurd (cc (h.1 folder.0 folder.1))
 
-pub renamed : (own name : List ℕ) (steps : List DiskStep) → IsSearch name None steps
-    → IsNaming own name None (Failed (Link own name) ∷ (steps ++ Did (Rename own name) ∷ []))
-renamed own name steps Free = Renamed
+pub renamed : (own name : List ℕ) (left : Option (List ℕ)) (steps : List DiskStep) → IsSearch name None steps
+    → IsNaming own name None (Failed (Link own name) ∷ (steps ++ Did (Rename own name left) ∷ []))
+renamed own name left steps Free = Renamed left
 
-pub not_renamed : (own name : List ℕ) (steps : List DiskStep) → IsSearch name None steps
-    → IsNaming own name (Some Write) (Failed (Link own name) ∷ (steps ++ Failed (Rename own name) ∷ []))
-not_renamed own name steps Free = NotRenamed
+pub not_renamed : (own name : List ℕ) (left : Option (List ℕ)) (steps : List DiskStep) → IsSearch name None steps
+    → IsNaming own name (Some Write) (Failed (Link own name) ∷ (steps ++ Failed (Rename own name left) ∷ []))
+not_renamed own name left steps Free = NotRenamed left
 
 -- ---- room
 

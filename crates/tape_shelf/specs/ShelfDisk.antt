@@ -141,15 +141,17 @@ pub data IsOnDisk (room : Room) : Bool → List DiskStep → Type 0 where
 pub data IsNaming (own name : List ℕ) : Option ShelfFault → List DiskStep → Type 0 where
   Linked : IsNaming own name None (Did (Link own name) ∷ [])
   NameTaken : IsNaming own name (Some IsThere) (Failed (Link own name) ∷ [])
-  Renamed : IsNaming own name None (Failed (Link own name) ∷ Failed (LookAtName name) ∷ Did (Rename own name) ∷ [])
-  NotRenamed : IsNaming own name (Some Write) (Failed (Link own name) ∷ Failed (LookAtName name) ∷ Failed (Rename own name) ∷ [])
+  Renamed : (left : Option (List ℕ)) → IsNaming own name None (Failed (Link own name) ∷ Failed (LookAtName name) ∷ Did (Rename own name left) ∷ [])
+  NotRenamed : (left : Option (List ℕ))
+      → IsNaming own name (Some Write) (Failed (Link own name) ∷ Failed (LookAtName name) ∷ Failed (Rename own name left) ∷ [])
   NotFree : (fault : ShelfFault) (steps : List DiskStep) → IsSearch name (Some fault) steps
       → IsNaming own name (Some fault) (Failed (Link own name) ∷ steps)
 
 -- the new name goes again: the file has its own name, too, or gets it back
 pub data IsTakenBack (own name : List ℕ) (written : Option (List ℕ)) : List DiskStep → Type 0 where
   HasItsOwn : (taking : List DiskStep) → IsGone name written taking → IsTakenBack own name written (Did (FindFile own written) ∷ taking)
-  RenamedBack : (done : Bool) → IsTakenBack own name written (Failed (FindFile own written) ∷ step_by (Rename name own) done ∷ [])
+  RenamedBack : (left : Option (List ℕ)) (done : Bool)
+      → IsTakenBack own name written (Failed (FindFile own written) ∷ step_by (Rename name own left) done ∷ [])
 
 -- the folder is brought to the disk, and then the file's own name goes; where that fails, the new name goes again
 pub data IsSettling (place : Place) (room : Room) : Option ShelfFault → List DiskStep → Type 0 where

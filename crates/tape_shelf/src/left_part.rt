@@ -12,8 +12,8 @@ use crate::found_part::{Found, found_in};
 use crate::new_file::{PART, Part};
 use crate::saved_tape::tape_room;
 use crate::shelf::ShelfFault;
-use byte_io::{InputFault, read_up_to};
-use record_file::{Access, Disk, folder_of};
+use byte_io::InputFault;
+use record_file::{Access, Disk, folder_of, take_up_to};
 use request_values::AddressRange;
 use std::alloc::Global;
 
@@ -125,7 +125,7 @@ fn read_left<D: Disk>(
     ensures failed { OnErr result (HasAsked (D.asked disk.old) (D.asked disk.new) LeaveAll) }
 {
     match disk.open(Access::ReadOnly, name) {
-        Ok(mut file) => match read_up_to(alloc, &mut file, tape_room(range) + 1) {
+        Ok(mut file) => match take_up_to(alloc, &mut file, tape_room(range) + 1) {
             Ok(text) => found_in(alloc, range, &text),
             Err(InputFault::Read) => Err(ShelfFault::PartIsThere),
             Err(InputFault::Memory) => Err(ShelfFault::Memory),

@@ -325,7 +325,7 @@ fn name_written<D: Disk>(disk: &mut D, part: &Part<D::File>, name: &str) -> Resu
     if !is_on_disk(disk, part) {
         return Err(ShelfFault::Write);
     }
-    match give_name(disk, part.name.as_str(), name) {
+    match give_name(disk, part.name.as_str(), &part.file, name) {
         Ok(()) => settle(disk, part, name),
         Err(fault) => Err(fault),
     }
@@ -371,31 +371,36 @@ fn take_back<D: Disk>(disk: &mut D, own: &str, file: &D::File, name: &str)
     if disk.has_name(own, file) {
         let_go(disk, name, file);
     } else {
-        let _ = disk.rename(name, own);
+        let _ = disk.rename(file, name, own);
     }
 }
 
 // Gives a file another name, which nothing has. Where the file system knows no second names, it is looked
 // for right before.
-fn give_name<D: Disk>(disk: &mut D, own: &str, name: &str) -> Result<(), ShelfFault>
+fn give_name<D: Disk>(disk: &mut D, own: &str, file: &D::File, name: &str) -> Result<(), ShelfFault>
     ensures fault { IfErr result IsPutFault }
     ensures asked { HasAsked (D.asked disk.old) (D.asked disk.new) (IsNaming own.now name.now (fault_of result)) }
 {
     match disk.link(own, name) {
         Ok(()) => Ok(()),
         Err(error) if error.kind() == ErrorKind::AlreadyExists => Err(ShelfFault::IsThere),
-        Err(_) => rename_to_free(disk, own, name),
+        Err(_) => rename_to_free(disk, own, file, name),
     }
 }
 
 // Renames a file, once nothing was found to have the name.
-fn rename_to_free<D: Disk>(disk: &mut D, own: &str, name: &str) -> Result<(), ShelfFault>
+fn rename_to_free<D: Disk>(
+    disk: &mut D,
+    own: &str,
+    file: &D::File,
+    name: &str,
+) -> Result<(), ShelfFault>
     ensures fault { IfErr result IsPutFault }
     ensures asked { HasAsked (D.asked disk.old) (D.asked disk.new)
         (λ steps. IsNaming own.now name.now (fault_of result) (Failed (Link own.now name.now) ∷ steps)) }
 {
     match find_free(disk, name) {
-        Ok(()) => match disk.rename(own, name) {
+        Ok(()) => match disk.rename(file, own, name) {
             Ok(()) => Ok(()),
             Err(_) => Err(ShelfFault::Write),
         },

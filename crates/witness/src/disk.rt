@@ -57,8 +57,8 @@ impl<'c, T: Disk> Disk for Watched<'c, T> {
         self.witness.of_call(self.part.link(from, to))
     }
 
-    fn rename(&mut self, from: &str, to: &str) -> io::Result<()> {
-        self.witness.of_call(self.part.rename(from, to))
+    fn rename(&mut self, file: &WatchedFile<'c, T::File>, from: &str, to: &str) -> io::Result<()> {
+        self.witness.of_call(self.part.rename(&file.file, from, to))
     }
 
     // What is removed is in the way, or was made in vain: why that fails is no reason of anything.

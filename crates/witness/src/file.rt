@@ -2,9 +2,10 @@
 ghost use Rattle.std.specs.Prelude.{◌≡◌};
 
 use crate::seen::Witness;
-use std::fs::{Metadata, OpenFile, Permissions};
+use record_file::{DiskFile, SyncWrite};
+use std::fs::{Metadata, Permissions};
 use std::io;
-use std::io::{Read, Seek, SeekFrom, Write};
+use std::io::{Read, Write};
 
 /// An open file, or another input. Each call is handed on; how one failed is kept, and what was read first.
 #[derive(Drop)]
@@ -58,36 +59,49 @@ impl<T: Write> Write for WatchedFile<'_, T> {
     }
 }
 
-impl<T: Seek> Seek for WatchedFile<'_, T> {
-    ghost stream_position = { λ watched. T.stream_position watched.file };
+impl<T: SyncWrite> SyncWrite for WatchedFile<'_, T> {
+    ghost handed_on = { λ watched. T.handed_on watched.file };
 
-    ghost stream_bytes = { λ watched. T.stream_bytes watched.file };
+    ghost on_disk = { λ watched. T.on_disk watched.file };
 
-    fn seek(&mut self, to: SeekFrom) -> io::Result<u64> {
-        let answer = self.file.seek(to);
+    fn hand_on(&mut self) -> io::Result<()> {
+        let answer = self.file.hand_on();
+        self.witness.of_call(answer)
+    }
+
+    fn sync(&mut self) -> io::Result<()> {
+        let answer = self.file.sync();
         self.witness.of_call(answer)
     }
 }
 
-impl<T: OpenFile> OpenFile for WatchedFile<'_, T> {
+impl<T: DiskFile> DiskFile for WatchedFile<'_, T> {
+    ghost written = { λ watched. T.written watched.file };
+
+    ghost unread = { λ watched. T.unread watched.file };
+
     fn metadata(&self) -> io::Result<Metadata> {
         self.witness.of_call(self.file.metadata())
     }
 
-    fn set_len(&self, size: u64) -> io::Result<()> {
-        self.witness.of_call(self.file.set_len(size))
+    fn read_next(&mut self, buf: &mut [u8]) -> io::Result<usize> {
+        let answer = self.file.read_next(buf);
+        if let Ok(count) = answer
+            && !self.is_begun
+        {
+            self.is_begun = true;
+            self.witness.see_front(&buf[..count]);
+        }
+        self.witness.of_read(answer)
     }
 
-    fn sync_all(&self) -> io::Result<()> {
-        self.witness.of_call(self.file.sync_all())
-    }
-
-    fn sync_data(&self) -> io::Result<()> {
-        self.witness.of_call(self.file.sync_data())
+    fn go_back(&mut self) -> io::Result<()> {
+        let answer = self.file.go_back();
+        self.witness.of_call(answer)
     }
 
     // Which of them a new record has is no matter that a load fails by.
-    fn set_permissions(&self, permissions: Permissions) -> io::Result<()> {
+    fn set_permissions(&mut self, permissions: Permissions) -> io::Result<()> {
         self.file.set_permissions(permissions)
     }
 }

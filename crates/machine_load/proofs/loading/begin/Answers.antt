@@ -3,6 +3,8 @@ use Rattle.host_devices.specs.Devices.{line_told}
 use Rattle.host_devices.specs.Told.{Gains}
 use Rattle.machine_load.specs.Scene.{around_of}
 use Rattle.machine_load.proofs.Faults.{all_stand, behind_looks_fault, looked_first}
+use Rattle.machine_load.proofs.OnDisk.{not_begun_by}
+use Rattle.machine_load.specs.RecordDisk.{DiskAsked, IsBegunOn, IsNotBegunOn, begun_text}
 use Rattle.machine_load.proofs.loading.begin.Goals as goal
 
 pub returns-in-Some-hindrance-clause-begun : goal.returns-in-Some-hindrance-clause-begun
@@ -59,3 +61,13 @@ returns-clause-fault g c = rw (c.from.ensures) (behind_looks_fault c.args.first 
       given = subst (λ lines. Gains lines (g.S.Surroundings.lines c.let_go.new.self) (line_told g.S.Line.Line c.look-looks.new.line ∷ []))
           (c.in-Err.ensures.lines ∙ c.in_ok-line.ensures.lines) c.let_go.ensures.lines;
     }))
+
+pub returns-in-Ok-clause-disk : goal.returns-in-Ok-clause-disk
+returns-in-Ok-clause-disk g c =
+    subst (λ disk. DiskAsked disk (g.S.Surroundings.disk c.begin_record.new.self) (IsBegunOn (begun_text c.behind-first.result.plan c.behind-first.result.verified)))
+    c.connect.ensures.disk (rw (c.plan-2.ensures, c.verified-2.ensures.value) at c.in-Ok.ensures.disk)
+
+pub returns-clause-disk_in_vain : goal.returns-clause-disk_in_vain
+returns-clause-disk_in_vain g c = rw (c.from.ensures, c.let_go.ensures.disk) (not_begun_by _ _ _ _ c.in-Err.ensures.fault
+    (subst (λ disk. DiskAsked disk (g.S.Surroundings.disk c.begin_record.new.self) (IsNotBegunOn (begun_text c.plan-2.result.now c.verified-2.result)))
+    c.connect.ensures.disk c.in-Err.ensures.disk))

@@ -1,8 +1,8 @@
 use Rattle.host_devices.proofs.Told.{tells_join}
 use Rattle.record_file.proofs.Asking.{asked_one, on_err, not_ok}
-use Rattle.record_file.proofs.Rows.{over_device, over_file}
+use Rattle.record_file.proofs.Rows.{all_written, over_device, over_file}
 use Rattle.std.proofs.Common.{subst, sym, ◌∙◌}
-use Rattle.record_file.specs.Beginning.{IsLetGo, IsMadeReady, Unready, Unwritten, Uncut}
+use Rattle.record_file.specs.Beginning.{IsAllWritten, IsLetGo, IsMadeReady, Unready, Unwritten, Uncut}
 use Rattle.record_file.proofs.disk_record.begin_in_place.Goals as goal
 
 pub returns-in-Err-clause-failed : goal.returns-in-Err-clause-failed
@@ -22,11 +22,16 @@ returns-in_err-cut_behind-clause-asked g c = not_ok _ c.from_residual-in_err-cut
 
 pub returns-in_err-cut_behind-clause-failed : goal.returns-in_err-cut_behind-clause-failed
 returns-in_err-cut_behind-clause-failed g c = let k = c.in-Ok.ensures.asked in
-    let q = c.in_err-cut_behind.ensures.asked in
-    on_err c.from_residual-in_err-cut_behind.result (asked_one _ _ _ (tells_join _ _ _ _ _ k.1 q.1) (Uncut _ _ _ _ (subst (λ device. IsMadeReady c.args.name.now c.args.held.made device k.0) (sym c.in-Ok.ensures.device ∙ c.if-device.false) k.2) q.2))
+    let not_device = sym c.in-Ok.ensures.device ∙ c.if-device.false in
+    let all = subst (IsAllWritten _ _) (sym c.writer.ensures.text) (all_written _ _ _ _ (c.in-Ok.ensures.front not_device) c.in_ok-keeper.ensures.written) in
+    let q = c.in_err-cut_behind.ensures.asked _ _ all (c.in-Ok.ensures.size not_device) in
+    on_err c.from_residual-in_err-cut_behind.result (asked_one _ _ _ (tells_join _ _ _ _ _ k.1 q.1) (Uncut _ _ (subst (λ device. IsMadeReady c.args.name.now c.args.held.made device k.0) (sym c.in-Ok.ensures.device ∙ c.if-device.false) k.2) q.2))
 
 pub returns-then-device-clause-asked : goal.returns-then-device-clause-asked
 returns-then-device-clause-asked g c = over_device _ _ _ _ _ _ _ _ c.in-Ok.ensures.device c.if-device.true c.in-Ok.ensures.asked
 
 pub returns-clause-asked : goal.returns-clause-asked
-returns-clause-asked g c = over_file _ _ _ _ _ _ _ _ _ _ _ c.in-Ok.ensures.device c.if-device.false c.writer.ensures.text c.in-Ok.ensures.size c.in-Ok.ensures.asked c.in_ok-cut_behind.ensures.asked
+returns-clause-asked g c = let not_device = sym c.in-Ok.ensures.device ∙ c.if-device.false in
+    let all = subst (IsAllWritten _ _) (sym c.writer.ensures.text) (all_written _ _ _ _ (c.in-Ok.ensures.front not_device) c.in_ok-keeper.ensures.written) in
+    over_file _ _ _ _ _ _ _ _ _ c.in-Ok.ensures.device c.if-device.false c.in-Ok.ensures.asked
+    (c.in_ok-cut_behind.ensures.asked _ _ all (c.in-Ok.ensures.size not_device))

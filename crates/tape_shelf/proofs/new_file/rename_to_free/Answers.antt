@@ -5,10 +5,10 @@ use Rattle.tape_shelf.proofs.OnShelf.{renamed, not_renamed}
 use Rattle.tape_shelf.proofs.new_file.rename_to_free.Goals as goal
 
 pub returns-in-Ok-rename-clause-asked : goal.returns-in-Ok-rename-clause-asked
-returns-in-Ok-rename-clause-asked g c = let free = c.in-Ok.ensures.asked in asked_one _ _ _ (tells_join _ _ _ _ _ free.1 c.in-Ok-rename.ensures.asked) (renamed _ _ _ free.2)
+returns-in-Ok-rename-clause-asked g c = let free = c.in-Ok.ensures.asked in asked_one _ _ _ (tells_join _ _ _ _ _ free.1 c.in-Ok-rename.ensures.asked) (renamed _ _ _ _ free.2)
 
 pub returns-in-Err-rename-clause-asked : goal.returns-in-Err-rename-clause-asked
-returns-in-Err-rename-clause-asked g c = let free = c.in-Ok.ensures.asked in asked_one _ _ _ (tells_join _ _ _ _ _ free.1 c.in-Err-rename.ensures.asked) (not_renamed _ _ _ free.2)
+returns-in-Err-rename-clause-asked g c = let free = c.in-Ok.ensures.asked in asked_one _ _ _ (tells_join _ _ _ _ _ free.1 c.in-Err-rename.ensures.asked) (not_renamed _ _ _ _ free.2)
 
 pub returns-in-Err-clause-asked : goal.returns-in-Err-clause-asked
 returns-in-Err-clause-asked g c = let taken = c.in-Err.ensures.asked in (taken.0, taken.1, NotFree _ _ taken.2)

@@ -1,0 +1,21 @@
+-- What is known of the file of a record that is held.
+use Rattle.std.specs.Prelude.{◌≡◌, ℕ, List, [], Bool, Option, Some, IfSome, OnSome}
+use Rattle.record_file.specs.DiskStep.{DiskStep}
+use Rattle.record_file.specs.declared.held_file.HeldFile.{HeldFile}
+use Rattle.record_file.specs.declared.made.Made.{Made}
+
+-- whether this load made it, whether it is a device, and what was written to it, as far as that is told
+pub record Known : Type 0 where
+  pub made : Made
+  pub device : Bool
+  pub written : Option (List ℕ)
+
+abbrev pub known_as : Made × Bool → Option (List ℕ) → Known
+known_as kind written = record { made = kind.0; device = kind.1; written = written }
+
+abbrev pub known_of : {T : Type 0} → (T → Option (List ℕ)) → HeldFile T → Known
+known_of written held = record { made = held.made; device = held.device; written = written held.file }
+
+-- nothing was written to it, where its disk tells what was asked
+abbrev pub IsUntouched : Option (List DiskStep) → Option Known → Type 0
+IsUntouched asked file = IfSome file (λ known. OnSome asked (known.written ≡ Some []))

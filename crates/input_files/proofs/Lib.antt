@@ -1,4 +1,5 @@
 pub mod Errors
+mod Left
 pub mod OpenedTapes
 pub mod Taken
 pub mod TapeInput

@@ -1,14 +1,13 @@
--- The files that a request names, and what they held. What a file holds is not told by its type; so these say that there are bytes that
--- the files held.
-use Rattle.std.specs.Prelude.{◌≡◌, ◌⊎◌, ℕ, Bool, true, false, nat_eq, if◌then◌else◌, List, [], ◌∷◌, length, map}
-use Rattle.std.specs.Prelude.{Option, Some, None, codes}
+-- The files that a request names, and what they held: what the system tells of the files that it opened by these names, in their order.
+use Rattle.std.specs.Prelude.{◌≡◌, ◌⊎◌, ℕ, Bool, true, false, nat_eq, if◌then◌else◌, List, [], ◌∷◌, map}
+use Rattle.std.specs.Prelude.{Option, Some, codes}
 use Rattle.std.specs.Cmp.Lexicographic.{pointwise}
 use Rattle.endings.specs.declared.command_fault.CommandFault.{CommandFault}
 use Rattle.endings.specs.declared.failure.Failure.{Failure}
 use Rattle.endings.specs.Failure.{IsFailureOf}
 use Rattle.endings.specs.Held.{Held}
 use Rattle.host_devices.specs.Told.{HasAsked}
-use Rattle.input_files.specs.Opening.{Name, InputStep, AreTried}
+use Rattle.input_files.specs.Opening.{Name, InputStep, AreAdded, AreTried}
 use Rattle.input_files.specs.Intake.{Intake}
 
 -- what a reader has left or a writer holds, as far as its type tells
@@ -29,19 +28,17 @@ inputs_of names remaining old new = record { names = names; held = map remaining
 abbrev pub only_input : Known → Known → Inputs
 only_input input input' = record { names = []; held = input ∷ []; rests = input' ∷ [] }
 
--- from one moment to another the files of these names were opened, in this order, and no others
-abbrev pub AreOpened : List Name → Option (List InputStep) → Option (List InputStep) → Type 0
-AreOpened names opened opened' = HasAsked opened opened' (AreTried names None)
+-- from one moment to another the files of these names were opened, in this order, and no others; and this is what they held
+abbrev pub AreOpened : List Name → List Known → Option (List InputStep) → Option (List InputStep) → Type 0
+AreOpened names held opened opened' = HasAsked opened opened' (AreAdded names [] held)
 
 -- one of them was not: of those before it each was, and none behind it was tried
 abbrev pub IsUnopened : List Name → Option (List InputStep) → Option (List InputStep) → Failure → Type 0
 IsUnopened names opened opened' failure = HasAsked opened opened' (AreTried names (Some failure))
 
 -- this is so of what the files of these names held and of what was left of it
-pub record OfFiles (names : List Name) (P : Inputs → Type 0) : Type 0 where
-  pub held : List Known
+pub record OfFiles (names : List Name) (held : List Known) (P : Inputs → Type 0) : Type 0 where
   pub rests : List Known
-  pub one_each : length held ≡ length names
   pub is_so : P (record { names = names; held = held; rests = rests })
 
 -- the names of tapes mean standard input: it has one, and that is `-`
@@ -54,16 +51,17 @@ means_input (name ∷ (other ∷ names)) = false
 abbrev pub files_of : List Name → List Name
 files_of names = if means_input names then [] else names
 
--- this is so of the tapes of these names: of standard input alone where they mean it, else of files, and then standard input is as it was
-abbrev pub OfInputs : List Name → Held → Held → (Inputs → Type 0) → Type 0
-OfInputs names before after P =
+-- this is so of the tapes of these names: of standard input alone where they mean it, else of files that held this, and then standard input is as it was
+abbrev pub OfInputs : List Name → List Known → Held → Held → (Inputs → Type 0) → Type 0
+OfInputs names held before after P =
     ((means_input names ≡ true) × P (only_input before.input after.input))
-    ⊎ ((means_input names ≡ false) × OfFiles names P × (after.input ≡ before.input))
+    ⊎ ((means_input names ≡ false) × OfFiles names held P × (after.input ≡ before.input))
 
--- .. whose files were opened
+-- .. whose files were opened, and held this
 pub record OfTapes (names : List Name) (before after : Intake) (P : Inputs → Type 0) : Type 0 where
-  pub opened : AreOpened (files_of names) before.opened after.opened
-  pub is_so : OfInputs names before.held after.held P
+  pub held : List Known
+  pub opened : AreOpened (files_of names) held before.opened after.opened
+  pub is_so : OfInputs names held before.held after.held P
 
 -- one of these files can't be opened, or want of memory, with nothing read of standard input and nothing written
 pub record FailsUnopened (files : List Name) (before after : Intake) (failure : Failure) : Type 0 where

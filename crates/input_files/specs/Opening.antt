@@ -1,6 +1,7 @@
--- The files that are opened by their names, in an order.
-use Rattle.std.specs.Prelude.{◌≡◌, ℕ, Bool, true, false, List, [], ◌∷◌, ◌++◌, Option, Some, None}
+-- The files that are opened by their names, in an order, and what each gives its reader.
+use Rattle.std.specs.Prelude.{◌≡◌, ℕ, Bool, true, false, List, [], ◌∷◌, ◌++◌, Option, Some, None, Result, Ok, Err, ⊤}
 use Rattle.std.specs.Borrow.{Bor}
+use Rattle.std.specs.List.{AllZip}
 use Rattle.endings.specs.declared.failure.Failure.{Failure}
 use Rattle.endings.specs.declared.failure.Failure.TheVariants.{CannotRead, NoMemory}
 
@@ -8,33 +9,65 @@ use Rattle.endings.specs.declared.failure.Failure.TheVariants.{CannotRead, NoMem
 abbrev pub Name : Type 0
 Name = Bor (List ℕ)
 
--- a file was opened by this name, or was not when it was to be
+-- a file was opened by this name, and what it will give, as far as its type tells; or it was not when it was to be
 pub data InputStep : Type 0 where
-  Opened : List ℕ → InputStep
+  Opened : List ℕ → Option (List ℕ) → InputStep
   NotOpened : List ℕ → InputStep
 
--- a file was to be opened by this name, and whether it was
-abbrev pub opening : List ℕ → Bool → InputStep
-opening name true = Opened name
-opening name false = NotOpened name
+-- what a file will give, where it was opened
+abbrev pub given_by : {F E : Type 0} → (F → Option (List ℕ)) → Result F E → Option (Option (List ℕ))
+given_by remaining (Ok file) = Some (remaining file)
+given_by remaining (Err error) = None
 
--- a name is tried once, or once more where the first try failed; and the file is open in the end, or is not
-pub data IsTried (name : List ℕ) : Bool → List InputStep → Type 0 where
-  Once : (opened : Bool) → IsTried name opened (opening name opened ∷ [])
-  Again : (opened : Bool) → IsTried name opened (NotOpened name ∷ opening name opened ∷ [])
+-- a file was to be opened by this name, and what it will give where it was
+abbrev pub opening : List ℕ → Option (Option (List ℕ)) → InputStep
+opening name (Some given) = Opened name given
+opening name None = NotOpened name
+
+-- a name is tried once, or once more where the first try failed; and what its file will give, if it is open in the end
+pub data IsTried (name : List ℕ) : Option (Option (List ℕ)) → List InputStep → Type 0 where
+  Once : (given : Option (Option (List ℕ))) → IsTried name given (opening name given ∷ [])
+  Again : (given : Option (Option (List ℕ))) → IsTried name given (NotOpened name ∷ opening name given ∷ [])
 
 -- the files of these names are opened one behind the other: all of them; or up to the first that does not open, which is the one that is named;
 -- or up to where memory is wanting, which may be behind a first try that failed
 pub data AreTried : List Name → Option Failure → List InputStep → Type 0 where
   AllOpen : AreTried [] None []
-  Opens : (name : Name) (names : List Name) (failure : Option Failure) (steps rest : List InputStep) → IsTried name.now true steps
+  Opens : (name : Name) (names : List Name) (failure : Option Failure) (given : Option (List ℕ)) (steps rest : List InputStep) → IsTried name.now (Some given) steps
       → AreTried names failure rest → AreTried (name ∷ names) failure (steps ++ rest)
-  Shut : (name : Name) (names : List Name) (steps : List InputStep) → IsTried name.now false steps
+  Shut : (name : Name) (names : List Name) (steps : List InputStep) → IsTried name.now None steps
       → AreTried (name ∷ names) (Some (CannotRead name)) steps
   NoRoom : (names : List Name) → AreTried names (Some NoMemory) []
   NoRoomToRetry : (name : Name) (names : List Name) → AreTried (name ∷ names) (Some NoMemory) (NotOpened name.now ∷ [])
 
--- a file of this name was not opened, or it was and there is no memory for its buffer
+-- what the files will give that were opened in these steps, in their order
+abbrev pub given_in : List InputStep → List (Option (List ℕ))
+given_in [] = []
+given_in (Opened name given ∷ steps) = given ∷ given_in steps
+given_in (NotOpened name ∷ steps) = given_in steps
+
+-- no name had to be tried twice
+abbrev pub OpenAtOnce : List InputStep → Type 0
+OpenAtOnce [] = ⊤
+OpenAtOnce (Opened name given ∷ steps) = OpenAtOnce steps
+OpenAtOnce (NotOpened name ∷ steps) = ⊥
+
+-- of all that a file gives this is a front, where it is told
+abbrev pub IsFrontOf : Option (List ℕ) → Option (List ℕ) → Type 0
+IsFrontOf front None = ⊤
+IsFrontOf None (Some all) = ⊥
+IsFrontOf (Some front) (Some all) = (rest : List ℕ) × (front ++ rest ≡ all)
+
+-- behind these steps readers have left of files what those give: all of it, or, once a name had to be tried twice, fronts that were read ahead
+pub record IsLeft (given : List (Option (List ℕ))) (steps : List InputStep) (left : List (Option (List ℕ))) : Type 0 where
+  pub fronts : AllZip IsFrontOf left given
+  pub whole : OpenAtOnce steps → left ≡ given
+
+-- files of these names were opened behind others, and this is what their readers have left and those of these
+abbrev pub AreAdded : List Name → List (Option (List ℕ)) → List (Option (List ℕ)) → List InputStep → Type 0
+AreAdded names others left steps = AreTried names None steps × IsLeft (others ++ given_in steps) steps left
+
+-- a file was not opened by this name, or it was and there is no memory for its buffer
 abbrev pub IsUnbuffered : Name → Bool → Failure → Type 0
 IsUnbuffered name opened (CannotRead other) = (other ≡ name) × (opened ≡ false)
 IsUnbuffered name opened NoMemory = opened ≡ true

@@ -3,7 +3,7 @@ use Rattle.std.specs.Prelude.{◌⊎◌, if◌then◌else◌, List, [], ◌∷�
 use Rattle.input_files.specs.Tapes.{AreTapes, AreTapesFault}
 use Rattle.input_files.specs.declared.tapes.Tapes.{Tapes}
 use Rattle.endings.specs.declared.failure.Failure.{Failure}
-use Rattle.input_files.specs.Inputs.{Inputs, AreOpened, IsUnopened, OfFiles, OfInputs, OfTapes, FailsUnopened, HasFault, files_of, means_input, only_input}
+use Rattle.input_files.specs.Inputs.{Inputs, Known, AreOpened, IsUnopened, OfFiles, OfInputs, OfTapes, FailsUnopened, HasFault, files_of, means_input, only_input}
 use Rattle.input_files.specs.Intake.{Intake}
 use Rattle.input_files.specs.Opening.{Name, InputStep}
 use Rattle.request_values.specs.declared.request.Rehearsal.{Rehearsal}
@@ -33,28 +33,41 @@ rehearsed_tapes rehearsal = rehearsal.tape ∷ rehearsal.more.items
 abbrev pub rehearsed_names : Rehearsal → List Name
 rehearsed_names rehearsal = rehearsal.tape ∷ rehearsal.script ∷ rehearsal.more.items
 
+-- what a script's file held, behind the first of tapes
+abbrev pub behind_first : Known → List Known → List Known
+behind_first script [] = script ∷ []
+behind_first script (first ∷ more) = first ∷ script ∷ more
+
+-- all these were opened as files, and this is so of what the script's and those of the tapes held
+pub record OfScripted (rehearsal : Rehearsal) (opened opened' : Option (List InputStep)) (P : Known → Inputs → Type 0) : Type 0 where
+  pub script : Known
+  pub held : List Known
+  pub are_open : AreOpened (rehearsed_names rehearsal) (behind_first script held) opened opened'
+  pub is_so : OfFiles (rehearsed_tapes rehearsal) held (P script)
+
 -- no tapes were taken of all these as files: one can't be opened, or what they hold is to blame
 abbrev pub FailsToTakeFiles : Rehearsal → Option (List InputStep) → Option (List InputStep) → Failure → Type 0
 FailsToTakeFiles rehearsal opened opened' failure =
-    IsUnopened (rehearsed_names rehearsal) opened opened' failure
-    ⊎ (AreOpened (rehearsed_names rehearsal) opened opened' × OfFiles (rehearsed_tapes rehearsal) (λ inputs. FailsToTake inputs failure))
+    IsUnopened (rehearsed_names rehearsal) opened opened' failure ⊎ OfScripted rehearsal opened opened' (λ script inputs. FailsToTake inputs failure)
 
 -- no tape was taken of standard input: the file of the script can't be opened, or what the input holds is to blame
 abbrev pub FailsToTakeInput : Name → Intake → Intake → Failure → Type 0
 FailsToTakeInput script before after failure =
     FailsUnopened (script ∷ []) before after failure
-    ⊎ (AreOpened (script ∷ []) before.opened after.opened × FailsToTake (only_input before.held.input after.held.input) failure)
+    ⊎ ((held : Known) × AreOpened (script ∷ []) (held ∷ []) before.opened after.opened × FailsToTake (only_input before.held.input after.held.input) failure)
 
 -- the files of a rehearsal: with the tape on standard input the script alone is one
 abbrev pub rehearsed_files : Rehearsal → List Name
 rehearsed_files rehearsal = if means_input (rehearsed_tapes rehearsal) then (rehearsal.script ∷ []) else rehearsed_names rehearsal
 
--- the files of a rehearsal were opened, and this is so of its tapes
-pub record OfRehearsed (rehearsal : Rehearsal) (before after : Intake) (P : Inputs → Type 0) : Type 0 where
-  pub opened : AreOpened (rehearsed_files rehearsal) before.opened after.opened
-  pub is_so : OfInputs (rehearsed_tapes rehearsal) before.held after.held P
+-- the files of a rehearsal were opened, and this is so of what its script's file held and of its tapes
+pub record OfRehearsed (rehearsal : Rehearsal) (before after : Intake) (P : Known → Inputs → Type 0) : Type 0 where
+  pub script : Known
+  pub held : List Known
+  pub opened : AreOpened (rehearsed_files rehearsal) (behind_first script held) before.opened after.opened
+  pub is_so : OfInputs (rehearsed_tapes rehearsal) held before.held after.held (P script)
 
 -- no tapes of a rehearsal were taken: a file can't be opened, or what the inputs hold is to blame
 abbrev pub AreNotRehearsed : Rehearsal → Intake → Intake → Failure → Type 0
 AreNotRehearsed rehearsal before after failure =
-    FailsUnopened (rehearsed_files rehearsal) before after failure ⊎ OfRehearsed rehearsal before after (λ inputs. FailsToTake inputs failure)
+    FailsUnopened (rehearsed_files rehearsal) before after failure ⊎ OfRehearsed rehearsal before after (λ script inputs. FailsToTake inputs failure)

@@ -1,9 +1,12 @@
 //! Opening files in the order of their names.
-ghost use Rattle.std.specs.Prelude.{◌≡◌, ◌+◌, ◌∷◌, [], length, true, false, is_ok, IfOk, IfErr, OnOk, OnErr};
+ghost use Rattle.std.specs.Prelude.{◌≡◌, ◌+◌, ◌++◌, ◌∷◌, [], length, map, Some, false, is_ok, IfOk, IfErr, OnOk, OnErr};
 ghost use Rattle.std.specs.Bool.{OnTrue};
-ghost use Rattle.host_devices.specs.Failures.{fault_of};
+ghost use Rattle.std.specs.Io.Buffered.{reader_remaining};
+ghost use Rattle.std.specs.List.{AllZip};
 ghost use Rattle.host_devices.specs.Told.{HasAsked, Tells};
-ghost use Rattle.input_files.specs.Opening.{NotOpened, IsTried, AreTried, IsUnbuffered};
+ghost use Rattle.input_files.specs.Opening.{NotOpened, IsTried, AreTried, AreAdded, IsFrontOf, IsLeft, IsUnbuffered, given_by};
+ghost use Rattle.input_files.specs.Source.{source_remaining};
+ghost use Rattle.input_files.specs.Taking.{behind_first};
 
 use crate::source::{Role, Source};
 use crate::system::InputFiles;
@@ -25,7 +28,9 @@ pub fn open<'a, F: InputFiles>(
     alloc: Global,
     name: &'a str,
 ) -> Result<BufReader<F::File>, Failure<'a>>
-    ensures tried { HasAsked (F.opened rt.old) (F.opened rt.new) (AreTried (name.entry ∷ []) (fault_of result)) }
+    ensures ok { IfOk result (λ file. HasAsked (F.opened rt.old) (F.opened rt.new)
+        (AreAdded (name.entry ∷ []) [] (reader_remaining F.File.remaining file ∷ []))) }
+    ensures err { IfErr result (λ failure. HasAsked (F.opened rt.old) (F.opened rt.new) (AreTried (name.entry ∷ []) (Some failure))) }
 {
     buffered(alloc, name, rt.open_input(name))
 }
@@ -36,8 +41,10 @@ pub(crate) fn open_all<'a, F: InputFiles>(
     alloc: Global,
     names: &[&'a str],
 ) -> Result<Vec<Source<F::File>>, Failure<'a>>
-    ensures ok { IfOk result (λ files. length files.items ≡ length names.now) }
-    ensures tried { HasAsked (F.opened rt.old) (F.opened rt.new) (AreTried names.now (fault_of result)) }
+    ensures count { IfOk result (λ files. length files.items ≡ length names.now) }
+    ensures ok { IfOk result (λ files. HasAsked (F.opened rt.old) (F.opened rt.new)
+        (AreAdded names.now [] (map (source_remaining F.File.remaining) files.items))) }
+    ensures err { IfErr result (λ failure. HasAsked (F.opened rt.old) (F.opened rt.new) (AreTried names.now (Some failure))) }
 {
     let mut files = Vec::new(alloc);
     open_more(rt, alloc, names, Role::Tape, &mut files)?;
@@ -52,8 +59,9 @@ pub(crate) fn open_with_script<'a, F: InputFiles>(
     script: &'a str,
     more: &[&'a str],
 ) -> Result<(Vec<Source<F::File>>, Source<F::File>), Failure<'a>>
-    ensures ok { IfOk result (λ files. length files.0.items ≡ length (tape.entry ∷ more.now)) }
-    ensures tried { HasAsked (F.opened rt.old) (F.opened rt.new) (AreTried (tape.entry ∷ script.entry ∷ more.now) (fault_of result)) }
+    ensures ok { IfOk result (λ files. HasAsked (F.opened rt.old) (F.opened rt.new) (AreAdded (tape.entry ∷ script.entry ∷ more.now) []
+        (behind_first (source_remaining F.File.remaining files.1) (map (source_remaining F.File.remaining) files.0.items)))) }
+    ensures err { IfErr result (λ failure. HasAsked (F.opened rt.old) (F.opened rt.new) (AreTried (tape.entry ∷ script.entry ∷ more.now) (Some failure))) }
 {
     let mut tapes = open_all(rt, alloc, &[tape])?;
     open_more(rt, alloc, &[script], Role::Script, &mut tapes)?;
@@ -70,8 +78,10 @@ fn open_more<'a, F: InputFiles>(
     role: Role,
     files: &mut Vec<Source<F::File>>,
 ) -> Result<(), Failure<'a>>
-    ensures ok { OnOk result (length files.new.items ≡ length files.old.items + length names.now) }
-    ensures tried { HasAsked (F.opened rt.old) (F.opened rt.new) (AreTried names.now (fault_of result)) }
+    ensures count { OnOk result (length files.new.items ≡ length files.old.items + length names.now) }
+    ensures ok { OnOk result (HasAsked (F.opened rt.old) (F.opened rt.new)
+        (AreAdded names.now (map (source_remaining F.File.remaining) files.old.items) (map (source_remaining F.File.remaining) files.new.items))) }
+    ensures err { IfErr result (λ failure. HasAsked (F.opened rt.old) (F.opened rt.new) (AreTried names.now (Some failure))) }
 {
     for name in names {
         let file = open_beside(rt, alloc, name, files)?;
@@ -89,7 +99,10 @@ fn open_beside<'a, F: InputFiles>(
     name: &'a str,
     others: &mut [Source<F::File>],
 ) -> Result<BufReader<F::File>, Failure<'a>>
-    ensures tried { HasAsked (F.opened rt.old) (F.opened rt.new) (AreTried (name.entry ∷ []) (fault_of result)) }
+    ensures ok { IfOk result (λ file. HasAsked (F.opened rt.old) (F.opened rt.new)
+        (AreAdded (name.entry ∷ []) (map (source_remaining F.File.remaining) others.old)
+        (map (source_remaining F.File.remaining) others.new ++ reader_remaining F.File.remaining file ∷ []))) }
+    ensures err { IfErr result (λ failure. HasAsked (F.opened rt.old) (F.opened rt.new) (AreTried (name.entry ∷ []) (Some failure))) }
 {
     match opened_beside(rt, alloc, name, others) {
         Ok(opened) => buffered(alloc, name, opened),
@@ -105,7 +118,9 @@ fn opened_beside<F: InputFiles>(
     name: &str,
     others: &mut [Source<F::File>],
 ) -> Result<io::Result<F::File>, AllocError>
-    ensures tried { IfOk result (λ opened. HasAsked (F.opened rt.old) (F.opened rt.new) (IsTried name.now (is_ok opened))) }
+    ensures tried { IfOk result (λ opened. HasAsked (F.opened rt.old) (F.opened rt.new) (λ steps.
+        IsTried name.now (given_by F.File.remaining opened) steps
+        × IsLeft (map (source_remaining F.File.remaining) others.old) steps (map (source_remaining F.File.remaining) others.new))) }
     ensures starved { OnErr result (Tells (F.opened rt.old) (F.opened rt.new) (NotOpened name.now ∷ [])) }
 {
     let opened = rt.open_input(name);
@@ -122,7 +137,7 @@ fn buffered<'a, T: Read + Drop>(
     name: &'a str,
     opened: io::Result<T>,
 ) -> Result<BufReader<T>, Failure<'a>>
-    ensures ok { OnOk result (is_ok opened ≡ true) }
+    ensures ok { IfOk result (λ reader. given_by T.remaining opened ≡ Some (reader_remaining T.remaining reader)) }
     ensures err { IfErr result (IsUnbuffered name.entry (is_ok opened)) }
 {
     let Ok(file) = opened else {
@@ -148,12 +163,11 @@ fn lacks_descriptor<T>(opened: &io::Result<T>) -> bool
 }
 
 // Reads files ahead and closes them.
-fn read_all_ahead<F: Read + Drop>(
-    alloc: Global,
-    files: &mut [Source<F>],
-) -> Result<(), AllocError> {
-    for file in files {
-        file.read_ahead(alloc)?;
+fn read_all_ahead<F: Read + Drop>(alloc: Global, files: &mut [Source<F>]) -> Result<(), AllocError>
+    ensures { OnOk result (AllZip IsFrontOf (map (source_remaining F.remaining) files.new) (map (source_remaining F.remaining) files.old)) }
+{
+    for place in 0..files.len() {
+        files[place].read_ahead(alloc)?;
     }
     Ok(())
 }

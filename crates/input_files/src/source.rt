@@ -1,12 +1,20 @@
 //! A file that was opened, and that can be read ahead and closed: where the system has no descriptor left,
 //! the next file gets its one.
+ghost use Rattle.std.specs.Prelude.{Some, IfOk, OnOk};
+ghost use Rattle.std.specs.Io.Buffered.{reader_remaining};
+ghost use Rattle.input_files.specs.Opening.{IsFrontOf};
+
 use byte_io::{InputFault, read_up_to};
 use loss_scripts::SCRIPT_LIMIT;
 use std::alloc::{AllocError, Global};
 use std::collections::VecDeque;
 use std::io::{BufReader, ErrorKind, Read};
 use std::{io, mem};
-use tape_blocks::{FromError, read_from};
+use tape_blocks::{Fed, ReadError, TapeReader};
+use tape_values::TAPE_LIMIT;
+
+// The most bytes that are taken for a tape: one more than it may have, so that a longer one is seen.
+const INPUT_LIMIT: usize = TAPE_LIMIT + 1;
 
 /// What a file is read as, which says how much of it is asked for.
 #[derive(Clone, Copy, Debug, PartialEq, Eq)]
@@ -29,11 +37,17 @@ pub enum Source<F> {
 }
 
 impl<F: Read + Drop> Source<F> {
+    ghost use Rattle.std.specs.Prelude.{OnOk};
+    ghost use Rattle.input_files.specs.Opening.{IsFrontOf};
+    ghost use Rattle.input_files.specs.Source.{source_remaining};
+
     /// Takes of the file what its reader will ask for, and closes it. Its reader is told of a read that fails,
     /// once it comes to it.
     ///
     /// `AllocError` comes only where a growth was refused; then the file is closed, and what was taken is lost.
-    pub(crate) fn read_ahead(&mut self, alloc: Global) -> Result<(), AllocError> {
+    pub(crate) fn read_ahead(&mut self, alloc: Global) -> Result<(), AllocError>
+        ensures { OnOk result (IsFrontOf (source_remaining F.remaining self.new) (source_remaining F.remaining self.old)) }
+    {
         let nothing = Source::Closed(Ahead {
             text: VecDeque::new(alloc),
             is_broken: false,
@@ -83,21 +97,32 @@ impl Read for Ahead {
     }
 }
 
-// What the reader of a tape takes of a file: it is asked itself, since only it knows where a tape ends. What it
+// What the reader of a tape takes of a file: it is asked after each byte, since only it knows where a tape ends. What it
 // makes of the tape is told when its turn comes.
-fn ahead_of_tape<F: Read + Drop>(alloc: Global, file: BufReader<F>) -> Result<Ahead, AllocError> {
-    let mut recorder = Recorder {
-        file,
-        text: Vec::new(alloc),
-        is_starved: false,
-    };
-    let is_broken = match read_from(alloc, &mut recorder) {
-        Ok(_) | Err(FromError::Tape(_)) => false,
-        Err(FromError::Io) if !recorder.is_starved => true,
-        Err(FromError::Io | FromError::Memory) => return Err(AllocError),
-    };
+fn ahead_of_tape<F: Read + Drop>(alloc: Global, mut file: BufReader<F>) -> Result<Ahead, AllocError>
+    ensures { IfOk result (λ ahead. IsFrontOf (Some ahead.text.items) (reader_remaining F.remaining file)) }
+{
+    let mut reader = TapeReader::new(alloc);
+    let mut text = Vec::new(alloc);
+    let mut is_broken = false;
+    for _ in 0..INPUT_LIMIT {
+        let mut byte = [0u8; 1];
+        match file.read(&mut byte) {
+            Ok(0) => break,
+            Ok(_) => text.push(byte[0])?,
+            Err(_) => {
+                is_broken = true;
+                break;
+            }
+        }
+        match reader.feed(&byte) {
+            Ok(Fed::More) => {}
+            Ok(Fed::Done(_)) | Err(ReadError::Tape(_)) => break,
+            Err(ReadError::Memory) => return Err(AllocError),
+        }
+    }
     Ok(Ahead {
-        text: VecDeque::from_vec(recorder.text),
+        text: VecDeque::from_vec(text),
         is_broken,
     })
 }
@@ -106,7 +131,9 @@ fn ahead_of_tape<F: Read + Drop>(alloc: Global, file: BufReader<F>) -> Result<Ah
 fn ahead_of_script<F: Read + Drop>(
     alloc: Global,
     mut file: BufReader<F>,
-) -> Result<Ahead, AllocError> {
+) -> Result<Ahead, AllocError>
+    ensures { IfOk result (λ ahead. IsFrontOf (Some ahead.text.items) (reader_remaining F.remaining file)) }
+{
     match read_up_to(alloc, &mut file, SCRIPT_LIMIT + 1) {
         Ok(text) => Ok(Ahead {
             text: VecDeque::from_vec(text),
@@ -117,26 +144,5 @@ fn ahead_of_script<F: Read + Drop>(
             is_broken: true,
         }),
         Err(InputFault::Memory) => Err(AllocError),
-    }
-}
-
-// A file, and what was read of it.
-#[derive(Drop)]
-struct Recorder<F> {
-    file: BufReader<F>,
-    text: Vec<u8>,
-
-    // Whether there was no memory for what was read.
-    is_starved: bool,
-}
-
-impl<F: Read> Read for Recorder<F> {
-    fn read(&mut self, buf: &mut [u8]) -> io::Result<usize> {
-        let count = self.file.read(buf)?;
-        if self.text.extend_from_slice(&buf[..count]).is_err() {
-            self.is_starved = true;
-            return Err(io::Error::from(ErrorKind::OutOfMemory));
-        }
-        Ok(count)
     }
 }

@@ -1,10 +1,11 @@
 //! Taking the tapes that names stand for.
 ghost use Rattle.std.specs.Prelude.{◌≡◌, ◌∷◌, [], IfOk, IfErr, length};
 ghost use Rattle.std.specs.Mem.{FitsInMemory};
-ghost use Rattle.input_files.specs.Inputs.{inputs_of, only_input, AreOpened, OfFiles, OfTapes};
+ghost use Rattle.input_files.specs.Inputs.{inputs_of, only_input, AreOpened, OfTapes};
 ghost use Rattle.input_files.specs.Intake.{intake};
+ghost use Rattle.input_files.specs.Source.{source_remaining};
 ghost use Rattle.input_files.specs.Taking.{AreTakenOf, AreUntaken, FailsToTake};
-ghost use Rattle.input_files.specs.Taking.{AreNotRehearsed, FailsToTakeFiles, FailsToTakeInput, OfRehearsed, rehearsed_names, rehearsed_tapes};
+ghost use Rattle.input_files.specs.Taking.{AreNotRehearsed, FailsToTakeFiles, FailsToTakeInput, OfRehearsed, OfScripted};
 
 use crate::names::{is_input, is_lone_input, joined};
 use crate::opening::{open, open_all, open_with_script};
@@ -66,7 +67,8 @@ pub fn take_with_script<'a, F: InputFiles, R: Read, W: Output, E: FaultOutput>(
 ) -> Result<(Tapes, Source<F::File>), Failure<'a>>
     requires { FitsInMemory R.row }
     ensures ok { IfOk result (λ taken. OfRehearsed rehearsal.now
-        (intake (F.opened files.old) streams.old) (intake (F.opened files.new) streams.new) (AreTakenOf taken.0)) }
+        (intake (F.opened files.old) streams.old) (intake (F.opened files.new) streams.new)
+        (λ script inputs. AreTakenOf taken.0 inputs × (source_remaining F.File.remaining taken.1 ≡ script))) }
     ensures err { IfErr result (AreNotRehearsed rehearsal.now
         (intake (F.opened files.old) streams.old) (intake (F.opened files.new) streams.new)) }
     ensures same_out { streams.new.out ≡ streams.old.out }
@@ -87,7 +89,7 @@ fn take_input_with_script<'a, F: InputFiles, R: Read, W: Output, E: FaultOutput>
     streams: &mut Streams<R, W, E>,
 ) -> Result<(Tapes, Source<F::File>), Failure<'a>>
     requires { FitsInMemory R.row }
-    ensures ok { IfOk result (λ taken. AreOpened (script.entry ∷ []) (F.opened files.old) (F.opened files.new)
+    ensures ok { IfOk result (λ taken. AreOpened (script.entry ∷ []) (source_remaining F.File.remaining taken.1 ∷ []) (F.opened files.old) (F.opened files.new)
         × AreTakenOf taken.0 (only_input streams.old.input streams.new.input)) }
     ensures err { IfErr result (FailsToTakeInput script.entry (intake (F.opened files.old) streams.old) (intake (F.opened files.new) streams.new)) }
     ensures same_out { streams.new.out ≡ streams.old.out }
@@ -104,8 +106,8 @@ fn take_files_with_script<'a, F: InputFiles>(
     alloc: Global,
     rehearsal: &Rehearsal<'a>,
 ) -> Result<(Tapes, Source<F::File>), Failure<'a>>
-    ensures ok { IfOk result (λ taken. AreOpened (rehearsed_names rehearsal.now) (F.opened files.old) (F.opened files.new)
-        × OfFiles (rehearsed_tapes rehearsal.now) (AreTakenOf taken.0)) }
+    ensures ok { IfOk result (λ taken. OfScripted rehearsal.now (F.opened files.old) (F.opened files.new)
+        (λ script inputs. AreTakenOf taken.0 inputs × (source_remaining F.File.remaining taken.1 ≡ script))) }
     ensures err { IfErr result (FailsToTakeFiles rehearsal.now (F.opened files.old) (F.opened files.new)) }
 {
     let more = rehearsal.more.as_slice();

@@ -1,5 +1,5 @@
 -- The lines of one more block, and of one more tape.
-use Rattle.std.proofs.Common.{◌≡◌, ◌<◌, ℕ, zero, suc, ◌+◌, List, [], ◌∷◌, ◌++◌, Bool, Option, Some, None, length, take, get_or, arith, refl, sym, ap, ◌∙◌, subst, append_assoc, append-nil}
+use Rattle.std.proofs.Common.{◌≡◌, ◌<◌, ℕ, zero, suc, ◌+◌, List, [], ◌∷◌, ◌++◌, Bool, Option, Some, None, length, take, get_or, arith, refl, sym, ap, ◌∙◌, append_assoc, append-nil}
 use Rattle.std.specs.Prelude.{◌-◌, codes, decimal, slice_get}
 use Rattle.tape_values.specs.Block.{BlockValue}
 use Rattle.tape_values.specs.Tape.{TapeValue}

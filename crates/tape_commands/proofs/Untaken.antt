@@ -56,6 +56,7 @@ module _ (inputs rests : List Known) (before after : Known) where
   called_without_script why names script other failure failed is = absurd failed
 
 -- a rehearsal that was written is passed on
-pub rehearsed_on : (inputs : Inputs) (before between after : Known) → Keeps between after → IsRehearsedInto inputs before between → IsRehearsedInto inputs before after
-rehearsed_on inputs before between after kept is =
-    record { script_held = is.script_held; text = is.text; rehearsed = is.rehearsed; written = Appends-kept before between after is.text is.written kept }
+pub rehearsed_on : (script : Known) (inputs : Inputs) (before between after : Known) → Keeps between after → IsRehearsedInto script inputs before between
+    → IsRehearsedInto script inputs before after
+rehearsed_on script inputs before between after kept is =
+    record { text = is.text; rehearsed = is.rehearsed; written = Appends-kept before between after is.text is.written kept }

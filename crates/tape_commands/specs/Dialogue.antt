@@ -12,7 +12,7 @@ use Rattle.host_core.specs.Core.{begun, plain_patience}
 use Rattle.line_world.specs.Scene.{Scene}
 use Rattle.line_world.specs.Opening.{opened}
 use Rattle.line_world.specs.Runs.{RunsTo}
-use Rattle.request_values.specs.Change.{Change, ◌⇒◌}
+use Rattle.request_values.specs.Change.{Change}
 use Rattle.endings.specs.declared.command_fault.CommandFault.{CommandFault}
 use Rattle.endings.specs.declared.command_fault.CommandFault.TheVariants as fault
 use Rattle.tape_commands.specs.KeyLines.{answered_keys, key_text}

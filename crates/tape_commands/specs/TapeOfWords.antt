@@ -23,8 +23,8 @@ pub record OfInput (before after : Intake) (P : List ℕ → Known → Known →
 
 -- this is so of what the file of a name held and has left, and standard input is as it was
 pub record OfFile (name : Name) (before after : Intake) (P : List ℕ → Known → Known → Type 0) : Type 0 where
-  pub opened : AreOpened (name ∷ []) before.opened after.opened
   pub held : Known
+  pub opened : AreOpened (name ∷ []) (held ∷ []) before.opened after.opened
   pub rest : Known
   pub is_so : P name.now held rest
   pub nothing_read : after.held.input ≡ before.held.input

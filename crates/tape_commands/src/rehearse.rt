@@ -140,10 +140,10 @@ fn print_rehearsal<'a, S: Read, W: Write>(
     script: &mut S,
     out: &mut W,
 ) -> Result<Status, Failure<'a>>
-    ensures ok { IfOk result (λ status. OfTakenInputs taken.now (λ inputs. IsRehearsedInto inputs (W.contents out.old) (W.contents out.new))
-        × (status ≡ Status.Done)) }
+    ensures ok { IfOk result (λ status. OfTakenInputs taken.now (λ inputs.
+        IsRehearsedInto (S.remaining script.old) inputs (W.contents out.old) (W.contents out.new)) × (status ≡ Status.Done)) }
     ensures err { IfErr result (λ failure. OfTakenInputs taken.now (λ inputs.
-        IsRehearsalFailure name.now inputs (W.contents out.old ⇒ W.contents out.new) failure)) }
+        IsRehearsalFailure name.now (S.remaining script.old) inputs (W.contents out.old ⇒ W.contents out.new) failure)) }
 {
     match write_rehearsal(alloc, taken, script, out) {
         Ok(()) => flushed(out, Status::Done),

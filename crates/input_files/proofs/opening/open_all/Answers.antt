@@ -1,6 +1,6 @@
 use Rattle.input_files.proofs.Tried.{failed_as}
 use Rattle.input_files.proofs.opening.open_all.Goals as goal
 
-pub returns-in_err-open_more-clause-tried : goal.returns-in_err-open_more-clause-tried
-returns-in_err-open_more-clause-tried g c =
-    failed_as c.args.names.now c.from_residual.result c.in_err-open_more.field-0.0 _ _ c.from_residual.ensures.1 c.in_err-open_more.ensures.tried
+pub returns-in_err-open_more-clause-err : goal.returns-in_err-open_more-clause-err
+returns-in_err-open_more-clause-err g c =
+    failed_as c.args.names.now c.from_residual.result c.in_err-open_more.field-0.0 _ _ c.from_residual.ensures.1 c.in_err-open_more.ensures.err

@@ -2,7 +2,8 @@ use Rattle.std.proofs.Common.{◌≡◌, ◌∷◌, [], ◌∙◌, List, if◌th
 use Rattle.std.proofs.lemmas.Result.{IfErr-weaker, IfOk-weaker}
 use Rattle.input_files.specs.Opening.{Name}
 use Rattle.input_files.specs.Inputs.{AreOpened, IsUnopened, means_input}
-use Rattle.input_files.specs.Taking.{rehearsed_files, rehearsed_names, rehearsed_tapes}
+use Rattle.input_files.specs.Source.{source_remaining}
+use Rattle.input_files.specs.Taking.{behind_first, rehearsed_files, rehearsed_names, rehearsed_tapes}
 use Rattle.request_values.specs.declared.request.Rehearsal.{Rehearsal}
 use Rattle.input_files.proofs.taking.take_with_script.Goals as goal
 
@@ -17,9 +18,13 @@ pub returns-then-is_lone_input-clause-ok : goal.returns-then-is_lone_input-claus
 returns-then-is_lone_input-clause-ok g c =
     let same = ap (λ (more : List Name). means_input (c.args.rehearsal.now.tape ∷ more)) (sym c.deref.ensures.value) in
     let is = same ∙ (sym c.is_lone_input.ensures ∙ c.if-is_lone_input.true) in
-    let opened = λ (files : List Name). AreOpened files (g.F.InputFiles.opened c.args.files.now) (g.F.InputFiles.opened c.take_input_with_script.new.files) in
     IfOk-weaker c.take_input_with_script.result _ _
-    (λ taken h. record { opened = script_alone c.args.rehearsal.now opened is h.0; is_so = inl (is, h.1) })
+    (λ taken h. record {
+      script = source_remaining g.F.File.Read.remaining taken.1;
+      held = [];
+      opened = script_alone c.args.rehearsal.now (λ files. AreOpened files (source_remaining g.F.File.Read.remaining taken.1 ∷ []) (g.F.InputFiles.opened c.args.files.now) (g.F.InputFiles.opened c.take_input_with_script.new.files)) is h.0;
+      is_so = inl (is, (h.1, refl));
+    })
     c.take_input_with_script.ensures.ok
 
 pub returns-then-is_lone_input-clause-err : goal.returns-then-is_lone_input-clause-err
@@ -35,7 +40,7 @@ returns-then-is_lone_input-clause-err g c =
       nothing_read = u.nothing_read;
       nothing_written = u.nothing_written;
     }))
-    (λ o. inr (record { opened = script_alone c.args.rehearsal.now (λ files. AreOpened files before after) is o.0; is_so = inl (is, o.1) }))
+    (λ o. inr (record { script = o.0; held = []; opened = script_alone c.args.rehearsal.now (λ files. AreOpened files (o.0 ∷ []) before after) is o.1; is_so = inl (is, o.2) }))
     h)
     c.take_input_with_script.ensures.err
 
@@ -43,9 +48,13 @@ pub returns-else-is_lone_input-clause-ok : goal.returns-else-is_lone_input-claus
 returns-else-is_lone_input-clause-ok g c =
     let same = ap (λ (more : List Name). means_input (c.args.rehearsal.now.tape ∷ more)) (sym c.deref.ensures.value) in
     let is = same ∙ (sym c.is_lone_input.ensures ∙ c.if-is_lone_input.false) in
-    let opened = λ (files : List Name). AreOpened files (g.F.InputFiles.opened c.args.files.now) (g.F.InputFiles.opened c.take_files_with_script.new.files) in
     IfOk-weaker c.take_files_with_script.result _ _
-    (λ taken h. record { opened = all_files c.args.rehearsal.now opened is h.0; is_so = inr (is, h.1, refl) })
+    (λ taken h. record {
+      script = h.script;
+      held = h.held;
+      opened = all_files c.args.rehearsal.now (λ files. AreOpened files (behind_first h.script h.held) (g.F.InputFiles.opened c.args.files.now) (g.F.InputFiles.opened c.take_files_with_script.new.files)) is h.are_open;
+      is_so = inr (is, h.is_so, refl);
+    })
     c.take_files_with_script.ensures.ok
 
 pub returns-else-is_lone_input-clause-err : goal.returns-else-is_lone_input-clause-err
@@ -57,6 +66,11 @@ returns-else-is_lone_input-clause-err g c =
     IfErr-weaker c.take_files_with_script.result _ _
     (λ failure h. ⊎_elim
     (λ u. inl (record { unopened = all_files c.args.rehearsal.now (λ files. IsUnopened files before after failure) is u; nothing_read = refl; nothing_written = refl }))
-    (λ o. inr (record { opened = all_files c.args.rehearsal.now (λ files. AreOpened files before after) is o.0; is_so = inr (is, o.1, refl) }))
+    (λ o. inr (record {
+      script = o.script;
+      held = o.held;
+      opened = all_files c.args.rehearsal.now (λ files. AreOpened files (behind_first o.script o.held) before after) is o.are_open;
+      is_so = inr (is, o.is_so, refl);
+    }))
     h)
     c.take_files_with_script.ensures.err

@@ -16,16 +16,16 @@ returns-then-is_input-clause-err g c =
 pub returns-in_err-file-clause-err : goal.returns-in_err-file-clause-err
 returns-in_err-file-clause-err g c =
     error_is c.from_residual.result c.in_err-file.field-0.0 _ c.from_residual.ensures.1
-    (inl (sym c.is_input.ensures ∙ c.if-is_input.false, record { unopened = c.in_err-file.ensures.tried; nothing_read = refl; nothing_written = refl }))
+    (inl (sym c.is_input.ensures ∙ c.if-is_input.false, record { unopened = c.in_err-file.ensures.err; nothing_read = refl; nothing_written = refl }))
 
 pub returns-in_ok-file-clause-ok : goal.returns-in_ok-file-clause-ok
 returns-in_ok-file-clause-ok g c =
     IfOk-weaker c.made_of-else-is_input.result _ _
-    (λ made is. inr (sym c.is_input.ensures ∙ c.if-is_input.false, record { opened = c.in_ok-file.ensures.tried; held = _; rest = _; is_so = is; nothing_read = refl }))
+    (λ made is. inr (sym c.is_input.ensures ∙ c.if-is_input.false, record { held = _; opened = c.in_ok-file.ensures.ok; rest = _; is_so = is; nothing_read = refl }))
     c.made_of-else-is_input.ensures.ok
 
 pub returns-in_ok-file-clause-err : goal.returns-in_ok-file-clause-err
 returns-in_ok-file-clause-err g c =
     IfErr-weaker c.made_of-else-is_input.result _ _
-    (λ failure is. inr (inr (sym c.is_input.ensures ∙ c.if-is_input.false, record { opened = c.in_ok-file.ensures.tried; held = _; rest = _; is_so = is; nothing_read = refl })))
+    (λ failure is. inr (inr (sym c.is_input.ensures ∙ c.if-is_input.false, record { held = _; opened = c.in_ok-file.ensures.ok; rest = _; is_so = is; nothing_read = refl })))
     c.made_of-else-is_input.ensures.err

@@ -8,8 +8,7 @@ pub returns-in-Ok-clause-ok : goal.returns-in-Ok-clause-ok
 returns-in-Ok-clause-ok g c =
     IfOk-weaker c.flushed.result _ _
     (λ status is. (
-      λ inputs are. rehearsed_on inputs _ _ _ c.flushed.ensures.bytes (record {
-        script_held = g.S.Read.remaining c.args.script.now;
+      λ inputs are. rehearsed_on _ inputs _ _ _ c.flushed.ensures.bytes (record {
         text = c.in-Ok.ensures.ok.0;
         rehearsed = c.in-Ok.ensures.ok.1 inputs.held inputs.rests are;
         written = c.in-Ok.ensures.ok.2;
@@ -23,8 +22,7 @@ returns-in-Ok-clause-err g c =
     IfErr-weaker c.flushed.result _ _
     (λ failure is inputs are. inr (
       is,
-      rehearsed_on inputs _ _ _ c.flushed.ensures.bytes (record {
-        script_held = g.S.Read.remaining c.args.script.now;
+      rehearsed_on _ inputs _ _ _ c.flushed.ensures.bytes (record {
         text = c.in-Ok.ensures.ok.0;
         rehearsed = c.in-Ok.ensures.ok.1 inputs.held inputs.rests are;
         written = c.in-Ok.ensures.ok.2;
@@ -33,11 +31,8 @@ returns-in-Ok-clause-err g c =
     c.flushed.ensures.err
 
 pub returns-in-Err-clause-err : goal.returns-in-Err-clause-err
-returns-in-Err-clause-err g c inputs are = inl (
-  g.S.Read.remaining c.args.script.now,
-  record {
-    fault = c.in-Err.fault;
-    is_so = c.in-Err.ensures.err inputs.held inputs.rests are;
-    is_called = blames_none c.in-Err.fault inputs.names _ _ c.in-Err.ensures.blames c.of.ensures;
-  },
-)
+returns-in-Err-clause-err g c inputs are = inl (record {
+  fault = c.in-Err.fault;
+  is_so = c.in-Err.ensures.err inputs.held inputs.rests are;
+  is_called = blames_none c.in-Err.fault inputs.names _ _ c.in-Err.ensures.blames c.of.ensures;
+})

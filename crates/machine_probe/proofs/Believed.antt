@@ -36,7 +36,7 @@ use Rattle.looking_law.proofs.Told.{told_honest}
 use Rattle.machine_probe.specs.declared.probe_options.ProbeOptions.{ProbeOptions}
 use Rattle.machine_probe.specs.Belief.{AreBelievable}
 use Rattle.machine_probe.specs.Came.{extent_of, first_of, sighting_of}
-use Rattle.machine_probe.specs.Follow.{IsProbe, IsTried, MadeWhere, forgets, goes_on, is_number, number_in, stores}
+use Rattle.machine_probe.specs.Follow.{IsProbe, IsTried, IsTriedOut, MadeWhere, forgets, goes_on, is_number, number_in, stores}
 use Rattle.machine_probe.specs.Runs.{LooksAt, IsSearch, IsTrialOf}
 
 -- ---- what was said is a dialogue, perhaps without its last key
@@ -112,7 +112,7 @@ trial_leaves options old attempt parts machine now lost address long t ready hon
 
 -- ---- rows
 
-split : (machine now : Machine) (xs ys : List (List Item)) (lost : ℕ) → AreHonest machine (xs ++ ys) lost now → (between : Machine) × (first : ℕ) × (later : ℕ) × AreHonest machine xs first between × AreHonest between ys later now
+pub split : (machine now : Machine) (xs ys : List (List Item)) (lost : ℕ) → AreHonest machine (xs ++ ys) lost now → (between : Machine) × (first : ℕ) × (later : ℕ) × AreHonest machine xs first between × AreHonest between ys later now
 split machine now [] ys lost honest = (machine, 0, lost, (refl, refl), honest)
 split machine now (said ∷ xs) ys lost (between, first, later, here, there, all) =
     let rest = split between now xs ys later there in
@@ -124,11 +124,11 @@ none_leaves machine now [] lost is ready honest = record { ready = subst IsReady
 none_leaves machine now (said ∷ parts) lost is ready honest = absurd (cc is)
 
 -- a row of one part
-record IsOnePart (machine now : Machine) (said : List Item) : Type 0 where
+pub record IsOnePart (machine now : Machine) (said : List Item) : Type 0 where
   pub lost : ℕ
   pub honest : IsHonest machine said lost now
 
-one_part : (machine now : Machine) (parts : List (List Item)) (said : List Item) (lost : ℕ) → parts ≡ said ∷ [] → AreHonest machine parts lost now → IsOnePart machine now said
+pub one_part : (machine now : Machine) (parts : List (List Item)) (said : List Item) (lost : ℕ) → parts ≡ said ∷ [] → AreHonest machine parts lost now → IsOnePart machine now said
 one_part machine now parts said lost is honest = alone (subst (λ list. AreHonest machine list lost now) is honest)
   where
     alone : AreHonest machine (said ∷ []) lost now → IsOnePart machine now said
@@ -230,6 +230,23 @@ tries_leave options f parts machine now lost address long t ready all =
       first = λ number is. r1.number number (ap Some is);
       second = λ number is. r3.number number is ∙ ap (λ memory. word_at memory options.address) m2;
     }
+
+-- what a console leaves that was tried out
+pub record TriedLeaves (options : ProbeOptions) (f : Findings) (machine now : Machine) : Type 0 where
+  pub ready : IsReadyMachine now
+  pub memory : now.memory ≡ machine.memory
+  pub first : (number : ℕ) → f.first ≡ look.Number number → number ≡ word_at machine.memory options.address
+  pub off : stores (verdict_of f) ≡ false
+
+pub tried_leaves : (options : ProbeOptions) (f : Findings) (parts : List (List Item)) (machine now : Machine) (lost : ℕ) → IsAddress options.address → options.patience < 2 ^ 32 → IsTriedOut options f parts →
+    IsReadyMachine machine → AreHonest machine parts lost now → TriedLeaves options f machine now
+tried_leaves options f parts machine now lost address long p ready all =
+    let s = split machine now p.in_tries p.in_deposit lost (subst (λ list. AreHonest machine list lost now) p.parts_are all) in
+    let t = tries_leave options f p.in_tries machine s.0 s.1 address long p.tried ready s.3 in
+    let off : stores (verdict_of f) ≡ false = never_stores (word_at machine.memory options.address) f.first f.trial f.second t.first t.second in
+    let none = unmade (stores (verdict_of f)) _ f.put_back p.in_deposit off p.deposit in
+    let l = none_leaves s.0 now p.in_deposit s.2 none.1 t.leaves.ready s.4 in
+    record { ready = l.ready; memory = l.memory ∙ t.leaves.memory; first = t.first; off = off }
 
 pub believes : (options : ProbeOptions) (f : Findings) (parts : List (List Item)) → IsAddress options.address → options.patience < 2 ^ 32 → IsProbe options f parts → AreBelievable f parts
 believes options f parts address long p machine now lost ready all =

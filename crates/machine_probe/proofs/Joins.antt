@@ -5,6 +5,7 @@ use Rattle.host_devices.specs.Told.{Gains, SaysNothing}
 use Rattle.host_devices.proofs.Told.{gains_join, gains_kept, gains_none}
 use Rattle.looking_law.specs.Rows.{in_a_row}
 use Rattle.probe_report.specs.declared.findings.TrialFindings.{TrialFindings}
+use Rattle.probe_report.specs.declared.findings.Extent.{Extent}
 use Rattle.probe_report.specs.declared.findings.Findings.{Findings}
 use Rattle.probe_report.specs.declared.findings.Sighting.{Sighting}
 use Rattle.probe_report.specs.declared.findings.Sighting.TheVariants.{Number, NoWord, GaveUp, TurnsOver, LineFailed}
@@ -22,7 +23,7 @@ use Rattle.looking_law.specs.Again.{looker}
 use Rattle.machine_probe.specs.declared.probe_options.ProbeOptions.{ProbeOptions}
 use Rattle.machine_probe.specs.declared.putting_back.Deposit.{Deposit}
 use Rattle.machine_probe.specs.Came.{trial_findings_of, first_of, sighting_of}
-use Rattle.machine_probe.specs.Follow.{IsBrokenOff, IsProbe, IsTried, MadeWhere, forgets, goes_on, is_number, number_in, stores}
+use Rattle.machine_probe.specs.Follow.{IsBrokenOff, IsProbe, IsTried, IsTriedOut, MadeWhere, forgets, goes_on, is_number, number_in, stores}
 use Rattle.machine_probe.specs.PuttingBack.{PutsBack}
 use Rattle.machine_probe.specs.Rooms.{HasDeposit}
 use Rattle.machine_probe.specs.Runs.{LooksAt, IsSearch, IsTrialOf, OnLine}
@@ -67,6 +68,7 @@ look_is options core last stop turns number sighting line line' begins limit s e
         goes_on = s.goes_on;
         within = s.within;
         items = s.items;
+        unkept = s.unkept;
         on_line = refl;
       }));
       end = end;
@@ -90,6 +92,7 @@ trial_is options old first last stop turns attempt line line' begins limit s end
         goes_on = s.goes_on;
         within = s.within;
         items = s.items;
+        unkept = s.unkept;
         on_line = refl;
       }));
       end = end;
@@ -147,44 +150,59 @@ three_runs options f l0 l1 l2 l3 a b c = record {
   on_line = rows_join l0 l1 l3 a.parts (b.parts ++ c.parts) a.on_line (rows_join l1 l2 l3 b.parts c.parts b.on_line c.on_line);
 }
 
-pub all_runs : (options : ProbeOptions) (f : Findings) (verdict : Verdict) (l0 l3 l4 l5 : Option (List Item)) → f.address ≡ options.address → OnLine (IsTried options f) l0 l3 →
-    OnLine (MadeWhere (stores (verdict_of f)) (PutsBack options (number_in f.first)) f.put_back) l3 l4 → verdict ≡ verdict_of f → OnLine (MadeWhere (forgets verdict) (IsSearch options) f.search) l4 l5 →
-    OnLine (IsProbe options f) l0 l5
-all_runs options f verdict l0 l3 l4 l5 address a d judged e = record {
-  parts = a.parts ++ (d.parts ++ e.parts);
+pub tried_out : (options : ProbeOptions) (f : Findings) (l0 l3 l4 : Option (List Item)) → f.address ≡ options.address → OnLine (IsTried options f) l0 l3 →
+    OnLine (MadeWhere (stores (verdict_of f)) (PutsBack options (number_in f.first)) f.put_back) l3 l4 → OnLine (IsTriedOut options f) l0 l4
+tried_out options f l0 l3 l4 address a d = record {
+  parts = a.parts ++ d.parts;
+  are = record { address = address; in_tries = a.parts; in_deposit = d.parts; parts_are = refl; tried = a.are; deposit = d.are };
+  on_line = rows_join l0 l3 l4 a.parts d.parts a.on_line d.on_line;
+}
+
+-- what was searched says nothing of the tries
+searched_too : (options : ProbeOptions) (f : Findings) (search : Option Extent) (parts : List (List Item)) → IsTried options f parts → IsTried options (record f { search = search }) parts
+searched_too options f search parts t =
+    record { in_look = t.in_look; in_trial = t.in_trial; in_second_look = t.in_second_look; parts_are = t.parts_are; look = t.look; trial = t.trial; second_look = t.second_look }
+
+pub all_runs : (options : ProbeOptions) (f : Findings) (search : Option Extent) (verdict : Verdict) (l0 l4 l5 : Option (List Item)) → OnLine (IsTriedOut options f) l0 l4 → verdict ≡ verdict_of f →
+    OnLine (MadeWhere (forgets verdict) (IsSearch options) search) l4 l5 → OnLine (IsProbe options (record f { search = search })) l0 l5
+all_runs options f search verdict l0 l4 l5 a judged e = record {
+  parts = a.are.in_tries ++ (a.are.in_deposit ++ e.parts);
   are = record {
-    address = address;
-    in_tries = a.parts;
-    in_deposit = d.parts;
+    address = a.are.address;
+    in_tries = a.are.in_tries;
+    in_deposit = a.are.in_deposit;
     in_search = e.parts;
     parts_are = refl;
-    tried = a.are;
-    deposit = d.are;
-    search = subst (λ (v : Verdict). MadeWhere (forgets v) (IsSearch options) f.search e.parts) judged e.are;
+    tried = searched_too options f search a.are.in_tries a.are.tried;
+    deposit = a.are.deposit;
+    search = subst (λ (v : Verdict). MadeWhere (forgets v) (IsSearch options) search e.parts) judged e.are;
   };
-  on_line = rows_join l0 l3 l5 a.parts (d.parts ++ e.parts) a.on_line (rows_join l3 l4 l5 d.parts e.parts d.on_line e.on_line);
+  on_line = subst (λ (parts : List (List Item)). Gains l0 l5 (in_a_row parts)) (ap (λ (front : List (List Item)). front ++ e.parts) a.are.parts_are ∙ append_assoc a.are.in_tries a.are.in_deposit e.parts)
+      (rows_join l0 l4 l5 a.parts e.parts a.on_line e.on_line);
 }
 
 -- a probe that was broken off before its search, for want of memory
 
-nothing_made : {A : Type 0} (wanted : Bool) (run : A → List (List Item) → Type 0) (found : Option A) (line line' : Option (List Item)) → wanted ≡ false → OnLine (MadeWhere wanted run found) line line' → Gains line line' []
-nothing_made {A} true run found line line' is o = absurd (cc is)
-nothing_made {A} false run None line line' is o = subst (λ (parts : List (List Item)). Gains line line' (in_a_row parts)) o.are o.on_line
-nothing_made {A} false run (Some made) line line' is o = absurd o.are
+-- where it was not made, nothing was said
+none_made : {A : Type 0} (wanted : Bool) (run : A → List (List Item) → Type 0) (found : Option A) (parts : List (List Item)) → wanted ≡ false → MadeWhere wanted run found parts → parts ≡ []
+none_made {A} true run found parts is o = absurd (cc is)
+none_made {A} false run None parts is o = o
+none_made {A} false run (Some made) parts is o = absurd o
 
 forgets_not_stores : (verdict : Verdict) → forgets verdict ≡ true → stores verdict ≡ false
 forgets_not_stores Forgets is = refl
 forgets_not_stores Stores is = absurd (cc is)
 forgets_not_stores Unknown is = absurd (cc is)
 
-pub unsearched : (options : ProbeOptions) (f : Findings) (put_back : Option Bool) (verdict : Verdict) (l0 l3 l4 l5 : Option (List Item)) → OnLine (IsTried options f) l0 l3 →
-    OnLine (MadeWhere (stores (verdict_of f)) (PutsBack options (number_in f.first)) put_back) l3 l4 → verdict ≡ verdict_of f → forgets verdict ≡ true → SaysNothing l4 l5 →
-    OnLine (IsBrokenOff options) l0 l5
-unsearched options f put_back verdict l0 l3 l4 l5 a d judged is kept =
+pub unsearched : (options : ProbeOptions) (f : Findings) (verdict : Verdict) (l0 l4 l5 : Option (List Item)) → OnLine (IsTriedOut options f) l0 l4 →
+    verdict ≡ verdict_of f → forgets verdict ≡ true → SaysNothing l4 l5 → OnLine (IsBrokenOff options) l0 l5
+unsearched options f verdict l0 l4 l5 a judged is kept =
     let same = ap forgets (sym judged) ∙ is in
-    let rest = gains_join l3 l4 l5 [] [] (nothing_made _ _ put_back l3 l4 (forgets_not_stores (verdict_of f) same) d) (gains_kept l4 l5 kept) in
+    let none : a.are.in_deposit ≡ [] = none_made _ _ f.put_back a.are.in_deposit (forgets_not_stores (verdict_of f) same) a.are.deposit in
+    let parts : a.parts ≡ a.are.in_tries = a.are.parts_are ∙ (ap (λ (more : List (List Item)). a.are.in_tries ++ more) none ∙ append-nil a.are.in_tries) in
     record {
-      parts = a.parts;
-      are = inr (record { f = f; tried = a.are; same = same });
-      on_line = subst (Gains l0 l5) (append-nil (in_a_row a.parts)) (gains_join l0 l3 l5 (in_a_row a.parts) [] a.on_line rest);
+      parts = a.are.in_tries;
+      are = inr (record { f = f; tried = a.are.tried; same = same });
+      on_line = subst (Gains l0 l5) (append-nil (in_a_row a.are.in_tries))
+          (gains_join l0 l4 l5 (in_a_row a.are.in_tries) [] (subst (λ (parts : List (List Item)). Gains l0 l4 (in_a_row parts)) parts a.on_line) (gains_kept l4 l5 kept));
     }

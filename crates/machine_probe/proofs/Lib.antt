@@ -2,11 +2,11 @@ pub mod Founds
 pub mod LastWords
 mod Searching
 mod Stepping
-mod Believed
+pub mod Believed
 mod Faults
 mod Joins
 mod Noting
-mod OneLine
+pub mod OneLine
 mod OneWord
 mod PuttingBack
 pub mod Reports

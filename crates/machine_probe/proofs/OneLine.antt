@@ -45,7 +45,7 @@ use Rattle.looking_law.proofs.Splits.{lines_split}
 use Rattle.looking_law.proofs.Told.{both_begin, told_begins}
 use Rattle.machine_probe.specs.declared.probe_options.ProbeOptions.{ProbeOptions}
 use Rattle.machine_probe.specs.Belief.{AreBelievableOver}
-use Rattle.machine_probe.specs.Follow.{IsProbe, IsTried, MadeWhere, forgets, goes_on, is_number, number_in, stores}
+use Rattle.machine_probe.specs.Follow.{IsProbe, IsTried, IsTriedOut, MadeWhere, forgets, goes_on, is_number, number_in, stores}
 use Rattle.machine_probe.specs.PuttingBack.{PutsBack}
 use Rattle.machine_probe.specs.Runs.{LooksAt, IsSearch, IsTrialOf}
 use Rattle.machine_probe.specs.Turns.{turns_of}
@@ -54,12 +54,12 @@ use Rattle.machine_probe.proofs.Believed.{believes, one_address, told_look, told
 -- ---- rows of hosts
 
 -- every one of these leaves the machine ready
-abbrev AllLeave : List (List Item) → Type 0
+abbrev pub AllLeave : List (List Item) → Type 0
 AllLeave [] = ⊤
 AllLeave (said ∷ parts) = LeavesReady said × AllLeave parts
 
 -- there is one, and all but the last leave it ready
-abbrev AreHosts : List (List Item) → Type 0
+abbrev pub AreHosts : List (List Item) → Type 0
 AreHosts [] = ⊥
 AreHosts (said ∷ []) = BeginsByListening said
 AreHosts (said ∷ (next ∷ parts)) = LeavesReady said × AreHosts (next ∷ parts)
@@ -69,7 +69,7 @@ row_begins [] are = absurd are
 row_begins (said ∷ []) are = both_begin said [] are tt
 row_begins (said ∷ (next ∷ parts)) are = both_begin said (in_a_row (next ∷ parts)) are.0.begins (row_begins (next ∷ parts) are.1)
 
-row_of_line : (machine now : Machine) (parts : List (List Item)) (lost : ℕ) → IsReadyMachine machine → AreHosts parts → IsHonest machine (in_a_row parts) lost now → AreHonest machine parts lost now
+pub row_of_line : (machine now : Machine) (parts : List (List Item)) (lost : ℕ) → IsReadyMachine machine → AreHosts parts → IsHonest machine (in_a_row parts) lost now → AreHonest machine parts lost now
 row_of_line machine now [] lost ready are honest = absurd are
 row_of_line machine now (said ∷ []) lost ready are honest = (now, lost, 0, subst (λ items. IsHonest machine items lost now) (append-nil said) honest, (refl, refl), none_later lost)
   where
@@ -90,15 +90,15 @@ in_front : (said : List Item) (parts : List (List Item)) → LeavesReady said �
 in_front said [] leaves are = absurd are
 in_front said (next ∷ parts) leaves are = (leaves, are)
 
-hosts_behind : (xs ys : List (List Item)) → AllLeave xs → AreHosts ys → AreHosts (xs ++ ys)
+pub hosts_behind : (xs ys : List (List Item)) → AllLeave xs → AreHosts ys → AreHosts (xs ++ ys)
 hosts_behind [] ys all are = are
 hosts_behind (said ∷ xs) ys all are = in_front said (xs ++ ys) all.0 (hosts_behind xs ys all.1 are)
 
-all_join : (xs ys : List (List Item)) → AllLeave xs → AllLeave ys → AllLeave (xs ++ ys)
+pub all_join : (xs ys : List (List Item)) → AllLeave xs → AllLeave ys → AllLeave (xs ++ ys)
 all_join [] ys all more = more
 all_join (said ∷ xs) ys all more = (all.0, all_join xs ys all.1 more)
 
-hosts_all : (said : List Item) (parts : List (List Item)) → LeavesReady said → AllLeave parts → AreHosts (said ∷ parts)
+pub hosts_all : (said : List Item) (parts : List (List Item)) → LeavesReady said → AllLeave parts → AreHosts (said ∷ parts)
 hosts_all said [] leaves all = leaves.begins
 hosts_all said (next ∷ parts) leaves all = (leaves, hosts_all next parts all.0 all.1)
 
@@ -120,7 +120,7 @@ trial_leaves_ready options old attempt parts address long t =
     let run : Run = Try options.address old options.patience s.heard in
     leave_ready run t.said (address, long) (subst (IsToldOf (dialogue_of run)) (sym s.on_line) (told_trial t.stop _ (dialogue_of run) s.said s.items))
 
-made_leave : {A : Type 0} (wanted : Bool) (run : A → List (List Item) → Type 0) (thing : Option A) (parts : List (List Item)) → ((a : A) → run a parts → AllLeave parts) → MadeWhere wanted run thing parts → AllLeave parts
+pub made_leave : {A : Type 0} (wanted : Bool) (run : A → List (List Item) → Type 0) (thing : Option A) (parts : List (List Item)) → ((a : A) → run a parts → AllLeave parts) → MadeWhere wanted run thing parts → AllLeave parts
 made_leave {A} true run None parts so is = absurd is
 made_leave {A} true run (Some a) parts so is = so a is
 made_leave {A} false run None parts so is = subst AllLeave (sym is) tt
@@ -139,7 +139,7 @@ told_load (load.KeepFailed fault) all said lacks = inr lacks
 told_load (load.LineFailed fault) all said (inl whole) = inl whole
 told_load (load.LineFailed fault) all said (inr lacks) = inr lacks
 
-deposit_begins : (options : ProbeOptions) (old : ℕ) (is_back : Bool) (parts : List (List Item)) → (p : PutsBack options old is_back parts) → BeginsByListening p.said
+pub deposit_begins : (options : ProbeOptions) (old : ℕ) (is_back : Bool) (parts : List (List Item)) → (p : PutsBack options old is_back parts) → BeginsByListening p.said
 deposit_begins options old is_back parts p =
     let s = p.session in
     let core : Core = begun_load p.plan 0 false options.patience in
@@ -222,14 +222,14 @@ behind_second options Unknown old None (Some extent) xs ys deposits searches lon
 behind_second options Unknown old (Some is_back) search xs ys deposits searches long = absurd deposits
 
 -- what a probe does before it decides: a look, and what leaves the machine ready, too
-record BeginsByLook (parts : List (List Item)) : Type 0 where
+pub record BeginsByLook (parts : List (List Item)) : Type 0 where
   pub said : List Item
   pub more : List (List Item)
   pub parts_are : parts ≡ said ∷ more
   pub leaves : LeavesReady said
   pub all : AllLeave more
 
-tries_begin : (options : ProbeOptions) (f : Findings) (parts : List (List Item)) → IsAddress options.address → options.patience < 2 ^ 32 → IsTried options f parts → BeginsByLook parts
+pub tries_begin : (options : ProbeOptions) (f : Findings) (parts : List (List Item)) → IsAddress options.address → options.patience < 2 ^ 32 → IsTried options f parts → BeginsByLook parts
 tries_begin options f parts address long t = record {
   said = t.look.said;
   more = t.in_trial ++ t.in_second_look;
@@ -240,9 +240,26 @@ tries_begin options f parts address long t = record {
       (made_leave (goes_on f.trial) _ f.second t.in_second_look (λ sighting is. one_leaves t.in_second_look is.said is.part (look_leaves options sighting t.in_second_look address long is)) t.second_look);
 }
 
-hosts : (parts behind : List (List Item)) → BeginsByLook parts → AllLeave behind ⊎ AreHosts behind → AreHosts (parts ++ behind)
+pub hosts : (parts behind : List (List Item)) → BeginsByLook parts → AllLeave behind ⊎ AreHosts behind → AreHosts (parts ++ behind)
 hosts parts behind b (inl all) = subst (λ list. AreHosts (list ++ behind)) (sym b.parts_are) (hosts_all b.said (b.more ++ behind) b.leaves (all_join b.more behind b.all all))
 hosts parts behind b (inr are) = subst (λ list. AreHosts (list ++ behind)) (sym b.parts_are) (hosts_behind (b.said ∷ b.more) behind (b.leaves, b.all) are)
+
+-- a console that was tried out: all of it leaves the machine ready, but for a load of the old number at the end
+pub tried_hosts : (options : ProbeOptions) (f : Findings) (parts : List (List Item)) → IsAddress options.address → options.patience < 2 ^ 32 → IsTriedOut options f parts →
+    AllLeave parts ⊎ (AreHosts parts × (stores (verdict_of f) ≡ true))
+tried_hosts options f parts address long p = by_deposit (stores (verdict_of f)) f.put_back p.in_deposit refl p.deposit
+  where
+    b : BeginsByLook p.in_tries
+    b = tries_begin options f p.in_tries address long p.tried
+
+    by_deposit : (wanted : Bool) (thing : Option Bool) (deposits : List (List Item)) → stores (verdict_of f) ≡ wanted → MadeWhere wanted (PutsBack options (number_in f.first)) thing p.in_deposit →
+        AllLeave parts ⊎ (AreHosts parts × (stores (verdict_of f) ≡ true))
+    by_deposit true None deposits is made = absurd made
+    by_deposit true (Some is_back) deposits is made =
+        inr (subst AreHosts (sym p.parts_are) (hosts p.in_tries p.in_deposit b (inr (subst AreHosts (sym made.part) (deposit_begins options (number_in f.first) is_back p.in_deposit made)))), is)
+    by_deposit false (Some is_back) deposits is made = absurd made
+    by_deposit false None deposits is made =
+        inl (subst AllLeave (sym (p.parts_are ∙ (ap (λ more. p.in_tries ++ more) made ∙ (append-nil p.in_tries ∙ b.parts_are)))) (b.leaves, b.all))
 
 pub believes_over : (options : ProbeOptions) (f : Findings) (parts : List (List Item)) → IsAddress options.address → options.patience < 2 ^ 32 →
     IsProbe options f parts → AreBelievableOver f parts

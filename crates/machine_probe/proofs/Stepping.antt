@@ -33,7 +33,7 @@ stepped limits from pieces core last stop before after are begins reads i =
         last = last;
         is_pass = record {
           inquired = subst (λ (r : Reader). Inquired limits.turns (inquiry r last (Some stop)) (Some []) (Some s.said)) begins
-              (record { heard = s.heard; said = s.said; host = s.host; goes_on = s.goes_on; within = s.within; items = s.items; on_line = refl });
+              (record { heard = s.heard; said = s.said; host = s.host; goes_on = s.goes_on; within = s.within; items = s.items; unkept = s.unkept; on_line = refl });
           end = i.turns.end;
         };
         end_is = refl;

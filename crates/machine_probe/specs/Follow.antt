@@ -73,6 +73,19 @@ pub record IsProbe (options : ProbeOptions) (f : Findings) (parts : List (List I
   pub deposit : MadeWhere (stores (verdict_of f)) (PutsBack options (number_in f.first)) f.put_back in_deposit
   pub search : MadeWhere (forgets (verdict_of f)) (IsSearch options) f.search in_search
 
+-- a console was tried out, and gave these findings: the old number was put back where it stored another, and memory's end was not searched
+pub record IsTriedOut (options : ProbeOptions) (f : Findings) (parts : List (List Item)) : Type 0 where
+  pub address : f.address ≡ options.address
+  pub in_tries : List (List Item)
+  pub in_deposit : List (List Item)
+  pub parts_are : parts ≡ in_tries ++ in_deposit
+  pub tried : IsTried options f in_tries
+  pub deposit : MadeWhere (stores (verdict_of f)) (PutsBack options (number_in f.first)) f.put_back in_deposit
+
+-- no digit was typed: there was a look at most
+abbrev pub IsUntried : ProbeOptions → List (List Item) → Type 0
+IsUntried options parts = (parts ≡ []) ⊎ ((sighting : Sighting) × LooksAt options sighting parts)
+
 -- a probe found the same number again, and did not search memory's end
 pub record IsUnsearched (options : ProbeOptions) (parts : List (List Item)) : Type 0 where
   pub f : Findings

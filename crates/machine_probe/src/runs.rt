@@ -6,7 +6,7 @@ ghost use Rattle.host_devices.specs.Told.{SaysNothing};
 ghost use Rattle.looking_law.specs.Again.{looker};
 ghost use Rattle.probe_report.specs.Judging.{verdict_of};
 ghost use Rattle.machine_probe.specs.Came.{trial_findings_of, extent_of, first_of, sighting_of, trial_end_of};
-ghost use Rattle.machine_probe.specs.Follow.{IsBrokenOff, IsProbe, MadeWhere, forgets, goes_on, is_number, number_in, stores};
+ghost use Rattle.machine_probe.specs.Follow.{IsBrokenOff, IsProbe, IsTriedOut, IsUntried, MadeWhere, forgets, goes_on, is_number, number_in, stores};
 ghost use Rattle.machine_probe.specs.PuttingBack.{PutsBack};
 ghost use Rattle.machine_probe.specs.Rooms.{AreLookers, HasDeposit};
 ghost use Rattle.machine_probe.specs.Runs.{LooksAt, IsSearch, IsTrialOf, OnLine};
@@ -51,8 +51,7 @@ fn looker(alloc: Global, options: ProbeOptions) -> Result<ReadingCore, AllocErro
     ReadingCore::of_range(alloc, options.address, options.address, options.patience)
 }
 
-/// Makes the runs of a probe: a look at the word, the trial of it, a second look, and then either the
-/// old number is put back or the end of memory is searched.
+/// Makes the runs of a probe: it tries the console, and searches the end of memory where that forgets.
 ///
 /// The one error is want of memory, before a digit was typed or behind a second look that read the same
 /// number.
@@ -66,6 +65,41 @@ pub(crate) fn make_runs<L: Line>(
     requires lookers { AreLookers options lookers }
     ensures made { IfOk result (λ found. OnLine (IsProbe options found) (L.told line.old) (L.told line.new)) }
     ensures wanting { OnErr result (OnLine (IsBrokenOff options) (L.told line.old) (L.told line.new)) }
+{
+    let found = try_out(alloc, lookers, options, line)?;
+    let search = find_memory(alloc, judge(&found), options, line)?;
+    Ok(Findings { search, ..found })
+}
+
+/// Tries whether a console forgets digits at an illegal key, as `probe` does before it searches the end of memory: a look
+/// at the word, the trial of it, a second look, and where that read another number the old one is put back.
+///
+/// The one error is want of memory, before a digit was typed.
+pub fn try_console<L: Line>(
+    alloc: Global,
+    options: ProbeOptions,
+    line: &mut L,
+) -> Result<Findings, AllocError>
+    requires address { IsAddress options.address }
+    ensures made { IfOk result (λ found. OnLine (IsTriedOut options found) (L.told line.old) (L.told line.new)) }
+    ensures wanting { OnErr result (OnLine (IsUntried options) (L.told line.old) (L.told line.new)) }
+{
+    let lookers = Lookers::new(alloc, options)?;
+    try_out(alloc, lookers, options, line)
+}
+
+// The same, where there are the hosts of the two looks.
+fn try_out<L: Line>(
+    alloc: Global,
+    lookers: Lookers,
+    options: ProbeOptions,
+    line: &mut L,
+) -> Result<Findings, AllocError>
+    requires address { IsAddress options.address }
+    requires lookers { AreLookers options lookers }
+    ensures made { IfOk result (λ found. OnLine (IsTriedOut options found) (L.told line.old) (L.told line.new)) }
+    ensures wanting { OnErr result (OnLine (IsUntried options) (L.told line.old) (L.told line.new)) }
+    ensures broken_off { OnErr result (OnLine (IsBrokenOff options) (L.told line.old) (L.told line.new)) }
 {
     let Lookers {
         first: first_core,
@@ -84,12 +118,7 @@ pub(crate) fn make_runs<L: Line>(
         search: None,
     };
     let put_back = restore(&found, deposit, options, line);
-    let search = find_memory(alloc, judge(&found), options, line)?;
-    Ok(Findings {
-        put_back,
-        search,
-        ..found
-    })
+    Ok(Findings { put_back, ..found })
 }
 
 // A look at the word.

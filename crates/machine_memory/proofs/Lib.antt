@@ -1,0 +1,7 @@
+mod Believed
+mod Faults
+mod Leads
+mod OneLine
+pub mod Reports
+mod Rows
+mod Zips

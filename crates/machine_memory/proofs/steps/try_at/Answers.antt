@@ -1,0 +1,27 @@
+use Rattle.std.proofs.Common.{subst, sym}
+use Rattle.reading_core.specs.Addresses.{IsRange}
+use Rattle.machine_memory.specs.Course.{IsWithin, Standing}
+use Rattle.machine_memory.proofs.Leads.{holds_on_error, map_ok, trial_within, try_cut, try_step}
+use Rattle.machine_memory.proofs.steps.try_at.Goals as goal
+
+pub returns-clause-made : goal.returns-clause-made
+returns-clause-made g c =
+    let told = g.L.Line.told in
+    map_ok c.behind_trial.result _ _
+    (λ after is. try_step c.args.options c.args.at c.args.course after c.in_ok-found.found (told c.args.line.now) (told c.try_console.new.line) c.in_ok-found.ensures.made is)
+    c.behind_trial.ensures
+
+pub returns-clause-within : goal.returns-clause-within
+returns-clause-within g c =
+    map_ok c.behind_trial.result _ _
+    (λ after is. subst (λ (s : Standing). IsWithin c.args.options.to s.place) (sym is)
+    (trial_within c.args.options.to c.args.course c.in_ok-found.found (subst (λ n. IsRange n c.args.options.to) (sym c.in_ok-found.ensures.made.are.address) c.requires.within)))
+    c.behind_trial.ensures
+
+pub returns-clause-cut : goal.returns-clause-cut
+returns-clause-cut g c =
+    let told = g.L.Line.told in
+    holds_on_error c.behind_trial.result _ (try_cut c.args.options c.args.at c.in_ok-found.found (told c.args.line.now) (told c.try_console.new.line) c.in_ok-found.ensures.made)
+
+pub behind_trial-requires : goal.behind_trial-requires
+behind_trial-requires g c = subst (λ n. IsRange n c.args.options.to) (sym c.in_ok-found.ensures.made.are.address) c.requires.within

@@ -1,0 +1,80 @@
+-- The hosts of a test of memory, one after another, each with what was said (this project's own).
+use Rattle.std.specs.Prelude.{◌≡◌, ◌⊎◌, ℕ, zero, suc, List, [], ◌∷◌, ◌++◌, Some}
+use Rattle.host_devices.specs.declared.item.Item.{Item}
+use Rattle.engine.specs.declared.stop.Stop.{Stop}
+use Rattle.engine.specs.Stopping.{TellsEnd}
+use Rattle.memory_core.specs.declared.phase.End.{End}
+use Rattle.memory_core.specs.Addresses.{every_address}
+use Rattle.memory_core.specs.Tester.{Tester, begun, ended}
+use Rattle.memory_engine.specs.Tested.{NoKeepFault, Tested, testing}
+use Rattle.probe_report.specs.declared.findings.Findings.{Findings}
+use Rattle.machine_probe.specs.Follow.{IsTriedOut, IsUntried}
+use Rattle.machine_memory.specs.declared.course.Place.{Place}
+use Rattle.machine_memory.specs.declared.course.Place.TheVariants.{Trying, Testing, Over}
+use Rattle.machine_memory.specs.declared.memory_options.MemoryOptions.{MemoryOptions}
+use Rattle.machine_memory.specs.Course.{Standing, behind_test, behind_trial}
+use Rattle.machine_memory.specs.Options.{probe_options}
+
+-- the most turns of one host
+abbrev pub most_turns : ℕ
+most_turns = 10000000
+
+-- the console was tried at a word, as `probe` does
+pub record IsTryStep (options : MemoryOptions) (at : ℕ) (before after : Standing) (parts : List (List Item)) : Type 0 where
+  pub f : Findings
+  pub tried : IsTriedOut (probe_options options at) f parts
+  pub after_is : after ≡ behind_trial options.to before f
+
+-- a testing host was led over the words from one on, and stopped
+pub record IsTestLed (options : MemoryOptions) (at : ℕ) (last : Tester) (stop : Stop End) (parts : List (List Item)) : Type 0 where
+  pub said : List Item
+  pub part : parts ≡ said ∷ []
+  pub tested : Tested most_turns (testing (begun (every_address at options.to options.every) options.patience) last (Some stop)) (Some []) (Some said)
+  pub end : TellsEnd stop (ended last.phase)
+  pub no_fault : NoKeepFault stop
+
+-- so the words were tested
+pub record IsTestStep (options : MemoryOptions) (at : ℕ) (before after : Standing) (parts : List (List Item)) : Type 0 where
+  pub last : Tester
+  pub stop : Stop End
+  pub test_led : IsTestLed options at last stop parts
+  pub after_is : after ≡ behind_test options.to before last stop
+
+-- what comes next was done: where nothing does, nothing was said
+abbrev pub IsStepAt : MemoryOptions → Place → Standing → Standing → List (List Item) → Type 0
+IsStepAt options (Trying at) before after parts = IsTryStep options at before after parts
+IsStepAt options (Testing at) before after parts = IsTestStep options at before after parts
+IsStepAt options (Over end) before after parts = (after ≡ before) × (parts ≡ [])
+
+abbrev pub IsStep : MemoryOptions → Standing → Standing → List (List Item) → Type 0
+IsStep options before after parts = IsStepAt options before.place before after parts
+
+-- so many steps
+abbrev pub AreSteps : ℕ → MemoryOptions → Standing → Standing → List (List Item) → Type 0
+AreSteps zero options first last parts = (last ≡ first) × (parts ≡ [])
+AreSteps (suc n) options first last parts =
+    (between : Standing) × (front more : List (List Item)) × AreSteps n options first between front × IsStep options between last more × (parts ≡ front ++ more)
+
+-- more steps than a test has: in each of the seven banks the console is tried or words are tested, and once more where the console forgets
+abbrev pub most_steps : ℕ
+most_steps = 16
+
+-- all steps, one after another: behind the end nothing is said
+abbrev pub IsRow : MemoryOptions → Standing → Standing → List (List Item) → Type 0
+IsRow options first last parts = AreSteps most_steps options first last parts
+
+-- a step that want of memory cut off: before a host was led, or behind it
+abbrev pub IsCutStep : MemoryOptions → Place → List (List Item) → Type 0
+IsCutStep options (Trying at) parts = IsUntried (probe_options options at) parts ⊎ ((f : Findings) × IsTriedOut (probe_options options at) f parts)
+IsCutStep options (Testing at) parts = (parts ≡ []) ⊎ ((last : Tester) × (stop : Stop End) × IsTestLed options at last stop parts)
+IsCutStep options (Over end) parts = parts ≡ []
+
+-- steps, of which the last was cut off
+pub record IsCut (options : MemoryOptions) (first : Standing) (parts : List (List Item)) : Type 0 where
+  pub count : ℕ
+  pub between : Standing
+  pub front : List (List Item)
+  pub more : List (List Item)
+  pub steps : AreSteps count options first between front
+  pub cut : IsCutStep options between.place more
+  pub parts_are : parts ≡ front ++ more

@@ -1,0 +1,119 @@
+//! The command `memory`.
+ghost use Rattle.std.specs.Prelude.{◌≡◌, [], IfErr, IfOk, OnErr, OnOk};
+ghost use Rattle.host_devices.specs.Told.{Gains};
+ghost use Rattle.console_lines.specs.Dialling.{asked_once};
+ghost use Rattle.console_lines.specs.Console.{console_told};
+ghost use Rattle.request_values.specs.Change.{◌⇒◌};
+ghost use Rattle.machine_probe.specs.Probe.{OverLine};
+ghost use Rattle.machine_probe.specs.ProbeFault.{way_told};
+ghost use Rattle.memory_report.specs.Report.{memory_text};
+ghost use Rattle.machine_memory.specs.Ending.{end_at, found_at, memory_end};
+ghost use Rattle.machine_memory.specs.MemoryFault.{IsMemoryFault, IsUnreported};
+ghost use Rattle.machine_memory.specs.Options.{IsAsked};
+ghost use Rattle.machine_memory.specs.Tested.{IsMemoryTested, IsReport};
+
+use crate::course::{Course, Place};
+use crate::memory_end::{MemoryEnd, memory_end};
+use crate::memory_fault::MemoryFault;
+use crate::memory_options::MemoryOptions;
+use crate::steps::make_steps;
+use byte_io::write_and_flush;
+use console_lines::Reach;
+use host_devices::Onlooker;
+use memory_engine::WordWatch;
+use memory_report::{Findings, Report, TestEnd, push_report};
+use std::alloc::Global;
+use std::io::Write;
+
+/// Tests memory over a console's line, and reports what it found: a picture of the board, the words that do not hold, and how
+/// the test ended.
+///
+/// First the console is tried at the first word, as `probe` does; where it stores digits at an illegal key nothing is tested.
+/// Then every so manieth word is read twice, turned over and put back. Where nothing answers the test goes on at the next bank
+/// of 4,096 words.
+///
+/// `Connect` comes before anything was sent. `WriteOutput` is a report that could not be written whole. `Memory` comes only
+/// where a growth was refused, with nothing reported.
+pub fn test_memory<R: Reach, W: Write, O: Onlooker + WordWatch>(
+    alloc: Global,
+    options: MemoryOptions,
+    console: &mut R,
+    out: &mut W,
+    onlooker: &O,
+) -> Result<MemoryEnd, MemoryFault>
+    requires { IsAsked options }
+    ensures ok { IfOk result (IsMemoryTested (OverLine R.Line.Line) options
+        (console_told R.Reach W.Write console.old out.old ⇒ console_told R.Reach W.Write console.new out.new)) }
+    ensures err { IfErr result (IsMemoryFault (OverLine R.Line.Line) options
+        (console_told R.Reach W.Write console.old out.old ⇒ console_told R.Reach W.Write console.new out.new)) }
+    ensures call { R.call console.new ≡ R.call console.old }
+{
+    let mut report = Report::new();
+    let end = gather(alloc, options, console, onlooker, &mut report)?;
+    write_and_flush(out, &report)?;
+    Ok(end)
+}
+
+// Reaches the console, makes the test, and puts its report into an empty text. Everything that fails here comes before
+// anything was reported.
+fn gather<R: Reach, O: Onlooker + WordWatch>(
+    alloc: Global,
+    options: MemoryOptions,
+    console: &mut R,
+    onlooker: &O,
+    report: &mut Report,
+) -> Result<MemoryEnd, MemoryFault>
+    requires asked { IsAsked options }
+    requires empty { report.old.items ≡ [] }
+    ensures report { IfOk result (λ end. OverLine R.Line.Line (R.lines console.old ⇒ R.lines console.new)
+        (λ line. IsReport options line report.new.items end)) }
+    ensures asked { OnOk result (Gains (R.asked console.old) (R.asked console.new) (asked_once (R.call console.old))) }
+    ensures call { R.call console.new ≡ R.call console.old }
+    ensures fault { IfErr result (IsUnreported (OverLine R.Line.Line) options (way_told R.Reach console.old ⇒ way_told R.Reach console.new)) }
+{
+    let course = Course::new(alloc, options.from, options.count() as usize)?;
+    let mut line = console.reach()?;
+    onlooker.begins(0, options.count());
+    let outcome = make_steps(alloc, course, options, &mut line, onlooker);
+    onlooker.ends();
+    console.let_go(line);
+    match outcome {
+        Ok(course) => Ok(put_report(course, options, report)),
+        Err(_) => Err(MemoryFault::Memory),
+    }
+}
+
+// Puts the report of a test that is over into an empty text.
+fn put_report(course: Course, options: MemoryOptions, report: &mut Report) -> MemoryEnd
+    requires asked { IsAsked options }
+    requires empty { report.old.items ≡ [] }
+    ensures text { report.new.items ≡ memory_text (found_at options course) }
+    ensures end { result ≡ memory_end (found_at options course) }
+{
+    let Course {
+        words,
+        gaps,
+        borrowed,
+        place,
+    } = course;
+    let findings = Findings {
+        from: options.from,
+        to: options.to,
+        words,
+        gaps,
+        borrowed,
+        end: end_at(place),
+    };
+    push_report(report, &findings);
+    memory_end(&findings)
+}
+
+// How it ended: where a step would follow, the turns are over.
+fn end_at(place: Place) -> TestEnd
+    ensures { result ≡ end_at place }
+{
+    match place {
+        Place::Over(end) => end,
+        Place::Trying(_) | Place::Testing(_) => TestEnd::TurnsOver,
+    }
+}

@@ -1,0 +1,23 @@
+//! The command `memory`: which chip of a board is it?
+//!
+//! `test_memory` first tries, as `probe` does, whether the console forgets digits at an illegal key, and then turns over each
+//! word that is asked for and puts it back. Where a bank does not answer the test goes on behind it. Its contract says which
+//! hosts were led over the line, one after another, that nothing else was said, and exactly what was reported: a function of
+//! what was read. Over an honest line each host leaves every word as it was, but the one that the report names
+//! (`memory_law`). Used by `requests`.
+#![tactic(auto)]
+
+mod behind;
+mod command;
+mod course;
+mod memory_end;
+mod memory_fault;
+mod memory_options;
+mod steps;
+mod words;
+
+pub use command::test_memory;
+pub use memory_end::MemoryEnd;
+pub use memory_engine::{Borrowed, WordWatch};
+pub use memory_fault::MemoryFault;
+pub use memory_options::MemoryOptions;

@@ -1,0 +1,3 @@
+pub mod Belief
+pub mod Leading
+pub mod Tested

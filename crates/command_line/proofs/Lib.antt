@@ -1,3 +1,4 @@
+mod Asked
 mod Entered
 mod Exact
 mod Filled

@@ -17,6 +17,10 @@ needed name = record (new_rule name) { required = true }
 abbrev pub allowed : Text → Rule
 allowed name = new_rule name
 
+-- an argument that may be there, and needs another one then
+abbrev pub paired : Text → Rule
+paired name = record (allowed name) { is_free = false }
+
 -- an argument that may be there any number of times
 abbrev pub repeated : Text → Rule
 repeated name = record (new_rule name) { action = Some Append; range = Some (record { start_inclusive = 0; end_inclusive = usize_max }) }
@@ -41,6 +45,7 @@ tied_flag name = record (flag name) { is_free = false }
 abbrev pub rule_of_form : Form → Text → Rule
 rule_of_form form.Required name = needed name
 rule_of_form form.Optional name = allowed name
+rule_of_form (form.OptionalBeside _) name = paired name
 rule_of_form form.Further name = repeated name
 rule_of_form (form.Text _) name = option name
 rule_of_form (form.Number _ least most) name = numeric name least most

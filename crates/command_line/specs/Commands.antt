@@ -7,21 +7,22 @@ use Rattle.clap.specs.declared.parser.matches.Found.{Found}
 use Rattle.host_core.specs.Core.{plain_patience}
 use Rattle.request_values.specs.declared.machine.Load.{Load}
 use Rattle.request_values.specs.declared.machine.Look.{Look}
+use Rattle.request_values.specs.declared.machine.MemoryTest.{MemoryTest}
 use Rattle.request_values.specs.declared.machine.Probe.{Probe}
 use Rattle.request_values.specs.declared.request.Make.{Make}
 use Rattle.request_values.specs.declared.request.Rehearsal.{Rehearsal}
 use Rattle.request_values.specs.declared.request.Request.{Request}
 use Rattle.request_values.specs.declared.request.Request.TheVariants.{Tape, Machine}
 use Rattle.request_values.specs.declared.request.MachineRequest.{MachineRequest}
-use Rattle.request_values.specs.declared.request.MachineRequest.TheVariants.{Load as Loads, Verify, Save as Saves, Probe as Probes}
+use Rattle.request_values.specs.declared.request.MachineRequest.TheVariants.{Load as Loads, Verify, Save as Saves, Probe as Probes, Memory as TestsMemory}
 use Rattle.request_values.specs.declared.request.TapeRequest.{TapeRequest}
 use Rattle.request_values.specs.declared.request.TapeRequest.TheVariants.{Print, Make as Makes}
 use Rattle.request_values.specs.declared.request.PrintRequest.{PrintRequest}
 use Rattle.request_values.specs.declared.request.PrintRequest.TheVariants.{CheckInput, Check, Dialogue, Rehearse, «Type» as TypeKeys}
 use Rattle.request_values.specs.declared.machine.Save.{Save}
-use Rattle.command_line.specs.Arguments.{allowed, flag, needed, numeric, option, repeated, rule_told, tied_flag}
+use Rattle.command_line.specs.Arguments.{allowed, flag, needed, numeric, option, paired, repeated, rule_told, tied_flag}
 use Rattle.command_line.specs.Options.{IsConsoleOf, IsFlag, IsNumberGiven, IsNumberOf, IsProbedWord, IsRangeOf, IsSavedStart, IsStartOf, IsWordsFile}
-use Rattle.command_line.specs.Options.{NamesTapes, more_in, plain_quiet}
+use Rattle.command_line.specs.Options.{IsTestedRange, NamesTapes, more_in, plain_quiet, plain_step}
 use Rattle.command_line.specs.declared.commands.KnownCommand.{KnownCommand}
 
 -- a command of this name with these arguments and options
@@ -65,6 +66,10 @@ all_commands =
     needed (codes "LINE") ∷ option (codes "address")
     ∷ numeric (codes "patience") 0 1000 ∷ numeric (codes "quiet") 1 60_000 ∷ flag (codes "log") ∷ []
     )
+    ∷ shape_with (codes "memory") (
+    needed (codes "LINE") ∷ paired (codes "FROM") ∷ allowed (codes "TO") ∷ numeric (codes "every") 1 28_672
+    ∷ numeric (codes "patience") 0 1000 ∷ numeric (codes "quiet") 1 60_000 ∷ flag (codes "log") ∷ []
+    )
     ∷ shape_with (codes "make") (needed (codes "FILE") ∷ allowed (codes "WORDS") ∷ option (codes "start") ∷ [])
     ∷ shape_with (codes "check") (needed (codes "TAPE") ∷ repeated (codes "MORE") ∷ flag (codes "blocks") ∷ [])
     ∷ shape_with (codes "dialogue") (
@@ -90,7 +95,7 @@ pub record SaysLoad (found : Found) (load : Load) : Type 0 where
   pub listen : IsNumberGiven found (codes "listen") load.listen
   pub start : IsStartOf found load.start
 
--- a look is what the arguments and options of `verify`, `save` and `probe` say
+-- a look is what the arguments and options of `verify`, `save`, `probe` and `memory` say
 pub record IsLookOf (found : Found) (look : Look) : Type 0 where
   pub line : first_value found (codes "LINE") ≡ Some look.line.now
   pub patience : IsNumberOf found (codes "patience") plain_patience look.patience
@@ -120,6 +125,12 @@ pub record IsProbeOf (found : Found) (probe : Probe) : Type 0 where
   pub address : IsProbedWord (first_value found (codes "address")) probe.address
   pub look : IsLookOf found probe.look
 
+-- a test of memory is what the arguments and options of `memory` say
+pub record IsTestOf (found : Found) (test : MemoryTest) : Type 0 where
+  pub range : IsTestedRange (first_value found (codes "FROM")) found test.range
+  pub every : IsNumberOf found (codes "every") (plain_step (first_value found (codes "FROM"))) test.every
+  pub look : IsLookOf found test.look
+
 -- a request that does nothing but print is what the arguments and options of this command say
 abbrev pub IsPrintRequestOf : Text → Found → PrintRequest → Type 0
 IsPrintRequestOf command found (Check names options) = (command ≡ codes "check") × NamesTapes found names.items × IsFlag found (codes "blocks") options.blocks
@@ -140,6 +151,7 @@ IsMachineRequestOf command found (Loads names load) = (command ≡ codes "load")
 IsMachineRequestOf command found (Verify names look) = (command ≡ codes "verify") × NamesTapes found names.items × IsLookOf found look
 IsMachineRequestOf command found (Saves save) = (command ≡ codes "save") × IsSaveOf found save
 IsMachineRequestOf command found (Probes probe) = (command ≡ codes "probe") × IsProbeOf found probe
+IsMachineRequestOf command found (TestsMemory test) = (command ≡ codes "memory") × IsTestOf found test
 
 -- a request is
 abbrev pub IsRequestOf : Text → Found → Request → Type 0

@@ -92,3 +92,13 @@ is_line text = has_colon text || has_slash text
 pub record IsRangeOf (found : Found) (range : AddressRange) : Type 0 where
   pub from : (text : List ℕ) × ((first_value found (codes "FROM") ≡ Some text) × IsWordText text range.from)
   pub to : (text : List ℕ) × ((first_value found (codes "TO") ≡ Some text) × IsWordText text range.to)
+
+-- the words of which some are tested: all for which memory has room, or those of the addresses that are given
+abbrev pub IsTestedRange : Option (List ℕ) → Found → AddressRange → Type 0
+IsTestedRange None found range = (range.from ≡ 0) × (range.to ≡ 0o157776)
+IsTestedRange (Some first) found range = IsRangeOf found range
+
+-- of how many words one is tested where nothing else is said: of 64 in all memory, and every word where addresses are given
+abbrev pub plain_step : Option (List ℕ) → ℕ
+plain_step None = 64
+plain_step (Some first) = 1

@@ -3,7 +3,7 @@ ghost use Rattle.std.specs.Prelude.{◌≡◌, ◌↔◌, ℕ, Some, Ok, IfOk, I
 ghost use Rattle.reading_core.specs.Addresses.{IsAddress};
 ghost use Rattle.clap.specs.Matches.{found_of, first_value};
 ghost use Rattle.command_line.specs.Addresses.{IsEvenText, IsOctalText, IsWordText};
-ghost use Rattle.command_line.specs.Options.{IsProbedWord, IsRangeOf, IsSavedStart, IsStartOf};
+ghost use Rattle.command_line.specs.Options.{IsProbedWord, IsRangeOf, IsSavedStart, IsStartOf, IsTestedRange};
 
 use crate::names::{ADDRESS, FROM, NO_START, START, TO};
 use crate::no_request::NoRequest;
@@ -33,6 +33,9 @@ const STARTS_NOTHING: u16 = 0o000001;
 
 // The address of the word at which a probe is made where nothing else is said.
 const PLAIN_WORD: u16 = 0o001000;
+
+// The address of the last word that there may be.
+const LAST_WORD: u16 = TOP as u16 - 2;
 
 /// The start in place of the tapes', by two options of which one is given at most.
 pub(crate) fn start_of(alloc: Global, found: &ArgMatches<'_>) -> Result<Start, NoRequest>
@@ -77,7 +80,20 @@ fn given_start(alloc: Global, text: &str) -> Result<u16, NoRequest>
     }
 }
 
-/// The range of words that are saved.
+/// The range of words of which some are tested: of all, where no addresses are given.
+pub(crate) fn tested_range_of(
+    alloc: Global,
+    found: &ArgMatches<'_>,
+) -> Result<AddressRange, NoRequest>
+    ensures { IfOk result (IsTestedRange (first_value (found_of found.now) (codes "FROM")) (found_of found.now)) }
+{
+    match found.get_str(FROM) {
+        Some(_) => range_of(alloc, found),
+        None => AddressRange::new(0, LAST_WORD).ok_or(NoRequest::Meaningless),
+    }
+}
+
+/// The range of words between two addresses that are given.
 pub(crate) fn range_of(alloc: Global, found: &ArgMatches<'_>) -> Result<AddressRange, NoRequest>
     ensures value { IfOk result (IsRangeOf (found_of found.now)) }
     ensures due { (range : AddressRange) → IsRangeOf (found_of found.now) range → IsOk result }

@@ -28,6 +28,9 @@ enum Form {
     // An argument that may be there.
     Optional,
 
+    // An argument that may be there, and then needs that of this name.
+    OptionalBeside(&'static str),
+
     // An argument that may be there any number of times.
     Further,
 
@@ -60,6 +63,7 @@ impl Argument {
         match self.form {
             Form::Required => Ok(arg.required(true)),
             Form::Optional => Ok(arg),
+            Form::OptionalBeside(other) => arg.requires_arg(other),
             Form::Further => Ok(arg.num_args(0..).action(ArgAction::Append)),
             Form::Text(value) => Ok(arg.long(self.name).value_name(value)),
             Form::Number(value, least, most) => {
@@ -139,6 +143,18 @@ pub(crate) const TO: Argument = Argument {
     help: "The last word's address, not below the first",
 };
 
+pub(crate) const FIRST_TESTED: Argument = Argument {
+    name: names::FROM,
+    form: Form::OptionalBeside(names::TO),
+    help: "The first word's address: octal, even, below 160000\n[default: 000000]",
+};
+
+pub(crate) const LAST_TESTED: Argument = Argument {
+    name: names::TO,
+    form: Form::Optional,
+    help: "The last word's address, not below the first\n[default: 157776]",
+};
+
 pub(crate) const WORDS: Argument = Argument {
     name: names::WORDS,
     form: Form::Number("N", 0, LARGEST_WORDS),
@@ -209,6 +225,15 @@ pub(crate) const ADDRESS: Argument = Argument {
     name: names::ADDRESS,
     form: Form::Text("AAAAAA"),
     help: "The word that is tried: octal, even, below 160000\n[default: 001000]",
+};
+
+// No more words than there may be.
+pub(crate) const EVERY: Argument = Argument {
+    name: names::EVERY,
+    form: Form::Number("N", 1, LARGEST_WORDS),
+    help: "\
+Test one word of so many, 1 to 28672 [default: 64, and
+1 where FROM and TO are given]",
 };
 
 pub(crate) const PATIENCE: Argument = Argument {

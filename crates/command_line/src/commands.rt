@@ -58,14 +58,14 @@ start is that of the last tape alone.
 
 Exit status:
   0  done; help was asked for
-  1  verify found words that differ
+  1  verify found words that differ, or memory such as do not hold
   2  the command line was refused
   3  a tape, words, a script or a record was refused
   4  a file could not be read or something not be written, the file of a new
      tape is there already, a record is another load's at the time, there was
      no connection, or the line failed
-  5  a load, verify, save or probe ended GaveUp, NoWord, WontHold, Stale,
-     TurnsOver, NoPrompt or NotTrusted
+  5  a load, verify, save, probe or memory ended GaveUp, NoWord, WontHold,
+     Stale, TurnsOver, NoPrompt or NotTrusted
   6  a load ended Uncertain or MaybeStarted: the program may be running
   7  no memory left
 Each fault but a refused command line is one line on standard error; another

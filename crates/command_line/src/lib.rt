@@ -10,6 +10,7 @@ mod addresses;
 mod arguments;
 mod commands;
 mod explaining;
+mod help;
 mod machine_words;
 mod names;
 mod no_request;

@@ -3,12 +3,14 @@
 //! Lines of help have less than 80 columns.
 ghost use Rattle.std.specs.Prelude.{◌≡◌, IfOk, codes};
 ghost use Rattle.clap.specs.Matches.{found_of};
+ghost use Rattle.clap.specs.Matches.{first_value};
 ghost use Rattle.command_line.specs.Commands.{SaysLoad, IsLookOf, IsMachineRequestOf};
+ghost use Rattle.command_line.specs.Options.{IsNumberOf, plain_step};
 
-use crate::addresses::{probed_of, range_of, saved_start_of, start_of};
+use crate::addresses::{probed_of, range_of, saved_start_of, start_of, tested_range_of};
 use crate::arguments::{
-    ADDRESS, FAST, FILE, FROM, LINE, LISTEN, LOG, MORE, NO_START, PATIENCE, QUIET, RECHECK, RECORD,
-    SAVED_START, START, TAPE, TO,
+    ADDRESS, EVERY, FAST, FILE, FIRST_TESTED, FROM, LAST_TESTED, LINE, LISTEN, LOG, MORE, NO_START,
+    PATIENCE, QUIET, RECHECK, RECORD, SAVED_START, START, TAPE, TO,
 };
 use crate::commands::KnownCommand;
 use crate::names;
@@ -16,14 +18,19 @@ use crate::no_request::NoRequest;
 use crate::values::{line_of, number_given, number_of, tapes_of, text_of};
 use clap::ArgMatches;
 use host_core::PLAIN_PATIENCE;
-use request_values::{Load, LoadOptions, Look, MachineRequest, Probe, Save};
+use request_values::{Load, LoadOptions, Look, MachineRequest, MemoryTest, Probe, Save};
 use std::alloc::Global;
 
 // How many milliseconds of silence mean that nothing more is coming, where nothing else is said.
 const PLAIN_QUIET: u16 = 2000;
 
+// Of how many words one is tested, where nothing else is said: of all memory, and where addresses are given.
+const SOME_WORDS: u16 = 64;
+
+const EVERY_WORD: u16 = 1;
+
 /// Them, as help lists them.
-pub(crate) const MACHINE_COMMANDS: [KnownCommand; 4] = [LOAD, VERIFY, SAVE, PROBE];
+pub(crate) const MACHINE_COMMANDS: [KnownCommand; 5] = [LOAD, VERIFY, SAVE, PROBE, MEMORY];
 
 const LOAD: KnownCommand = KnownCommand {
     word: "load",
@@ -127,6 +134,37 @@ Example, before the first load:
   ldaodt probe /dev/ttyUSB0",
 };
 
+const MEMORY: KnownCommand = KnownCommand {
+    word: "memory",
+    about: "Tests a machine's memory, and puts back what it held",
+    arguments: &[LINE, FIRST_TESTED, LAST_TESTED, EVERY, PATIENCE, QUIET, LOG],
+    help: "\
+Each word is looked at twice, its complement is deposited and looked at, and
+what it held is put back and looked at. In the report a row is a bank of 4096
+words, and a column a bit of them, which is a chip: '.' held in every word, '0'
+or '1' reads so whatever is deposited, 'x' is bad in another way. The first 8
+words that do not hold are listed. Address lines or data lines that touch may
+not show.
+
+Leave the console at its @ before, with no program running; none is started. At
+the first word it is tried, as by probe, whether the console forgets digits: if
+not, nothing is tested. Where a test is broken off, one word may hold another
+number than it did: the terminal, or the report, names it and what it held.
+
+Exit status:
+  0  the test ended Tested: every word that was tested held
+  1  a word does not hold
+  4  the output could not be written, there was no connection, or the line
+     failed
+  5  the test ended NotTrusted: the console stores digits; GaveUp: there was no
+     @, or there were too many mishaps; NoWord: memory has no word there; or
+     TurnsOver: the line never falls silent
+
+Example, one word of 64 in all memory, and every word of one bank:
+  ldaodt memory /dev/ttyUSB0
+  ldaodt memory /dev/ttyUSB0 20000 37776",
+};
+
 /// The load of tapes into a machine.
 pub(crate) fn loading_of<'a>(
     alloc: Global,
@@ -196,6 +234,33 @@ pub(crate) fn probing_of<'a>(
     let look = look_of(alloc, found)?;
     let address = probed_of(alloc, found)?;
     Ok(MachineRequest::Probe(Probe { address, look }))
+}
+
+/// The test of a machine's memory.
+pub(crate) fn testing_of<'a>(
+    alloc: Global,
+    found: &ArgMatches<'a>,
+) -> Result<MachineRequest<'a>, NoRequest>
+    ensures { IfOk result (IsMachineRequestOf (codes "memory") (found_of found.now)) }
+{
+    let look = look_of(alloc, found)?;
+    let range = tested_range_of(alloc, found)?;
+    let every = step_of(found)?;
+    if every == 0 {
+        return Err(NoRequest::Meaningless);
+    }
+    Ok(MachineRequest::Memory(MemoryTest { range, every, look }))
+}
+
+// Of how many words one is tested.
+fn step_of(found: &ArgMatches<'_>) -> Result<u16, NoRequest>
+    ensures { IfOk result (IsNumberOf (found_of found.now) (codes "every") (plain_step (first_value (found_of found.now) (codes "FROM")))) }
+{
+    let otherwise = match found.get_str(names::FROM) {
+        Some(_) => EVERY_WORD,
+        None => SOME_WORDS,
+    };
+    number_of(found, names::EVERY, otherwise)
 }
 
 // A look at a machine.

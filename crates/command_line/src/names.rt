@@ -21,7 +21,7 @@ pub const BLOCKS: &str = "blocks";
 /// The file of a new tape.
 pub const FILE: &str = "FILE";
 
-/// The first word that is saved.
+/// The first word that is saved or tested.
 pub const FROM: &str = "FROM";
 
 /// The last one.
@@ -50,6 +50,9 @@ pub const NO_START: &str = "no-start";
 
 /// The word that is tried.
 pub const ADDRESS: &str = "address";
+
+/// Of how many words one is tested.
+pub const EVERY: &str = "every";
 
 /// For how long the started program is listened to.
 pub const LISTEN: &str = "listen";

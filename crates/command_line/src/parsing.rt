@@ -1,13 +1,15 @@
 //! Words become a request, as the plain values say where one is not given.
-ghost use Rattle.std.specs.Prelude.{◌≡◌, ℕ, List, [], IfOk, map};
+ghost use Rattle.std.specs.Prelude.{◌≡◌, ℕ, List, [], IfErr, IfOk, map};
 ghost use Rattle.std.specs.String.{string_bytes};
 ghost use Rattle.clap.specs.Matches.{found_of};
 ghost use Rattle.clap.specs.Simple.{subcommand_of, subcommand_rows_of};
 ghost use Rattle.command_line.specs.Commands.{known_words, IsMachineRequestOf};
+ghost use Rattle.command_line.specs.Help.{IsAnswerTo};
 ghost use Rattle.command_line.specs.Wanted.{IsAskedBy, IsWantedBy, IsWantedOf, unlogged};
 
 use crate::commands::known_words;
-use crate::machine_words::{loading_of, probing_of, saving_of, verifying_of};
+use crate::help::ask_for_help;
+use crate::machine_words::{loading_of, probing_of, saving_of, testing_of, verifying_of};
 use crate::names::LOG;
 use crate::no_request::NoRequest;
 use crate::shown_words::{have_control, shown_words};
@@ -21,13 +23,32 @@ use std::alloc::Global;
 pub fn parse<'a>(alloc: Global, words: &'a [String]) -> Result<Wanted<'a>, NoRequest>
     ensures none { words.now ≡ [] → result ≡ Ok (unlogged (Request.Tape (TapeRequest.Print PrintRequest.CheckInput))) }
     ensures some { IfOk result (IsAskedBy (map string_bytes words.now)) }
+    // Help is for words that ask for it.
+    ensures answer { IfErr result (IsAnswerTo (map string_bytes words.now)) }
 {
     let Some(first) = words.first() else {
         let request = TapeRequest::Print(PrintRequest::CheckInput);
         return Ok(unlogged(Request::Tape(request)));
     };
     match read(alloc, first, words) {
-        Err(NoRequest::Refused(text)) => Err(shown_refusal(alloc, words, text)),
+        Ok(wanted) => Ok(wanted),
+        Err(NoRequest::Refused(text)) => Err(asked(words, shown_refusal(alloc, words, text))),
+        Err(answer) => Err(asked(words, answer)),
+    }
+}
+
+// The answer to words. Help is one where a word asks for it; without such a word the parser gives none.
+fn asked(words: &[String], answer: NoRequest) -> NoRequest
+    ensures { IsAnswerTo (map string_bytes words.now) result }
+{
+    match answer {
+        NoRequest::Help(text) => {
+            if ask_for_help(words) {
+                NoRequest::Help(text)
+            } else {
+                NoRequest::Meaningless
+            }
+        }
         answer => answer,
     }
 }
@@ -82,6 +103,7 @@ fn wanted_of<'a>(
         "verify" => Ok(at_machine(found, verifying_of(alloc, found)?)),
         "save" => Ok(at_machine(found, saving_of(alloc, found)?)),
         "probe" => Ok(at_machine(found, probing_of(alloc, found)?)),
+        "memory" => Ok(at_machine(found, testing_of(alloc, found)?)),
         _ => Ok(unlogged(Request::Tape(tape_request_of(alloc, command, found)?))),
     }
 }

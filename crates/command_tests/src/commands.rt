@@ -4,8 +4,8 @@
 use endings::CommandFault;
 use odt_machine::{LARGEST_WORDS, PLAIN_STYLE};
 use request_values::{
-    AddressRange, CheckOptions, Console, Load, LoadOptions, Look, MachineRequest, PrintRequest,
-    Probe, Rehearsal, Request, Save, Stage, TapeRequest,
+    AddressRange, CheckOptions, Console, Load, LoadOptions, Look, MachineRequest, MemoryTest,
+    PrintRequest, Probe, Rehearsal, Request, Save, Stage, TapeRequest,
 };
 use simulated_system::{BrokenInput, BrokenOutput, ONE_WORD_DIALOGUE, ONE_WORD_TEXT, QUIET_MS};
 use std::alloc::{AllocError, Global};
@@ -84,6 +84,9 @@ pub(crate) enum Asked<'a> {
 
     /// A probe at 001000.
     Probe(Look<'a>),
+
+    /// A test of the words from 001000 to this address.
+    Test(u16, Look<'a>),
 }
 
 impl<'a> Asked<'a> {
@@ -116,6 +119,7 @@ impl<'a> Asked<'a> {
                 let address = 0o001000;
                 Request::Machine(MachineRequest::Probe(Probe { address, look }))
             }
+            Asked::Test(to, look) => test_of(to, look),
         })
     }
 }
@@ -131,6 +135,18 @@ fn save_of<'a>(file: &'a str, to: u16, look: Look<'a>) -> Request<'a> {
             file,
             range,
             start: 1,
+            look,
+        })),
+        None => printed(PrintRequest::CheckInput),
+    }
+}
+
+// A test of every word. Where there are no such words it is another request, which ends otherwise.
+fn test_of<'a>(to: u16, look: Look<'a>) -> Request<'a> {
+    match AddressRange::new(0o001000, to) {
+        Some(range) => Request::Machine(MachineRequest::Memory(MemoryTest {
+            range,
+            every: 1,
             look,
         })),
         None => printed(PrintRequest::CheckInput),

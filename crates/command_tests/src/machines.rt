@@ -1,5 +1,5 @@
-//! Requests at a machine: loads with another start or none, listening behind them, looks, saves and probes, through
-//! a port and at a device.
+//! Requests at a machine: loads with another start or none, listening behind them, looks, saves, probes and tests of
+//! memory, through a port and at a device.
 
 use crate::attempts::{Ended, run};
 use crate::commands::{Asked, LOAD, LOOK};
@@ -293,6 +293,90 @@ static PROBES: [Row; 6] = [
     ),
 ];
 
+// Tests of memory: each has one bank.
+static TESTS: [Row; 7] = [
+    (
+        Asked::Test(0o001002, LOOK),
+        AMPLE,
+        Status::Done,
+        "                15 14 13 12 11 10  9  8  7  6  5  4  3  2  1  0\n000000-017776   .  .  .  .  .  .  .  .  .  .  .  .  .  .  .  .\ntested 2 words, 0 do not hold\nend Tested\n",
+        "",
+        1,
+    ),
+    // A character is lost while the word holds its complement.
+    (
+        Asked::Test(
+            0o001000,
+            Look {
+                line: DEVICE,
+                patience: 1,
+                ..LOOK
+            },
+        ),
+        SystemSetting {
+            loses: Some(120),
+            ..LOADED
+        },
+        Status::Done,
+        "                15 14 13 12 11 10  9  8  7  6  5  4  3  2  1  0\n000000-017776   .  .  .  .  .  .  .  .  .  .  .  .  .  .  .  .\ntested 1 words, 0 do not hold\nend Tested\n",
+        "",
+        1,
+    ),
+    // Memory ends behind the words that are there.
+    (
+        Asked::Test(0o001002, LOOK),
+        SystemSetting {
+            words: 257,
+            ..AMPLE
+        },
+        Status::Done,
+        "                15 14 13 12 11 10  9  8  7  6  5  4  3  2  1  0\n000000-017776   .  .  .  .  .  .  .  .  .  .  .  .  .  .  .  .   no memory at 001002\ntested 1 words, 0 do not hold\nend Tested\n",
+        "",
+        1,
+    ),
+    (
+        Asked::Test(0o001000, LOOK),
+        SMALL,
+        Status::NotLoaded,
+        "                15 14 13 12 11 10  9  8  7  6  5  4  3  2  1  0\n000000-017776   no memory\ntested 0 words, 0 do not hold\nend NoWord 001000\n",
+        "",
+        1,
+    ),
+    (
+        Asked::Test(0o001000, LOOK),
+        SystemSetting {
+            deaf: true,
+            ..AMPLE
+        },
+        Status::NotLoaded,
+        "                15 14 13 12 11 10  9  8  7  6  5  4  3  2  1  0\n000000-017776   not tested\ntested 0 words, 0 do not hold\nend GaveUp\n",
+        "",
+        1,
+    ),
+    (
+        Asked::Test(0o001000, LOOK),
+        SystemSetting { reads: 12, ..AMPLE },
+        Status::DeviceFailed,
+        "                15 14 13 12 11 10  9  8  7  6  5  4  3  2  1  0\n000000-017776   not tested\ntested 0 words, 0 do not hold\nend LineFailed\n",
+        "ldaodt: line failed\nldaodt: the other end closed it, or the adapter was pulled\n",
+        1,
+    ),
+    (
+        Asked::Test(
+            0o001000,
+            Look {
+                line: "/dev/ttyUSB1",
+                ..LOOK
+            },
+        ),
+        AMPLE,
+        Status::DeviceFailed,
+        "",
+        "ldaodt: cannot connect to /dev/ttyUSB1\n",
+        1,
+    ),
+];
+
 // Whether a request ends so.
 fn is_so(rt: &HostRuntime, row: &Row) -> bool {
     let (asked, setting, status, out, err, connections) = *row;
@@ -332,6 +416,13 @@ fn a_machine_is_looked_at_and_saved(rt: HostRuntime) -> Result<(), Fail> {
 #[test]
 fn a_console_is_probed(rt: HostRuntime) {
     for (place, row) in PROBES.iter().enumerate() {
+        assert!(rt; is_so(&rt, row), "row {place}");
+    }
+}
+
+#[test]
+fn memory_is_tested(rt: HostRuntime) {
+    for (place, row) in TESTS.iter().enumerate() {
         assert!(rt; is_so(&rt, row), "row {place}");
     }
 }

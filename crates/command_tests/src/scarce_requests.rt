@@ -77,7 +77,7 @@ type Row = (
 );
 
 // Requests that one command alone has, some of them refused behind their growths.
-static REQUESTS: [Row; 13] = [
+static REQUESTS: [Row; 14] = [
     (
         Asked::CheckInput,
         &ONE_WORD,
@@ -158,6 +158,13 @@ static REQUESTS: [Row; 13] = [
     ),
     (
         Asked::Probe(VAIN_LOOK),
+        &[],
+        Status::DeviceFailed,
+        "",
+        "ldaodt: cannot connect to 127.0.0.1:1\n",
+    ),
+    (
+        Asked::Test(0o001000, VAIN_LOOK),
         &[],
         Status::DeviceFailed,
         "",

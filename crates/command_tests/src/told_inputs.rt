@@ -1,16 +1,18 @@
-//! Files that are opened to be read, with a list of which were.
+//! Files that are opened to be read, with a list of which were, and what each held.
 ghost use Rattle.std.specs.Prelude.{Some};
 ghost use Rattle.simulated_system.specs.ToldOpenings.{opened_by};
 
 use input_files::InputFiles;
 use simulated_system::ToldOpening;
 use std::alloc::Global;
+use std::collections::VecDeque;
+use std::io::Read;
 use std::process::Abort;
 use std::rt::Files;
 use std::{fs, io};
 
-/// The files of the system, which tell which of them were opened. Where there is no memory for one thing more the process
-/// ends, since a list that lacks one would be wrong.
+/// The files of the system, which tell which of them were opened, and what these hold: each is read when it is opened.
+/// Where there is no memory for one thing more the process ends, since a list that lacks one would be wrong.
 #[derive(Drop)]
 pub(crate) struct ToldInputs<'a, R: Abort + Files> {
     rt: &'a R,
@@ -27,21 +29,37 @@ impl<'a, R: Abort + Files> ToldInputs<'a, R> {
             opened: Vec::new(alloc),
         }
     }
+    // What the file of a name holds.
+    fn text_of(&self, name: &str) -> io::Result<Vec<u8>> {
+        let mut text = Vec::new(self.alloc);
+        let mut file = fs::open(self.rt, name)?;
+        file.read_to_end(&mut text)?;
+        Ok(text)
+    }
 }
 
 impl<'a, R: Abort + Files> InputFiles for ToldInputs<'a, R> {
-    type File = R::File;
+    type File = VecDeque<u8>;
 
     ghost opened = { λ inputs. Some (opened_by inputs.opened.items) };
 
-    fn open_input(&mut self, name: &str) -> io::Result<R::File> {
+    fn open_input(&mut self, name: &str) -> io::Result<VecDeque<u8>> {
         let copy = String::from_str(self.alloc, name).expect(self.rt, "no memory");
-        let opened = fs::open(self.rt, name);
-        let told = match &opened {
-            Ok(_) => ToldOpening::Opened(copy),
-            Err(_) => ToldOpening::NotOpened(copy),
-        };
-        self.opened.push(told).expect(self.rt, "no memory");
-        opened
+        match self.text_of(name) {
+            Ok(text) => {
+                let mut told = Vec::new(self.alloc);
+                told.extend_from_slice(&text).expect(self.rt, "no memory");
+                self.opened
+                    .push(ToldOpening::Opened(copy, told))
+                    .expect(self.rt, "no memory");
+                Ok(VecDeque::from_vec(text))
+            }
+            Err(error) => {
+                self.opened
+                    .push(ToldOpening::NotOpened(copy))
+                    .expect(self.rt, "no memory");
+                Err(error)
+            }
+        }
     }
 }

@@ -37,7 +37,7 @@ struct Row {
     asks_disk: bool,
 }
 
-const ROWS: [Row; 7] = [
+const ROWS: [Row; 8] = [
     Row {
         asked: Asked::CheckInput,
         has_machine: true,
@@ -100,13 +100,23 @@ const ROWS: [Row; 7] = [
         starts: Some(0),
         asks_disk: false,
     },
+    Row {
+        asked: Asked::Test(0o001002, LOOK),
+        has_machine: true,
+        status: Status::Done,
+        opens_tape: false,
+        starts: Some(0),
+        asks_disk: false,
+    },
 ];
 
 // Whether just the tape was opened, or nothing.
 fn is_opened(opened: &[ToldOpening], opens_tape: bool) -> bool {
     match opened {
         [] => !opens_tape,
-        [ToldOpening::Opened(name)] => opens_tape && name.as_str() == TAPE,
+        [ToldOpening::Opened(name, text)] => {
+            opens_tape && name.as_str() == TAPE && text.as_slice() == ONE_WORD.as_slice()
+        }
         _ => false,
     }
 }

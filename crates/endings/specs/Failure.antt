@@ -18,7 +18,7 @@ use Rattle.endings.specs.declared.failure.Failure.TheVariants.{WordsRefused, Rec
 use Rattle.endings.specs.declared.failure.Failure.TheVariants.{RecordStale, TooLarge, Misplaced, BadWord, NoMemory}
 use Rattle.endings.specs.LineReason.{line_failed}
 use Rattle.endings.specs.declared.place.Place.{Place}
-use Rattle.endings.specs.declared.place.Place.TheVariants.{LineOfLoad, LineOfVerify, LineOfSave, LineOfProbe, Tape, Script, Words, Record}
+use Rattle.endings.specs.declared.place.Place.TheVariants.{LineOfLoad, LineOfVerify, LineOfSave, LineOfProbe, LineOfMemory, Tape, Script, Words, Record}
 use Rattle.endings.specs.declared.command_fault.CommandFault.{CommandFault}
 use Rattle.endings.specs.declared.command_fault.CommandFault.TheVariants as fault
 use Rattle.load_record.specs.declared.reader.RecordError.TheVariants as why
@@ -116,6 +116,7 @@ misplaced_end LineOfLoad = codes " is no serial device: load TAPE LINE [MORE]..\
 misplaced_end LineOfVerify = codes " is no serial device: verify TAPE LINE [MORE]..\n"
 misplaced_end LineOfSave = codes " is no serial device: save FILE LINE FROM TO\n"
 misplaced_end LineOfProbe = codes " is no serial device: probe LINE\n"
+misplaced_end LineOfMemory = codes " is no serial device: memory LINE [FROM] [TO]\n"
 misplaced_end Tape = codes " is a terminal, no tape\n"
 misplaced_end Script = codes " is a terminal, no script\n"
 misplaced_end Words = codes " is a terminal, no words\n"

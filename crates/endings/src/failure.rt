@@ -37,7 +37,7 @@ pub enum Failure<'a> {
     /// The console at this HOST:PORT or device can't be reached.
     CannotConnect(&'a str),
 
-    /// The line failed so during a load, a look or a probe, before a start was typed.
+    /// The line failed so during a load, a look, a probe or a test, before a start was typed.
     LineFailed(LineFault),
 
     /// The line failed so once the start was typed or may have been: the program may be running.

@@ -16,6 +16,9 @@ pub enum Place {
     /// The line of `probe`.
     LineOfProbe,
 
+    /// The line of `memory`.
+    LineOfMemory,
+
     /// A tape.
     Tape,
 

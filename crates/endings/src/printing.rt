@@ -126,6 +126,7 @@ fn misplaced_end(place: Place) -> &'static [u8]
         Place::LineOfVerify => b" is no serial device: verify TAPE LINE [MORE]..\n",
         Place::LineOfSave => b" is no serial device: save FILE LINE FROM TO\n",
         Place::LineOfProbe => b" is no serial device: probe LINE\n",
+        Place::LineOfMemory => b" is no serial device: memory LINE [FROM] [TO]\n",
         Place::Tape => b" is a terminal, no tape\n",
         Place::Script => b" is a terminal, no script\n",
         Place::Words => b" is a terminal, no words\n",

@@ -6,7 +6,7 @@ pub enum Status {
     /// The command was done, or help was asked for.
     Done,
 
-    /// Memory differs from what `verify` was given.
+    /// Memory differs from what `verify` was given, or does not hold what is deposited.
     Differs,
 
     /// The command line was refused.

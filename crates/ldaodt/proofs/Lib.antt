@@ -1,1 +1,1 @@
-mod Either
+mod Places

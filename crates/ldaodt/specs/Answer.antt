@@ -15,21 +15,24 @@ use Rattle.endings.specs.declared.status.Status.TheVariants.{BadCommandLine}
 use Rattle.command_line.specs.declared.no_request.NoRequest.{NoRequest}
 use Rattle.command_line.specs.declared.wanted.Wanted.{Wanted}
 use Rattle.command_line.specs.Explanation.{IsExplained}
+use Rattle.command_line.specs.Help.{IsAnswerTo}
 use Rattle.command_line.specs.Wanted.{IsAskedBy}
+use Rattle.ldaodt.specs.Misplaced.{IsAmong, names_at}
 use Rattle.run_log.specs.LogLine.{IsLogged}
 use Rattle.run_log.specs.Report.{Noted}
 
--- nothing was asked of the system, and standard error tells of a name that can't be what its place asks for
-pub record IsMisplaced (before after : Moment) (ended : Status) : Type 0 where
+-- nothing was asked of the system, and standard error tells of a name of the request that can't be what its place asks for
+pub record IsMisplaced (request : Request) (before after : Moment) (ended : Status) : Type 0 where
   pub name : Bor (List ℕ)
   pub place : Place
+  pub own : IsAmong (name, place) (names_at request)
   pub told : IsPrinted before.held.err after.held.err (Misplaced name place)
   pub quiet : after ≡ record before { held = record before.held { err = after.held.err } }
   pub status_is : ended ≡ BadCommandLine
 
 -- a request was attempted, or a name of it is out of place
 abbrev pub IsTried : Request → Moment → Moment → Status → Type 0
-IsTried request before after ended = IsAttempted request (before ⇒ after) ended ⊎ IsMisplaced before after ended
+IsTried request before after ended = IsAttempted request (before ⇒ after) ended ⊎ IsMisplaced request before after ended
 
 -- standard error has the line of a run at a machine that ended so, and nothing else is another than before; of any other run nothing is said
 abbrev pub IsRunLogged : Request → Status → Held → Held → Type 0
@@ -53,8 +56,8 @@ pub record IsDone (words : List (List ℕ)) (before after : Moment) (ended : Sta
   pub tried : IsTried wanted.request before (record { asked = after.asked; held = between }) ended
   pub logged : IsLoggedIf wanted ended between after.held
 
--- what the words ask for was tried; or the words were explained, and nothing was asked of the system
+-- what the words ask for was tried; or the words were explained, by help only where they ask for it, and nothing was asked of the system
 abbrev pub IsAnswered : List (List ℕ) → Moment → Moment → Status → Type 0
 IsAnswered words before after ended =
     IsDone words before after ended
-    ⊎ ((answer : NoRequest) × IsExplained answer before.held after.held ended × (after.asked ≡ before.asked))
+    ⊎ ((answer : NoRequest) × IsAnswerTo words answer × IsExplained answer before.held after.held ended × (after.asked ≡ before.asked))

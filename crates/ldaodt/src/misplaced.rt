@@ -1,10 +1,11 @@
 //! Names that stand in each other's places on the command line, as a tape where the line belongs: what a device
 //! sends would be waited for, and nobody told.
-ghost use Rattle.std.specs.Prelude.{◌≡◌, None, IfSome};
+ghost use Rattle.std.specs.Prelude.{◌≡◌, [], ◌∷◌, None, IfSome};
 ghost use Rattle.request_values.specs.declared.request.Request.{Request};
 ghost use Rattle.request_values.specs.declared.request.PrintRequest.{PrintRequest};
 ghost use Rattle.request_values.specs.declared.request.TapeRequest.{TapeRequest};
-ghost use Rattle.ldaodt.specs.Misplaced.{IsOfPlace};
+ghost use Rattle.endings.specs.declared.place.Place.{Place};
+ghost use Rattle.ldaodt.specs.Misplaced.{IsAmong, IsOfPlace, inputs_at, names_at, record_at, tapes_at};
 
 use console_lines::is_path;
 use endings::{Failure, Place};
@@ -21,7 +22,7 @@ use tape_commands::{InputNames, names_of};
 /// What is not there, or can't be opened, is left to whoever opens it; so is a line that is a character device,
 /// which to open twice may do something.
 pub(crate) fn misplaced<'a>(rt: &HostRuntime, request: &Request<'a>) -> Option<Failure<'a>>
-    ensures misplaced { IfSome result IsOfPlace }
+    ensures misplaced { IfSome result (IsOfPlace (names_at request.now)) }
     ensures checked { request.now ≡ Request.Tape (TapeRequest.Print PrintRequest.CheckInput) → result ≡ None }
 {
     if let Some((line, place)) = line_of(request)
@@ -34,7 +35,9 @@ pub(crate) fn misplaced<'a>(rt: &HostRuntime, request: &Request<'a>) -> Option<F
             terminal_among(rt, tapes).or(terminal_as_record(rt, load.record))
         }
         Request::Machine(MachineRequest::Verify(tapes, _)) => terminal_among(rt, tapes),
-        Request::Machine(MachineRequest::Save(_) | MachineRequest::Probe(_)) => None,
+        Request::Machine(
+            MachineRequest::Save(_) | MachineRequest::Probe(_) | MachineRequest::Memory(_),
+        ) => None,
         Request::Tape(TapeRequest::Make(make)) => terminal_as_words(rt, make.words),
         Request::Tape(TapeRequest::Print(request)) => terminal_as_input(rt, request),
     }
@@ -42,7 +45,8 @@ pub(crate) fn misplaced<'a>(rt: &HostRuntime, request: &Request<'a>) -> Option<F
 
 // The line of a request at a real machine, and whose it is.
 fn line_of<'a>(request: &Request<'a>) -> Option<(&'a str, Place)>
-    ensures { request.now ≡ Request.Tape (TapeRequest.Print PrintRequest.CheckInput) → result ≡ None }
+    ensures own { IfSome result (λ line. IsAmong line (names_at request.now)) }
+    ensures checked { request.now ≡ Request.Tape (TapeRequest.Print PrintRequest.CheckInput) → result ≡ None }
 {
     match request {
         Request::Machine(MachineRequest::Load(_, load)) => Some((load.line, Place::LineOfLoad)),
@@ -51,6 +55,10 @@ fn line_of<'a>(request: &Request<'a>) -> Option<(&'a str, Place)>
         Request::Machine(MachineRequest::Probe(probe)) => Some((
             probe.look.line,
             Place::LineOfProbe,
+        )),
+        Request::Machine(MachineRequest::Memory(test)) => Some((
+            test.look.line,
+            Place::LineOfMemory,
         )),
         Request::Tape(_) => None,
     }
@@ -69,7 +77,7 @@ fn is_no_device(rt: &HostRuntime, line: &str) -> bool {
 
 // The first of some tapes that is a terminal. Standard input may be one.
 fn terminal_among<'a>(rt: &HostRuntime, tapes: &[&'a str]) -> Option<Failure<'a>>
-    ensures { IfSome result IsOfPlace }
+    ensures { IfSome result (IsOfPlace (tapes_at tapes.now)) }
 {
     if is_input(tapes) {
         return None;
@@ -84,7 +92,7 @@ fn terminal_among<'a>(rt: &HostRuntime, tapes: &[&'a str]) -> Option<Failure<'a>
 
 // The first name of a request that only prints which is a terminal's.
 fn terminal_as_input<'a>(rt: &HostRuntime, request: &PrintRequest<'a>) -> Option<Failure<'a>>
-    ensures misplaced { IfSome result IsOfPlace }
+    ensures misplaced { IfSome result (IsOfPlace (inputs_at request.now)) }
     ensures checked { request.now ≡ PrintRequest.CheckInput → result ≡ None }
 {
     match names_of(request) {
@@ -100,7 +108,7 @@ fn terminal_as_input<'a>(rt: &HostRuntime, request: &PrintRequest<'a>) -> Option
 
 // That octal words have a terminal's name. Standard input may be one.
 fn terminal_as_words<'a>(rt: &HostRuntime, words: &'a str) -> Option<Failure<'a>>
-    ensures { IfSome result IsOfPlace }
+    ensures { IfSome result (IsOfPlace ((words.entry, Place.Words) ∷ [])) }
 {
     if is_input(&[words]) {
         return None;
@@ -110,7 +118,7 @@ fn terminal_as_words<'a>(rt: &HostRuntime, words: &'a str) -> Option<Failure<'a>
 
 // That a record, where there is to be one, has a terminal's name.
 fn terminal_as_record<'a>(rt: &HostRuntime, record: Option<&'a str>) -> Option<Failure<'a>>
-    ensures { IfSome result IsOfPlace }
+    ensures { IfSome result (IsOfPlace (record_at record.entry)) }
 {
     match record {
         Some(name) => terminal(rt, name, Place::Record),
@@ -120,7 +128,7 @@ fn terminal_as_record<'a>(rt: &HostRuntime, record: Option<&'a str>) -> Option<F
 
 // That a name is a terminal, where it is one. Only a character device is opened: to open a pipe does something.
 fn terminal<'a>(rt: &HostRuntime, name: &'a str, place: Place) -> Option<Failure<'a>>
-    ensures { IfSome result IsOfPlace }
+    ensures { IfSome result (IsOfPlace ((name.entry, place) ∷ [])) }
 {
     let metadata = fs::metadata(rt, name).ok()?;
     if !metadata.file_type().is_char_device() {

@@ -6,6 +6,7 @@ use Rattle.host_devices.specs.Failures.{one_more_in_32}
 use Rattle.host_devices.specs.declared.onlooker.Sight.{Sight}
 use Rattle.progress_display.specs.Pace.{seconds_left}
 use Rattle.progress_display.specs.declared.showing.Showing.{Showing}
+use Rattle.progress_display.specs.declared.showing.TestedWord.{TestedWord}
 use Rattle.progress_display.specs.declared.headway.Mark.{Mark}
 use Rattle.progress_display.specs.declared.headway.Headway.{Headway}
 use Rattle.progress_display.specs.declared.headway.Means.{Means}
@@ -21,6 +22,7 @@ beginning done words time = record {
   words = words;
   done_at_first = done;
   done = done;
+  word = None;
   means = ByKeys;
   done_before = done;
   has_sent = false;
@@ -59,10 +61,19 @@ means_behind StubTyped None = ByStub
 means_behind ByStub None = ByStub
 means_behind ByKeys None = ByKeys
 
+-- a word is about to be tested
+abbrev pub testing : Headway → TestedWord → Headway
+testing headway word = record headway { word = Some word }
+
+-- the word that is tested behind a step: none any more, once the step counts another word as done
+abbrev pub word_behind : Headway → Sight → Option TestedWord
+word_behind headway sight = if sight.done == headway.done then headway.word else None
+
 -- the host has taken a step: words and mishaps are its own
 abbrev pub after_sight : Headway → Sight → Headway
 after_sight headway sight = record (with_means headway (means_behind headway.means sight.key)) {
   done = sight.done;
+  word = word_behind headway sight;
   has_sent = headway.has_sent || is_some sight.key;
   mishaps = sight.spent;
   heard = heard_behind headway.heard sight.heard sight.key;
@@ -102,6 +113,7 @@ measured_anew headway now =
 -- what is shown at a time
 abbrev pub showing_of : Headway → Option ℕ → Showing
 showing_of headway now = record {
+  word = headway.word;
   done = headway.done;
   words = headway.words;
   is_listening = is_listening headway;

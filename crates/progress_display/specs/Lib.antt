@@ -1,3 +1,4 @@
 pub mod Headway
+pub mod LastWord
 pub mod Pace
 pub mod ProgressText

@@ -1,7 +1,9 @@
 -- What the progress line says (this project's own).
 use Rattle.std.specs.Prelude.{ℕ, ◌/◌, ◌%◌, ◌==◌, nat_lt, Bool, true, false, if◌then◌else◌, List, [], ◌∷◌, ◌++◌, codes, decimal, Option, Some, None}
+use Rattle.octal.specs.Octal.{octal_text}
 use Rattle.progress_display.specs.Pace.{percent_of}
 use Rattle.progress_display.specs.declared.showing.Showing.{Showing}
+use Rattle.progress_display.specs.declared.showing.TestedWord.{TestedWord}
 use Rattle.progress_display.specs.declared.showing.Forecast.{Forecast}
 use Rattle.progress_display.specs.declared.showing.GoingOn.{GoingOn}
 use Rattle.progress_display.specs.declared.showing.KeptIn.{KeptIn}
@@ -39,11 +41,20 @@ abbrev pub left_text : Option ℕ → List ℕ
 left_text None = []
 left_text (Some seconds) = codes ", " ++ time_text seconds ++ codes " left"
 
--- how far it is
-abbrev pub showing_text : Showing → List ℕ
-showing_text showing =
+-- how far it is, without the word that is tested
+abbrev pub counts_text : Showing → List ℕ
+counts_text showing =
     decimal showing.done ++ codes " of " ++ decimal showing.words ++ codes " words" ++ part_text showing.done showing.words
     ++ doing_text showing.is_listening showing.is_stub ++ mishaps_text showing.mishaps ++ left_text showing.seconds_left
+
+-- the word that is tested, and what it held, where one is
+abbrev pub testing_text : Option TestedWord → List ℕ
+testing_text None = []
+testing_text (Some word) = codes "testing " ++ octal_text word.address ++ codes ", it held " ++ octal_text word.held ++ codes ": "
+
+-- how far it is: the word first, so that a narrow terminal does not cut it
+abbrev pub showing_text : Showing → List ℕ
+showing_text showing = testing_text showing.word ++ counts_text showing
 
 -- what is to be done where memory has not kept what was done before
 abbrev pub remedy_text : KeptIn → List ℕ

@@ -1,10 +1,10 @@
 //! What is known of how far it is.
 ghost use Rattle.std.specs.Prelude.{◌≡◌, ◌≢◌, ◌⊎◌, ◌↔◌, IsTrue};
 ghost use Rattle.progress_display.specs.Headway.{after_sight, after_stub, beginning, heard_behind, is_listening, means_behind, measured_anew, showing_of};
-ghost use Rattle.progress_display.specs.Headway.{time_between, with_means};
+ghost use Rattle.progress_display.specs.Headway.{testing, time_between, with_means, word_behind};
 
 use crate::pace::time_left;
-use crate::showing::Showing;
+use crate::showing::{Showing, TestedWord};
 use host_core::Heard;
 use host_devices::Sight;
 
@@ -52,6 +52,9 @@ pub(crate) struct Headway {
     /// How many are done.
     pub(crate) done: u32,
 
+    /// The word that is tested, where one is.
+    pub(crate) word: Option<TestedWord>,
+
     /// How they come into memory.
     pub(crate) means: Means,
 
@@ -84,6 +87,7 @@ impl Headway {
             words,
             done_at_first: done,
             done,
+            word: None,
             means: Means::ByKeys,
             done_before: done,
             has_sent: false,
@@ -91,6 +95,27 @@ impl Headway {
             heard: 0,
             from: mark,
             next: mark,
+        }
+    }
+
+    /// What is known once a word is about to be tested.
+    pub(crate) fn testing(self, word: TestedWord) -> Headway
+        ensures { result ≡ testing self word }
+    {
+        Headway {
+            word: Some(word),
+            ..self
+        }
+    }
+
+    // The word that is tested behind a step: none any more, once that counts another word as done.
+    fn word_behind(self, sight: Sight) -> Option<TestedWord>
+        ensures { result ≡ word_behind self sight }
+    {
+        if sight.done == self.done {
+            self.word
+        } else {
+            None
         }
     }
 
@@ -122,6 +147,7 @@ impl Headway {
         let earlier = self.with_means(means_behind(self.means, sight.key));
         Headway {
             done: sight.done,
+            word: earlier.word_behind(sight),
             has_sent: earlier.has_sent || sight.key.is_some(),
             mishaps: sight.spent,
             heard: heard_behind(earlier.heard, sight),
@@ -188,6 +214,7 @@ impl Headway {
         let done = self.done.saturating_sub(self.from.done);
         let left = self.words.saturating_sub(self.done);
         Showing {
+            word: self.word,
             done: self.done,
             words: self.words,
             is_listening: self.is_listening(),

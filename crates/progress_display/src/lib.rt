@@ -1,17 +1,19 @@
-//! The line on a terminal that shows how far a load or a reading of memory is.
+//! The line on a terminal that shows how far a load, or a reading or a test of memory is.
 //!
 //! A `ProgressLine` is an `Onlooker`, whom the engine tells of each step. What it shows is promised to be
 //! a function of what the host has come to and of the time: a `Showing`, and at first, where a load goes on,
-//! what is verified already.
+//! what is verified already. Of a test it names the word that holds another number for a while.
 //!
 //! The commands that take their time are shown so: `requests` gives one to `machine_load` and
 //! `machine_look`.
 #![tactic(auto)]
 
 mod headway;
+mod last_word;
 mod pace;
 mod progress_line;
 mod showing;
 
+pub use last_word::LastWord;
 pub use progress_line::ProgressLine;
-pub use showing::{KeptIn, Showing};
+pub use showing::{KeptIn, Showing, TestedWord};

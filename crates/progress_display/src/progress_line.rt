@@ -3,8 +3,9 @@ ghost use Rattle.std.specs.Prelude.{◌≡◌, IfSome};
 ghost use Rattle.progress_display.specs.ProgressText.{above_line, forecast_text, going_on_text, on_line, showing_text};
 
 use crate::headway::Headway;
+use crate::last_word::{LastWord, NOTHING_SAID};
 use crate::pace::is_due;
-use crate::showing::{Forecast, GoingOn, KeptIn, Showing};
+use crate::showing::{Forecast, GoingOn, KeptIn, Showing, TestedWord};
 use arrayvec::ArrayString;
 use host_devices::{Onlooker, Sight};
 use std::cell::Cell;
@@ -19,7 +20,7 @@ const CLEARED: &str = "\r\x1b[K";
 const LONG: u64 = 2;
 
 // Room for the longest line.
-type LineText = ArrayString<128>;
+type LineText = ArrayString<160>;
 
 /// Shows, while a load or a reading goes on, how many words are done of all, the mishaps, and the time
 /// left at the pace so far: one line, at most ten times a second. A terminal that has fewer columns cuts
@@ -30,6 +31,7 @@ pub struct ProgressLine<'a, C: Clock, E: Print> {
     clock: &'a C,
     terminal: &'a E,
     headway: Cell<Headway>,
+    last_word: Cell<LastWord>,
 
     // When it was last shown, in milliseconds of the clock, where it was.
     shown: Cell<Option<u64>>,
@@ -47,10 +49,25 @@ impl<'a, C: Clock, E: Print> ProgressLine<'a, C, E> {
             clock,
             terminal,
             headway: Cell::new(Headway::new(0, 0, None)),
+            last_word: Cell::new(NOTHING_SAID),
             shown: Cell::new(None),
             kept_in,
             is_forecast_due: Cell::new(true),
         }
+    }
+
+    /// Shows which word is tested, and what it held, however lately something was shown: whoever breaks the test
+    /// off while that word holds another number needs both.
+    pub fn tests(&self, word: TestedWord) {
+        let now = self.now();
+        let headway = self.headway.get().testing(word);
+        self.headway.set(headway);
+        self.put(showing_line(headway.showing(now)), now);
+    }
+
+    /// What was typed into a word last, and what was read of one.
+    pub fn last_word(&self) -> LastWord {
+        self.last_word.get()
     }
 
     /// How many words were done when it began.
@@ -135,6 +152,7 @@ impl<C: Clock, E: Print> Onlooker for ProgressLine<'_, C, E> {
     }
 
     fn sees(&self, sight: Sight) {
+        self.last_word.set(self.last_word.get().seeing(sight));
         let earlier = self.headway.get();
         let headway = earlier.seeing(sight);
         if headway.is_news(earlier) {

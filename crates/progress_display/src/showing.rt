@@ -1,11 +1,26 @@
 //! The texts of the progress line.
 
 use crate::pace::percent;
+use octal::Octal;
 use std::fmt;
 
-/// How far it is, as it is shown: `12 of 28 words, 42%, 1 mishap, 0:31 left`.
+/// A word of memory that is tested: for a while it holds another number than it did.
+#[derive(Clone, Copy, Debug, PartialEq, Eq)]
+pub struct TestedWord {
+    /// Its address.
+    pub address: u16,
+
+    /// What it held before.
+    pub held: u16,
+}
+
+/// How far it is, as it is shown: `12 of 28 words, 42%, 1 mishap, 0:31 left`, and before that the word that is
+/// tested, which a narrow terminal must not cut: `testing 001000, it held 000123: `.
 #[derive(Clone, Copy, Debug, PartialEq, Eq)]
 pub struct Showing {
+    /// The word that is tested, where one is.
+    pub word: Option<TestedWord>,
+
     /// How many words are done.
     pub done: u32,
 
@@ -32,13 +47,30 @@ impl fmt::Display for Showing {
     ghost output = { λ showing. Some (showing_text showing) };
 
     fn fmt<W: fmt::Write>(&self, f: &mut fmt::Formatter<W>) -> fmt::Result {
-        let (done, words) = (self.done, self.words);
+        let (testing, counts) = (Testing(self.word), Counts(*self));
+        write!(f, "{testing}{counts}")
+    }
+}
+
+// How far it is, without the word that is tested.
+#[derive(Clone, Copy)]
+struct Counts(Showing);
+
+impl fmt::Display for Counts {
+    ghost use Rattle.std.specs.Prelude.{Some};
+    ghost use Rattle.progress_display.specs.ProgressText.{counts_text};
+
+    ghost output = { λ counts. Some (counts_text counts.0) };
+
+    fn fmt<W: fmt::Write>(&self, f: &mut fmt::Formatter<W>) -> fmt::Result {
+        let showing = self.0;
+        let (done, words) = (showing.done, showing.words);
         let percent = Percent { done, words };
         let doing = Doing {
-            is_listening: self.is_listening,
-            is_stub: self.is_stub,
+            is_listening: showing.is_listening,
+            is_stub: showing.is_stub,
         };
-        let (mishaps, left) = (Mishaps(self.mishaps), Left(self.seconds_left));
+        let (mishaps, left) = (Mishaps(showing.mishaps), Left(showing.seconds_left));
         write!(f, "{done} of {words} words{percent}{doing}{mishaps}{left}")
     }
 }
@@ -130,6 +162,27 @@ impl fmt::Display for Forecast {
             )
         } else {
             write!(f, "some {minutes} minutes at this pace")
+        }
+    }
+}
+
+// The word that is tested, where one is.
+#[derive(Clone, Copy)]
+struct Testing(Option<TestedWord>);
+
+impl fmt::Display for Testing {
+    ghost use Rattle.std.specs.Prelude.{Some};
+    ghost use Rattle.progress_display.specs.ProgressText.{testing_text};
+
+    ghost output = { λ testing. Some (testing_text testing.0) };
+
+    fn fmt<W: fmt::Write>(&self, f: &mut fmt::Formatter<W>) -> fmt::Result {
+        match self.0 {
+            Some(word) => {
+                let (address, held) = (Octal(word.address), Octal(word.held));
+                write!(f, "testing {address}, it held {held}: ")
+            }
+            None => Ok(()),
         }
     }
 }

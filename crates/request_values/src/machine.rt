@@ -1,4 +1,5 @@
 //! What may be asked of a real machine.
+ghost use Rattle.std.specs.Prelude.{◌≤◌};
 ghost use Rattle.reading_core.specs.Addresses.{IsAddress};
 
 use crate::options::LoadOptions;
@@ -65,4 +66,18 @@ pub struct Probe<'a> {
     /// How the machine is looked at.
     pub look: Look<'a>,
     ghost in_memory: { IsAddress address },
+}
+
+/// A test of a real machine's memory.
+#[derive(Clone, Copy, Debug, PartialEq, Eq)]
+pub struct MemoryTest<'a> {
+    /// The words of which some are tested.
+    pub range: AddressRange,
+
+    /// Of how many words one is tested: 1 is every word.
+    pub every: u16,
+
+    /// How the machine is looked at.
+    pub look: Look<'a>,
+    ghost some: { 1 ≤ every },
 }

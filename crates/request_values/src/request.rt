@@ -1,4 +1,4 @@
-use crate::machine::{Load, Look, Probe, Save};
+use crate::machine::{Load, Look, MemoryTest, Probe, Save};
 use crate::options::CheckOptions;
 use odt_machine::Style;
 use tape_image::Start;
@@ -74,6 +74,9 @@ pub enum MachineRequest<'a> {
 
     /// Find out what stands at the other end of a line, and whether it may be trusted.
     Probe(Probe<'a>),
+
+    /// Test memory: every word that is tested is turned over and put back.
+    Memory(MemoryTest<'a>),
 }
 
 /// A tape that is made of octal words.

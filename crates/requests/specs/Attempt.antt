@@ -11,13 +11,14 @@ use Rattle.requests.specs.Probing.{IsConsoleProbed, IsConsoleUnprobed}
 use Rattle.requests.specs.Saving.{AreWordsSaved, AreWordsUnsaved}
 use Rattle.requests.specs.Making.{AreWordsMade, AreWordsUnmade}
 use Rattle.requests.specs.Moment.{AsksNobody, Moment, intake_at}
+use Rattle.requests.specs.Testing.{AreWordsTested, AreWordsUntested}
 use Rattle.requests.specs.Verifying.{AreVerified, AreUnverified}
 use Rattle.request_values.specs.Change.{Change, ◌⇒◌}
 use Rattle.request_values.specs.declared.request.Request.{Request}
 use Rattle.request_values.specs.Request.{only_prints}
 use Rattle.request_values.specs.declared.request.Request.TheVariants.{Tape, Machine}
 use Rattle.request_values.specs.declared.request.TapeRequest.TheVariants.{Print, Make}
-use Rattle.request_values.specs.declared.request.MachineRequest.TheVariants.{Load, Verify, Save, Probe}
+use Rattle.request_values.specs.declared.request.MachineRequest.TheVariants.{Load, Verify, Save, Probe, Memory}
 use Rattle.tape_commands.specs.Printing.{IsPrinted, IsUnprinted}
 
 -- a request was done, and the program ends so
@@ -26,6 +27,7 @@ IsDone (Machine (Load names load)) moments status = AreLoaded names.items load m
 IsDone (Machine (Verify names look)) moments status = AreVerified names.items look moments status
 IsDone (Machine (Save save)) moments status = AreWordsSaved save moments status
 IsDone (Machine (Probe request)) moments status = IsConsoleProbed request moments status
+IsDone (Machine (Memory request)) moments status = AreWordsTested request moments status
 IsDone (Tape (Make make)) moments status = AreWordsMade make moments status
 IsDone (Tape (Print request)) moments status = IsPrinted request (intake_at moments.before) (intake_at moments.after) status × AsksNobody moments
 
@@ -35,6 +37,7 @@ IsFailed (Machine (Load names load)) moments failure = AreUnloaded names.items l
 IsFailed (Machine (Verify names look)) moments failure = AreUnverified names.items look moments failure
 IsFailed (Machine (Save save)) moments failure = AreWordsUnsaved save moments failure
 IsFailed (Machine (Probe request)) moments failure = IsConsoleUnprobed request moments failure
+IsFailed (Machine (Memory request)) moments failure = AreWordsUntested request moments failure
 IsFailed (Tape (Make make)) moments failure = AreWordsUnmade make moments failure
 IsFailed (Tape (Print request)) moments failure = IsUnprinted request (intake_at moments.before) (intake_at moments.after) failure × AsksNobody moments
 

@@ -1,4 +1,4 @@
--- What a load, a look or a probe of a real machine comes to: the exit status, or the failure that names what was at fault.
+-- What a load, a look, a probe or a test of a real machine comes to: the exit status, or the failure that names what was at fault.
 use Rattle.std.specs.Prelude.{◌≡◌, ℕ, Bool, if◌then◌else◌, List, Result, Ok, Err}
 use Rattle.host_devices.specs.declared.fault.LineFault.{LineFault}
 use Rattle.load_engine.specs.Driving.{LoadStop as Stop}
@@ -11,6 +11,9 @@ use Rattle.machine_look.specs.declared.save_end.SaveEnd.{SaveEnd}
 use Rattle.machine_look.specs.declared.save_end.SaveEnd.TheVariants as save
 use Rattle.machine_look.specs.declared.verify_end.VerifyEnd.{VerifyEnd}
 use Rattle.machine_look.specs.declared.verify_end.VerifyEnd.TheVariants as verify
+use Rattle.machine_memory.specs.declared.memory_end.MemoryEnd.{MemoryEnd}
+use Rattle.machine_memory.specs.declared.memory_end.MemoryEnd.TheVariants as memory
+use Rattle.machine_memory.specs.declared.memory_fault.MemoryFault.TheVariants as memory_fault
 use Rattle.machine_probe.specs.declared.probe_fault.ProbeFault.TheVariants as probe_fault
 use Rattle.probe_report.specs.declared.probe_end.ProbeEnd.{ProbeEnd}
 use Rattle.probe_report.specs.declared.probe_end.ProbeEnd.TheVariants as probe
@@ -21,7 +24,7 @@ use Rattle.endings.specs.declared.failure.Failure.TheVariants.{CannotConnect, Li
 use Rattle.endings.specs.declared.status.Status.{Status}
 use Rattle.endings.specs.declared.status.Status.TheVariants.{Done, Differs, NotLoaded}
 use Rattle.requests.specs.declared.request_fault.RequestFault.{RequestFault}
-use Rattle.requests.specs.declared.request_fault.RequestFault.TheVariants.{Load, Look, Probe, Shelf}
+use Rattle.requests.specs.declared.request_fault.RequestFault.TheVariants.{Load, Look, Probe, Test, Shelf}
 use Rattle.tape_shelf.specs.declared.shelf.ShelfFault.TheVariants as shelf
 use Rattle.input_files.specs.Opening.{Name}
 use Rattle.endings.specs.Failure.{NamesFile}
@@ -48,12 +51,15 @@ IsFailureOf (Shelf shelf.Write) console file failure = Names CannotWriteFile fil
 IsFailureOf (Load load.Connect) console file failure = Names CannotConnect console failure
 IsFailureOf (Look look.Connect) console file failure = Names CannotConnect console failure
 IsFailureOf (Probe probe_fault.Connect) console file failure = Names CannotConnect console failure
+IsFailureOf (Test memory_fault.Connect) console file failure = Names CannotConnect console failure
 IsFailureOf (Load load.WriteOutput) console file failure = failure ≡ CannotWrite
 IsFailureOf (Look look.WriteOutput) console file failure = failure ≡ CannotWrite
 IsFailureOf (Probe probe_fault.WriteOutput) console file failure = failure ≡ CannotWrite
+IsFailureOf (Test memory_fault.WriteOutput) console file failure = failure ≡ CannotWrite
 IsFailureOf (Load load.Memory) console file failure = failure ≡ NoMemory
 IsFailureOf (Look look.Memory) console file failure = failure ≡ NoMemory
 IsFailureOf (Probe probe_fault.Memory) console file failure = failure ≡ NoMemory
+IsFailureOf (Test memory_fault.Memory) console file failure = failure ≡ NoMemory
 IsFailureOf (Shelf shelf.Memory) console file failure = failure ≡ NoMemory
 
 -- how a load fails whose line did: once the start was typed, or may have been, it says so
@@ -116,3 +122,12 @@ after_probe probe.GaveUp = Ok NotLoaded
 after_probe (probe.NoWord address) = Ok NotLoaded
 after_probe probe.TurnsOver = Ok NotLoaded
 after_probe (probe.LineFailed fault) = Err (LineFailed fault)
+
+-- how the program ends after a test of memory that ended so: where its line failed, that is a failure and no ending
+abbrev pub after_test : MemoryEnd → Result Status Failure
+after_test (memory.Tested all_hold) = Ok (if all_hold then Done else Differs)
+after_test memory.NotTrusted = Ok NotLoaded
+after_test (memory.NoWord address) = Ok NotLoaded
+after_test memory.GaveUp = Ok NotLoaded
+after_test memory.TurnsOver = Ok NotLoaded
+after_test (memory.LineFailed fault) = Err (LineFailed fault)

@@ -9,4 +9,5 @@ pub mod Moment
 pub mod Planning
 pub mod Probing
 pub mod Saving
+pub mod Testing
 pub mod Verifying

@@ -3,14 +3,17 @@
 use host_core::End;
 use host_devices::Line;
 use load_engine::Stop;
-use machine_load::{LoadEnd, Outcome, StubStop, Stubs};
+use machine_load::{LoadEnd, Outcome, StubStop, Stubs, StubsEnd};
 use octal::Octal;
-use progress_display::{KeptIn, ProgressLine};
+use progress_display::{KeptIn, LastWord, ProgressLine};
 use request_values::Load;
 use std::alloc::Global;
 use std::fmt;
 use std::io::Print;
 use std::time::Clock;
+
+/// What helps where no word was done, for want of answers.
+pub(crate) const ASK_PROBE: &str = "'ldaodt probe LINE' says what is wrong\n";
 
 /// Who looks on: the line on the terminal, where there is one. What is done is kept there.
 pub(crate) fn onlooker<'o, C: Clock, T: Print>(
@@ -60,6 +63,55 @@ pub(crate) fn advise<C: Clock, T: Print, L: Line>(
     if let Some(text) = advice(load, outcome, progress.done()) {
         progress.say(text);
     }
+    if let LoadEnd::Driven(Stop::Ended(End::WontHold(address))) = outcome.end {
+        say_unheld(alloc, progress, address);
+    }
+}
+
+// Tells which bits of the word at this address do not hold, by what was typed and read there last.
+fn say_unheld<C: Clock, T: Print>(alloc: Global, progress: &ProgressLine<'_, C, T>, address: u16) {
+    let word = progress.last_word();
+    let unheld = Unheld { address, word };
+    if let Ok(text) = format!(in alloc; "{unheld}\n") {
+        progress.say(text.as_str());
+    }
+}
+
+// A word that does not hold what was deposited, as it is told: `001000 was given 123456 and reads 123452: bit 2`, and
+// what shows more.
+#[derive(Clone, Copy)]
+struct Unheld {
+    address: u16,
+    word: LastWord,
+}
+
+impl fmt::Display for Unheld {
+    fn fmt<W: fmt::Write>(&self, f: &mut fmt::Formatter<W>) -> fmt::Result {
+        let (address, given, read) = (
+            Octal(self.address),
+            Octal(self.word.given),
+            Octal(self.word.read),
+        );
+        let bits = Bits(self.word.given ^ self.word.read);
+        write!(f, "{address} was given {given} and reads {read}: {bits}")?;
+        write!(f, "; 'ldaodt memory LINE {address} {address}' shows more")
+    }
+}
+
+// The bits that a number has, from the highest on.
+#[derive(Clone, Copy)]
+struct Bits(u16);
+
+impl fmt::Display for Bits {
+    fn fmt<W: fmt::Write>(&self, f: &mut fmt::Formatter<W>) -> fmt::Result {
+        f.write_str("bit")?;
+        for bit in (0..16u16).rev() {
+            if self.0 >> bit & 1 == 1 {
+                write!(f, " {bit}")?;
+            }
+        }
+        Ok(())
+    }
 }
 
 // Why no stub took words, as it is told.
@@ -69,17 +121,17 @@ struct NoStub(StubStop);
 impl fmt::Display for NoStub {
     fn fmt<W: fmt::Write>(&self, f: &mut fmt::Formatter<W>) -> fmt::Result {
         match self.0 {
-            StubStop::TooFewWords => f.write_str("too few words"),
-            StubStop::NoRoom => f.write_str("no room for the stub in this tape"),
-            StubStop::InVain => f.write_str("three stubs took no word"),
-            StubStop::NotStarted(End::NoWord(address)) => {
-                write!(f, "memory ends at {}", Octal(address))
+            StubStop::Ended(StubsEnd::TooFewWords) => f.write_str("too few words"),
+            StubStop::Ended(StubsEnd::NoRoom) => f.write_str("no room for the stub in this tape"),
+            StubStop::Ended(StubsEnd::InVain) => f.write_str("three stubs took no word"),
+            StubStop::Ended(StubsEnd::NotStarted(End::NoWord(address))) => {
+                write!(f, "word {} did not answer", Octal(address))
             }
-            StubStop::NotStarted(_) => f.write_str("the stub did not start"),
+            StubStop::Ended(StubsEnd::NotStarted(_)) => f.write_str("the stub did not start"),
             StubStop::LineFailed(_) => f.write_str("the line failed"),
             StubStop::KeepFailed(_) => f.write_str("the record failed"),
             StubStop::TurnsOver => f.write_str("the line was never silent"),
-            StubStop::Memory => f.write_str("no memory left"),
+            StubStop::Ended(StubsEnd::Memory) => f.write_str("no memory left"),
         }
     }
 }
@@ -90,9 +142,7 @@ fn advice<L: Line>(load: Load<'_>, outcome: &Outcome<L>, verified: u32) -> Optio
         return None;
     };
     match stop {
-        Stop::Ended(End::GaveUp) if verified == 0 => {
-            Some("'ldaodt probe LINE' says what is wrong\n")
-        }
+        Stop::Ended(End::GaveUp) if verified == 0 => Some(ASK_PROBE),
         Stop::Ended(End::GaveUp) | Stop::LineFailed(_)
             if load.record.is_some() && !outcome.marked => {
             Some("the same line goes on where it was; power lost? add --recheck\n")

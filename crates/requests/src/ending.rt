@@ -1,12 +1,13 @@
-//! What a load, a look or a probe comes to that was reported: the exit status, or the failure that names what was at fault.
+//! What a load, a look, a probe or a test comes to that was reported: the exit status, or the failure that names what was at fault.
 ghost use Rattle.std.specs.Prelude.{◌≡◌, IfOk, IfErr};
 ghost use Rattle.requests.specs.Ending.{IsLoadEndFailure, IsLoadEndStatus, IsSaveEndFailure, IsSaveEndStatus, IsStopFailure, IsStopStatus};
-ghost use Rattle.requests.specs.Ending.{after_probe, after_verify};
+ghost use Rattle.requests.specs.Ending.{after_probe, after_test, after_verify};
 
 use endings::{Failure, Status};
 use load_engine::Stop;
 use machine_load::LoadEnd;
 use machine_look::{SaveEnd, VerifyEnd};
+use machine_memory::MemoryEnd;
 use probe_report::ProbeEnd;
 
 /// The status after a load that ended so and was reported, or the failure that it is where its line or its
@@ -75,5 +76,18 @@ pub(crate) fn after_probe(end: ProbeEnd) -> Result<Status, Failure<'static>>
         | ProbeEnd::NoWord(_)
         | ProbeEnd::TurnsOver => Ok(Status::NotLoaded),
         ProbeEnd::LineFailed(fault) => Err(Failure::LineFailed(fault)),
+    }
+}
+
+/// The status after a test of memory that ended so, or the failure that it is where its line failed.
+pub(crate) fn after_test(end: MemoryEnd) -> Result<Status, Failure<'static>>
+    ensures { result ≡ after_test end }
+{
+    match end {
+        MemoryEnd::Tested(true) => Ok(Status::Done),
+        MemoryEnd::Tested(false) => Ok(Status::Differs),
+        MemoryEnd::NotTrusted | MemoryEnd::NoWord(_) | MemoryEnd::GaveUp | MemoryEnd::TurnsOver =>
+            Ok(Status::NotLoaded),
+        MemoryEnd::LineFailed(fault) => Err(Failure::LineFailed(fault)),
     }
 }

@@ -11,6 +11,7 @@ use crate::making::make_words;
 use crate::probing::probe_console;
 use crate::saving::save_words;
 use crate::system::{Kinds, System};
+use crate::testing::test_words;
 use crate::verifying::verify_tapes;
 use endings::{Failure, FaultOutput, Output, Status, Streams, print_with_reason};
 use request_values::{MachineRequest, Request, TapeRequest};
@@ -65,6 +66,9 @@ pub fn attempt<K: Kinds, R: Read, W: Output, E: FaultOutput, T: Print>(
         Request::Machine(MachineRequest::Probe(probe)) => {
             say_probing(terminal);
             probe_console(system, alloc, *probe, streams)
+        }
+        Request::Machine(MachineRequest::Memory(test)) => {
+            test_words(system, alloc, *test, streams, terminal)
         }
     };
     let status = end(alloc, only_prints, outcome, streams, terminal, witness);

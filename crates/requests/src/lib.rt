@@ -22,6 +22,8 @@ mod probing;
 mod request_fault;
 mod saving;
 mod system;
+mod test_line;
+mod testing;
 mod verifying;
 
 pub use handling::attempt;

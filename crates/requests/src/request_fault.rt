@@ -4,6 +4,7 @@ ghost use Rattle.requests.specs.Ending.{IsFailureOf};
 use endings::Failure;
 use machine_load::LoadFault;
 use machine_look::LookFault;
+use machine_memory::MemoryFault;
 use machine_probe::ProbeFault;
 use tape_shelf::ShelfFault;
 
@@ -17,6 +18,9 @@ pub enum RequestFault {
 
     /// A probe of one.
     Probe(ProbeFault),
+
+    /// A test of its memory.
+    Test(MemoryFault),
 
     /// A tape that was put whole into a new file.
     Shelf(ShelfFault),
@@ -43,13 +47,16 @@ impl RequestFault {
             | RequestFault::Shelf(ShelfFault::Write) => Failure::CannotWriteFile(file),
             RequestFault::Load(LoadFault::Connect)
             | RequestFault::Look(LookFault::Connect)
-            | RequestFault::Probe(ProbeFault::Connect) => Failure::CannotConnect(console),
+            | RequestFault::Probe(ProbeFault::Connect)
+            | RequestFault::Test(MemoryFault::Connect) => Failure::CannotConnect(console),
             RequestFault::Load(LoadFault::WriteOutput)
             | RequestFault::Look(LookFault::WriteOutput)
-            | RequestFault::Probe(ProbeFault::WriteOutput) => Failure::CannotWrite,
+            | RequestFault::Probe(ProbeFault::WriteOutput)
+            | RequestFault::Test(MemoryFault::WriteOutput) => Failure::CannotWrite,
             RequestFault::Load(LoadFault::Memory)
             | RequestFault::Look(LookFault::Memory)
             | RequestFault::Probe(ProbeFault::Memory)
+            | RequestFault::Test(MemoryFault::Memory)
             | RequestFault::Shelf(ShelfFault::Memory) => Failure::NoMemory,
         }
     }

@@ -8,7 +8,7 @@ use Rattle.endings.specs.FaultOutput.{StandardError, IsSaidOnError}
 use Rattle.endings.specs.Status.{status_code}
 use Rattle.endings.specs.declared.status.Status.{Status}
 use Rattle.request_values.specs.declared.request.MachineRequest.{MachineRequest}
-use Rattle.request_values.specs.declared.request.MachineRequest.TheVariants.{Load, Verify, Save, Probe}
+use Rattle.request_values.specs.declared.request.MachineRequest.TheVariants.{Load, Verify, Save, Probe, Memory}
 use Rattle.run_log.specs.Report.{Noted, report_text}
 use Rattle.run_log.specs.TimeText.{IsTimeText}
 
@@ -30,6 +30,7 @@ request_text (Load tapes load) = command_text (codes "load") tapes.items load.li
 request_text (Verify tapes look) = command_text (codes "verify") tapes.items look.line.now
 request_text (Save save) = command_text (codes "save") (save.file ∷ []) save.look.line.now
 request_text (Probe probe) = command_text (codes "probe") [] probe.look.line.now
+request_text (Memory test) = command_text (codes "memory") [] test.look.line.now
 
 -- a run that ended: what was asked for, how the program ends, and what is noted of the report
 pub record RunValue : Type 0 where

@@ -1,5 +1,5 @@
 -- What is noted of a report, and told of it in a log (this project's own).
-use Rattle.std.specs.Prelude.{◌≡◌, ℕ, ◌&&◌, Bool, nat_eq, nat_lt, List, [], ◌++◌, length, take, All, Contains, Option, Some, None, codes}
+use Rattle.std.specs.Prelude.{◌≡◌, ℕ, ◌&&◌, ◌||◌, Bool, nat_eq, nat_lt, List, [], ◌++◌, length, take, All, Contains, Option, Some, None, codes}
 use Rattle.std.specs.List.{find, flat_map, starts_with}
 use Rattle.byte_io.specs.Text.{line, line_end}
 
@@ -17,6 +17,10 @@ most_of_line = 160
 abbrev pub begins : List ℕ → List ℕ → Bool
 begins words text = nat_lt (length text) most_of_line && starts_with nat_eq text words
 
+-- whether a line says what a report counted: keys and words, or the words of memory that were tested
+abbrev pub is_count : List ℕ → Bool
+is_count text = begins (codes "sent ") text || begins (codes "tested ") text
+
 -- there is no end of a line in it
 abbrev pub IsUnbroken : List ℕ → Type 0
 IsUnbroken text = Contains text line_end → ⊥
@@ -29,7 +33,7 @@ pub record IsOfLines (text : List ℕ) (lines : List (List ℕ)) (front : List �
 -- what is noted of a text, whose lines are these: the first that says how a report ended, and the first that says what it counted
 pub record IsNotedOf (lines : List (List ℕ)) (front : List ℕ) (notes : Noted) : Type 0 where
   pub ending : notes.ending ≡ find (begins (codes "end ")) lines
-  pub counts : notes.counts ≡ find (begins (codes "sent ")) lines
+  pub counts : notes.counts ≡ find is_count lines
   pub front_is : notes.front ≡ take most_of_line front
 
 -- what is noted of a text

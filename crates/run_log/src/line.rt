@@ -112,6 +112,7 @@ fn write_request<E: FaultOutput>(
         MachineRequest::Verify(tapes, look) => write_names(err, b"verify", tapes, look.line),
         MachineRequest::Save(save) => write_names(err, b"save", &[save.file], save.look.line),
         MachineRequest::Probe(probe) => write_names(err, b"probe", &[], probe.look.line),
+        MachineRequest::Memory(test) => write_names(err, b"memory", &[], test.look.line),
     }
 }
 

@@ -2,7 +2,7 @@
 ghost use Rattle.std.specs.Prelude.{◌≡◌, ◌≤◌, ◌+◌, ℕ, List, [], ◌∷◌, ◌++◌, Some, codes};
 ghost use Rattle.std.specs.Option.{option_or};
 ghost use Rattle.arrayvec.specs.ArrayVec.{array_vec_len};
-ghost use Rattle.run_log.specs.Report.{IsNoted, begins, report_text};
+ghost use Rattle.run_log.specs.Report.{IsNoted, begins, is_count, report_text};
 
 use arrayvec::ArrayVec;
 use byte_io::push_bytes;
@@ -83,7 +83,7 @@ impl ReportNotes {
         let line = self.front.take();
         if begins(&line, b"end ") {
             keep_first(&mut self.end, line);
-        } else if begins(&line, b"sent ") {
+        } else if is_count(&line) {
             keep_first(&mut self.counts, line);
         }
     }
@@ -118,6 +118,13 @@ fn begins(line: &Line, words: &[u8]) -> bool
     ensures { result ≡ begins words.now line.now.items }
 {
     line.len() < LINE_ROOM && line.starts_with(words)
+}
+
+// Whether a line says what a report counted.
+fn is_count(line: &Line) -> bool
+    ensures { result ≡ is_count line.now.items }
+{
+    begins(line, b"sent ") || begins(line, b"tested ")
 }
 
 // Keeps a line where none is kept.

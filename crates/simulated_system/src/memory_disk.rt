@@ -68,7 +68,7 @@ impl<'a> Disk for MemoryDisk<'a> {
         refused()
     }
 
-    fn rename(&mut self, _from: &str, _to: &str) -> io::Result<()> {
+    fn rename(&mut self, _file: &MemoryFile<'a>, _from: &str, _to: &str) -> io::Result<()> {
         refused()
     }
 

@@ -1,9 +1,10 @@
 //! A file in memory that is only read.
 ghost use Rattle.std.specs.Prelude.{◌≡◌, Some, IsErr};
 
-use std::fs::{Metadata, OpenFile};
+use record_file::{DiskFile, SyncWrite};
+use std::fs::{Metadata, Permissions};
 use std::io;
-use std::io::{ErrorKind, Read, Seek, SeekFrom, Write};
+use std::io::{ErrorKind, Read, Write};
 
 /// An open file with this much of its text left to be read.
 #[derive(Drop)]
@@ -27,14 +28,6 @@ pub(crate) fn refused<T>() -> io::Result<T>
     Err(io::Error::from(ErrorKind::Unsupported))
 }
 
-impl Read for MemoryFile<'_> {
-    ghost remaining = { λ file. Some file.left.now };
-
-    fn read(&mut self, buf: &mut [u8]) -> io::Result<usize> {
-        self.left.read(buf)
-    }
-}
-
 impl Write for MemoryFile<'_> {
     fn write(&mut self, _buf: &[u8]) -> io::Result<usize> {
         refused()
@@ -45,26 +38,32 @@ impl Write for MemoryFile<'_> {
     }
 }
 
-impl Seek for MemoryFile<'_> {
-    fn seek(&mut self, _to: SeekFrom) -> io::Result<u64> {
+impl SyncWrite for MemoryFile<'_> {
+    fn hand_on(&mut self) -> io::Result<()> {
+        refused()
+    }
+
+    fn sync(&mut self) -> io::Result<()> {
         refused()
     }
 }
 
-impl OpenFile for MemoryFile<'_> {
+impl DiskFile for MemoryFile<'_> {
+    ghost unread = { λ file. Some file.left.now };
+
     fn metadata(&self) -> io::Result<Metadata> {
         refused()
     }
 
-    fn set_len(&self, _size: u64) -> io::Result<()> {
+    fn read_next(&mut self, buf: &mut [u8]) -> io::Result<usize> {
+        self.left.read(buf)
+    }
+
+    fn go_back(&mut self) -> io::Result<()> {
         refused()
     }
 
-    fn sync_all(&self) -> io::Result<()> {
-        refused()
-    }
-
-    fn sync_data(&self) -> io::Result<()> {
+    fn set_permissions(&mut self, _permissions: Permissions) -> io::Result<()> {
         refused()
     }
 }

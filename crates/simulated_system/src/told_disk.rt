@@ -118,6 +118,7 @@ impl<'a> ToldDisk<'a> {
             file: self.disk.open(access, name)?,
             name: copy,
             written: Vec::new(self.alloc),
+            on_disk: 0,
         })
     }
 }
@@ -207,13 +208,21 @@ impl Disk for ToldDisk<'_> {
         linked
     }
 
-    fn rename(&mut self, from: &str, to: &str) -> io::Result<()> {
+    fn rename(&mut self, file: &ToldFile, from: &str, to: &str) -> io::Result<()> {
         let renamed = match self.count() {
-            Ok(()) => self.disk.rename(from, to),
+            Ok(()) => self.disk.rename(&file.file, from, to),
             Err(error) => Err(error),
         };
-        match (self.copy(from), self.copy(to)) {
-            (Ok(from), Ok(to)) => self.tell(Ok(ToldRequest::Rename(from, to)), renamed.is_ok()),
+        let on_disk = &file.written[..file.on_disk.min(file.written.len())];
+        match (
+            self.copy(from),
+            self.copy(to),
+            Vec::from_slice(self.alloc, on_disk),
+        ) {
+            (Ok(from), Ok(to), Ok(left)) => self.tell(
+                Ok(ToldRequest::Rename(from, to, left)),
+                renamed.is_ok(),
+            ),
             _ => self.asked = None,
         }
         renamed

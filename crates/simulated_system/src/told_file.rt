@@ -1,22 +1,19 @@
 //! A file that knows under which name it was opened, and what was written to it.
-ghost use Rattle.std.specs.Prelude.{Some};
+ghost use Rattle.std.specs.Prelude.{Some, take};
 
-use std::fs::{File, Metadata, OpenFile, Permissions};
+use record_file::{DiskFile, SyncWrite, SystemFile};
+use std::fs::{File, Metadata, Permissions};
 use std::io;
-use std::io::{Read, Seek, SeekFrom, Write};
+use std::io::Write;
 
-/// A file, with the name under which it was opened and all that was written to it since.
+/// A file, with the name under which it was opened, all that was written to it since, and how many of its bytes
+/// are on the disk.
 #[derive(Drop)]
 pub struct ToldFile {
-    pub(crate) file: File,
+    pub(crate) file: SystemFile<File>,
     pub(crate) name: String,
     pub(crate) written: Vec<u8>,
-}
-
-impl Read for ToldFile {
-    fn read(&mut self, buf: &mut [u8]) -> io::Result<usize> {
-        self.file.read(buf)
-    }
+    pub(crate) on_disk: usize,
 }
 
 impl Write for ToldFile {
@@ -35,30 +32,38 @@ impl Write for ToldFile {
     }
 }
 
-impl Seek for ToldFile {
-    fn seek(&mut self, to: SeekFrom) -> io::Result<u64> {
-        self.file.seek(to)
+impl SyncWrite for ToldFile {
+    ghost handed_on = { λ file. Some file.written.items };
+
+    ghost on_disk = { λ file. Some (take file.on_disk file.written.items) };
+
+    fn hand_on(&mut self) -> io::Result<()> {
+        self.file.hand_on()
+    }
+
+    fn sync(&mut self) -> io::Result<()> {
+        self.file.sync()?;
+        self.on_disk = self.written.len();
+        Ok(())
     }
 }
 
-impl OpenFile for ToldFile {
+impl DiskFile for ToldFile {
+    ghost written = { λ file. Some file.written.items };
+
     fn metadata(&self) -> io::Result<Metadata> {
         self.file.metadata()
     }
 
-    fn set_len(&self, size: u64) -> io::Result<()> {
-        self.file.set_len(size)
+    fn read_next(&mut self, buf: &mut [u8]) -> io::Result<usize> {
+        self.file.read_next(buf)
     }
 
-    fn sync_all(&self) -> io::Result<()> {
-        self.file.sync_all()
+    fn go_back(&mut self) -> io::Result<()> {
+        self.file.go_back()
     }
 
-    fn sync_data(&self) -> io::Result<()> {
-        self.file.sync_data()
-    }
-
-    fn set_permissions(&self, permissions: Permissions) -> io::Result<()> {
+    fn set_permissions(&mut self, permissions: Permissions) -> io::Result<()> {
         self.file.set_permissions(permissions)
     }
 }

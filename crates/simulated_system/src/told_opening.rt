@@ -3,8 +3,8 @@
 /// That a file was opened by its name, or was not.
 #[derive(PartialEq, Drop)]
 pub enum ToldOpening {
-    /// It was.
-    Opened(String),
+    /// It was, and holds this.
+    Opened(String, Vec<u8>),
 
     /// It was to be.
     NotOpened(String),

@@ -31,8 +31,8 @@ pub enum ToldRequest {
     /// That a file gets a second name.
     Link(String, String),
 
-    /// That a file gets another name.
-    Rename(String, String),
+    /// That a file, of which this is on the disk, gets another name.
+    Rename(String, String, Vec<u8>),
 
     /// That a name goes.
     Remove(String),
@@ -89,7 +89,7 @@ impl fmt::Display for ToldRequest {
             ToldRequest::Open(access, name) => write!(f, "open {} {name}", access_name(*access)),
             ToldRequest::Hold(name) => write!(f, "hold {name}"),
             ToldRequest::Link(from, to) => write!(f, "link {from} {to}"),
-            ToldRequest::Rename(from, to) => write!(f, "rename {from} {to}"),
+            ToldRequest::Rename(from, to, _) => write!(f, "rename {from} {to}"),
             ToldRequest::Remove(name) => write!(f, "remove {name}"),
             ToldRequest::SyncFolder(name) => write!(f, "sync folder {name}"),
             ToldRequest::Cut(text, _) => write!(f, "cut {}", shown(text)),

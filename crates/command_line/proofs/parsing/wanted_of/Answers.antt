@@ -28,3 +28,8 @@ pub returns-in_ok-probing_of-in-probe : goal.returns-in_ok-probing_of-in-probe
 returns-in_ok-probing_of-in-probe c =
     let is : c.args.command.now ≡ codes "probe" = search rules in
     said_by _ (codes "probe") _ _ is (c.at_machine-in-probe.ensures (codes "probe") c.in_ok-probing_of-in-probe.ensures)
+
+pub returns-in_ok-testing_of-in-memory : goal.returns-in_ok-testing_of-in-memory
+returns-in_ok-testing_of-in-memory c =
+    let is : c.args.command.now ≡ codes "memory" = search rules in
+    said_by _ (codes "memory") _ _ is (c.at_machine-in-memory.ensures (codes "memory") c.in_ok-testing_of-in-memory.ensures)

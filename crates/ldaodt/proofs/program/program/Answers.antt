@@ -8,6 +8,7 @@ use Rattle.endings.specs.declared.status.Status.{Status}
 use Rattle.command_line.specs.declared.wanted.Wanted.{Wanted}
 use Rattle.command_line.specs.Wanted.{unlogged}
 use Rattle.request_values.specs.Change.{◌⇒◌}
+use Rattle.request_values.specs.declared.request.Request.{Request}
 use Rattle.request_values.specs.declared.request.Request.TheVariants.{Tape}
 use Rattle.request_values.specs.declared.request.PrintRequest.TheVariants.{CheckInput}
 use Rattle.request_values.specs.declared.request.TapeRequest.TheVariants.{Print}
@@ -15,7 +16,7 @@ use Rattle.requests.specs.Asked.{SystemAsked}
 use Rattle.requests.specs.Attempt.{IsAttempted}
 use Rattle.requests.specs.Moment.{moment}
 use Rattle.ldaodt.specs.Answer.{IsLoggedIf, IsMisplaced}
-use Rattle.ldaodt.specs.Misplaced.{IsOfPlace}
+use Rattle.ldaodt.specs.Misplaced.{IsOfPlace, names_at}
 use Rattle.ldaodt.proofs.program.program.Goals as goal
 use Rattle.ldaodt.proofs.program.program.Goals.{in-Some, in-None}
 
@@ -28,11 +29,11 @@ checks_input : (wanted : Wanted) → wanted ≡ unlogged (Tape (Print CheckInput
 checks_input wanted is = ap (λ w. w.request) is
 
 -- a name that is out of place was told of
-printed_misplaced : (asked : SystemAsked) (held : Held) (err : StandardError) (failure : Failure) (ended : Status) → IsOfPlace failure → IsPrinted held.err err failure
-    → ended ≡ status_of failure → IsMisplaced (moment asked held) (moment asked (record held { err = err })) ended
-printed_misplaced asked held err (Misplaced name place) ended of_place told is =
-    record { name = name; place = place; told = told; quiet = refl; status_is = is }
-printed_misplaced asked held err _ ended of_place told is = absurd of_place
+printed_misplaced : (request : Request) (asked : SystemAsked) (held : Held) (err : StandardError) (failure : Failure) (ended : Status) → IsOfPlace (names_at request) failure
+    → IsPrinted held.err err failure → ended ≡ status_of failure → IsMisplaced request (moment asked held) (moment asked (record held { err = err })) ended
+printed_misplaced request asked held err (Misplaced name place) ended of_place told is =
+    record { name = name; place = place; own = of_place; told = told; quiet = refl; status_is = is }
+printed_misplaced request asked held err _ ended of_place told is = absurd of_place
 
 pub returns-after-misplaced-clause-checked : goal.returns-after-misplaced-clause-checked
 returns-after-misplaced-clause-checked g c no_words =
@@ -58,7 +59,7 @@ returns-after-misplaced-clause-answered g c = (
     between = c.match-misplaced.streams;
     tried = elim c.match-misplaced.branch [
       | in-Some w ↦ rw (w.system-is, w.streams-is, ← w.streams.view_is)
-          (inr (printed_misplaced _ _ _ w.in-Some.failure w.print_failure.result w.in-Some.ensures.misplaced w.print_failure.ensures.printed w.print_failure.ensures.status))
+          (inr (printed_misplaced c.in-Ok.wanted.request _ _ _ w.in-Some.failure w.print_failure.result w.in-Some.ensures.misplaced w.print_failure.ensures.printed w.print_failure.ensures.status))
       | in-None w ↦ rw (w.system-is, w.streams-is) (inl w.attempt.ensures)
     ];
     logged = c.log_if_wanted.ensures;

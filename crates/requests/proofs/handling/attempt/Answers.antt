@@ -10,7 +10,7 @@ use Rattle.requests.specs.Verifying.{AreUnverified}
 use Rattle.requests.specs.Moment.{moment}
 use Rattle.requests.proofs.Attempted.{came_to, told}
 use Rattle.requests.proofs.handling.attempt.Goals as goal
-use Rattle.requests.proofs.handling.attempt.Goals.{in-Tape-Print, in-Tape-Make, in-Machine-Load, in-Machine-Verify, in-Machine-Save, in-Machine-Probe}
+use Rattle.requests.proofs.handling.attempt.Goals.{in-Tape-Print, in-Tape-Make, in-Machine-Load, in-Machine-Verify, in-Machine-Save, in-Machine-Probe, in-Machine-Memory}
 
 pub returns : goal.returns
 returns g c =
@@ -69,6 +69,11 @@ returns g c =
         ok = search rules;
         err = search rules;
         quiet = w.probe_console.ensures.quiet;
+      })
+      | in-Machine-Memory w ↦ came_to _ before _ w.test_words.result _ w.test_words.new.streams w.system-is w.streams-is (record {
+        ok = search rules;
+        err = search rules;
+        quiet = w.test_words.ensures.quiet;
       })
     ])
     c.end-status.ensures

@@ -3,7 +3,7 @@ use Rattle.console_lines.specs.Path.{call_to}
 use Rattle.endings.specs.Held.{Held}
 use Rattle.input_files.specs.Intake.{intake}
 use Rattle.machine_load.specs.RecordDisk.{RecordDisk}
-use Rattle.record_file.specs.Taking.{kind_of}
+use Rattle.record_file.specs.Known.{known_of}
 use Rattle.request_values.specs.Change.{◌⇒◌}
 use Rattle.requests.specs.Asked.{asked_of}
 use Rattle.requests.specs.Loading.{IsLoadFailure, IsLoadOver, IsRecordLetGo, first_record, planned_load, scene_at}
@@ -23,6 +23,7 @@ returns g c =
     let asked = g.K.Consoles.Consoles.asked in
     let lines = g.K.Consoles.Consoles.lines in
     let disk = g.K.Disk.Disk.asked in
+    let written = g.K.Disk.File.DiskFile.written in
     let names = c.args.names.now in
     let request = c.args.request in
     let plan = c.in-Ok.plan in
@@ -45,11 +46,11 @@ returns g c =
             err = g.E.FaultOutput.said c.streams.inside.err;
           } in
           let after = moment (asked_of opened' (disk w.close.result) (asked back.result) (lines back.result)) held in
-          let planned' : IsPlanned names (intake_at before) (intake_at after) plan = record { opened = planned.opened; is_so = planned.is_so } in
+          let planned' : IsPlanned names (intake_at before) (intake_at after) plan = record { held = planned.held; opened = planned.opened; is_so = planned.is_so } in
           let old = w.new-records.result in
           let new = load.new.around.records in
-          let first : RecordDisk = record { asked = disk old.disk; name = old.name.now; known = option_map kind_of old.held } in
-          let last : RecordDisk = record { asked = disk new.disk; name = new.name.now; known = option_map kind_of new.held } in
+          let first : RecordDisk = record { asked = disk old.disk; name = old.name.now; known = option_map (known_of written) old.held } in
+          let last : RecordDisk = record { asked = disk new.disk; name = new.name.now; known = option_map (known_of written) new.held } in
           let made = w.new-records.ensures in
           let is_first = first_is request.record w.in-Some.name before first w.in-Some.is (ap disk made.disk) made.name made.held in
           let let_go = subst (λ file. IsRecordLetGo file (Some last) (before ⇒ after)) (sym w.in-Some.is) w.close.ensures.asked in
@@ -73,7 +74,7 @@ returns g c =
             err = g.E.FaultOutput.said c.streams.inside.err;
           } in
           let after = moment (asked_of opened' (disk inside.disk) (asked back.result) (lines back.result)) held in
-          let planned' : IsPlanned names (intake_at before) (intake_at after) plan = record { opened = planned.opened; is_so = planned.is_so } in
+          let planned' : IsPlanned names (intake_at before) (intake_at after) plan = record { held = planned.held; opened = planned.opened; is_so = planned.is_so } in
           let is_first = subst (λ file. None ≡ first_record file before) (sym w.in-None.is) refl in
           let let_go = subst (λ file. IsRecordLetGo file None (before ⇒ after)) (sym w.in-None.is) refl in
           let way' = load.new.around.console in

@@ -36,7 +36,7 @@ returns g c =
     let said = at_name asked lines held.out c.to-console.ensures.consoles c.to-console.ensures.name c.to-console.ensures.quiet_time
     (ap (λ (h : Held). h.out) c.streams.view_is ∙ c.in-Ok.ensures.same_out) c.back.ensures c.verify-verified.ensures.call in
     let planned = subst (λ (h : Held). IsPlanned names (intake_at before) (intake opened' h) plan) (sym c.streams.view_is) c.in-Ok.ensures.ok in
-    let planned' : IsPlanned names (intake_at before) (intake_at after) plan = record { opened = planned.opened; is_so = planned.is_so } in
+    let planned' : IsPlanned names (intake_at before) (intake_at after) plan = record { held = planned.held; opened = planned.opened; is_so = planned.is_so } in
     let quiet = ap (λ (h : Held). h.err) c.streams.view_is ∙ c.plan_tapes.ensures.quiet in
     rw (← c.system.view_is, c.new-system.ensures) (elim c.match-verified.branch [
       | in-Ok-verified w ↦

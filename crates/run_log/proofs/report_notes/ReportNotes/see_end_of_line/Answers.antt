@@ -9,14 +9,14 @@ returns-then-begins c text noted =
     c.keep_first.ensures (sym c.begins.ensures ∙ c.if-begins.true) c.take-line.ensures.after
     (rw (c.take-line.ensures.value) (subst (IsNoted text) (sym c.self.view_is) noted))
 
-pub returns-then-begins-2 : goal.returns-then-begins-2
-returns-then-begins-2 c text noted =
-    says_counts (λ l. l.items) text c.self.inside.counts c.keep_first-then-begins-2.new.kept c.self.inside.end c.take-line.result _
-    c.keep_first-then-begins-2.ensures (sym c.begins.ensures ∙ c.if-begins.false) (sym c.begins-else-begins.ensures ∙ c.if-begins-2.true) c.take-line.ensures.after
+pub returns-then-is_count : goal.returns-then-is_count
+returns-then-is_count c text noted =
+    says_counts (λ l. l.items) text c.self.inside.counts c.keep_first-then-is_count.new.kept c.self.inside.end c.take-line.result _
+    c.keep_first-then-is_count.ensures (sym c.begins.ensures ∙ c.if-begins.false) (sym c.is_count.ensures ∙ c.if-is_count.true) c.take-line.ensures.after
     (rw (c.take-line.ensures.value) (subst (IsNoted text) (sym c.self.view_is) noted))
 
-pub returns-else-begins-2 : goal.returns-else-begins-2
-returns-else-begins-2 c text noted =
+pub returns-else-is_count : goal.returns-else-is_count
+returns-else-is_count c text noted =
     says_neither text c.take-line.result.items _ _ _
-    (sym c.begins.ensures ∙ c.if-begins.false) (sym c.begins-else-begins.ensures ∙ c.if-begins-2.false) c.take-line.ensures.after
+    (sym c.begins.ensures ∙ c.if-begins.false) (sym c.is_count.ensures ∙ c.if-is_count.false) c.take-line.ensures.after
     (rw (c.take-line.ensures.value) (subst (IsNoted text) (sym c.self.view_is) noted))

@@ -42,6 +42,10 @@ class Machine:
         self.mode, self.number, self.digits, self.open_at = "prompt", 0, 0, None
         self.starts, self.says = [], says
 
+    def has_word(self, address):
+        """Whether memory answers at this address."""
+        return address % 2 == 0 and address // 2 < len(self.words)
+
     def word(self, address):
         return self.words[address // 2]
 
@@ -63,7 +67,7 @@ class Machine:
                 self.words[self.open_at // 2] = self.number
             return self.to_prompt()
         if self.mode == "number" and key == "/":
-            if self.number % 2 or self.number // 2 >= len(self.words):
+            if not self.has_word(self.number):
                 return self.to_prompt("/?")
             self.mode, self.open_at, self.digits = "open", self.number, 0
             return f"/{self.blank}{self.word(self.open_at):0{self.width}o} "
@@ -134,9 +138,9 @@ CONSOLES = {
 }
 
 
-def is_there(*ends):
-    """Whether something can be read at one of these."""
-    return bool(select.select(ends, [], [], 0)[0])
+def is_there(*ends, seconds=0):
+    """Whether something can be read at one of these, now or within so many seconds."""
+    return bool(select.select(ends, [], [], seconds)[0])
 
 
 class Line:

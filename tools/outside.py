@@ -173,18 +173,16 @@ class HeldUp(threading.Thread):
     """A watch that looks at the clock every few milliseconds, and knows for how long this process did not run at most:
     so long an answer of its machines may have been late."""
 
-    PAUSE = 0.005
-
-    def __init__(self):
+    def __init__(self, pause=0.005):
         super().__init__(daemon=True)
-        self.longest, self.is_over = 0.0, False
+        self.pause, self.longest, self.is_over = pause, 0.0, False
 
     def run(self):
         last = time.monotonic()
         while not self.is_over:
-            time.sleep(self.PAUSE)
+            time.sleep(self.pause)
             now = time.monotonic()
-            self.longest, last = max(self.longest, now - last - self.PAUSE), now
+            self.longest, last = max(self.longest, now - last - self.pause), now
 
 
 # ---------------------------------------------------------------- want of memory

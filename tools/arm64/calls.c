@@ -4,6 +4,7 @@
 
 #include <errno.h>
 #include <fcntl.h>
+#include <malloc.h>
 #include <stdio.h>
 #include <string.h>
 #include <unistd.h>
@@ -104,6 +105,11 @@ static void names(void) {
             }
             printf("\n");
         }
+    struct raw_addr found[1];
+    size_t before = mallinfo2().uordblks;
+    for (int i = 0; i < 1000; i++)
+        rattle_lookup_host("127.0.0.1", found, 1);
+    printf("names kept: %d\n", mallinfo2().uordblks > before + 1000);
 }
 
 int main(int argc, char **argv) {

@@ -7,6 +7,7 @@ import re
 from typing import Callable, NamedTuple
 
 from cases import Console
+from chip_cases import Test
 from outside import HELLO, TOP, Answer, bytes_of, line_failed
 
 # What stands in the place of a word where a test names nothing else: the word at 001000, a console's line, and files of the test's.
@@ -21,10 +22,11 @@ class Command(NamedTuple):
     keys: bytes = b""
 
     # Of one at a machine: how a run ends at a console that has 011064 at 001000, as first.lda; and where its report counts keys and
-    # words, how many keys it has typed then, and what it says of so many words.
+    # words, how many keys it has typed then, and what it says of so many words, else its report of a console that answers nothing.
     end: str = ""
     sent: int = 0
     counts: str = ""
+    unanswered: str = ""
 
     def words(self, *tapes, **named):
         """A command line about these tapes, or else first.lda, with the words that are named in small letters."""
@@ -52,7 +54,8 @@ MORE = {
     "load": {"end": "Started", "sent": 16, "counts": "verified {} of 1"},
     "verify": {"end": "Same", "sent": 9, "counts": "looked {} of 1 differ 0"},
     "save": {"end": "Saved", "sent": 9, "counts": "read {} of 1"},
-    "probe": {"end": "Probed"},
+    "probe": {"end": "Probed", "unanswered": 'prompt no\nheard nothing\nhelp: docs/REAL-MACHINE.md, "Nothing answers"\nend NoPrompt\n'},
+    "memory": {"end": "Tested", "unanswered": Test(0o1000, 0o1000, 1).report({}, "GaveUp", 0)},
     "make": {"keys": b"1000/11064\n"},
     "type": {"keys": b"001000/011064\n"},
 }

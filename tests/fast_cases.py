@@ -24,7 +24,7 @@ LEAST_STUB = len(CODE) + 1
 ONE_STRETCH = LEAST_STUB + 2
 
 # With fewer words to be gained no stub is brought in; of so many words one is sounded; so many stubs may verify nothing.
-LEAST_GAIN, SOUNDED, MOST_IN_VAIN = 256, 1024, 3
+LEAST_GAIN, SOUNDED, MOST_IN_VAIN = 256, 4096, 3
 
 # A program that prints a line and halts. It uses no stack and no memory but its own.
 GREETING_TEXT = "IT RUNS\r\n"
@@ -244,7 +244,7 @@ class Model:
         sounded = [self.words[at] for at in between if (at - self.verified) % SOUNDED == SOUNDED - 1 or at == window - 1]
         stub = [Word(place + 2 * number, 0o177777, word) for number, word in enumerate(stub_words(place, stretches))]
         if end := self.visit_all([*sounded, *stub]):
-            return f"memory ends at {end[7:]}" if end.startswith("NoWord") else "the stub did not start"
+            return f"word {end[7:]} did not answer" if end.startswith("NoWord") else "the stub did not start"
         self.says(f"{place:06o}G", 7)
         self.stubs.append(place)
         self.ends_part()

@@ -1,5 +1,6 @@
 """The program for 64-bit ARM: its C functions beside the toolchain's own, what is asserted of the system, the tools that build and try
 it, and the numbers by which a test would follow its calls."""
+import glob
 import os
 import platform
 import re
@@ -9,7 +10,7 @@ import sys
 import unittest
 
 from cases import Case
-from outside import TOP
+from outside import TOP, bytes_of
 import traced
 
 ARM64 = f"{TOP}/tools/arm64"
@@ -25,13 +26,17 @@ def kit():
     return rt and os.path.dirname(os.path.dirname(os.path.realpath(rt)))
 
 
-class Compiled(Case):
-    """Compiles C with all the warnings that the project asks for."""
+class Needing(Case):
+    """A test that wants programs which may not be installed."""
 
     def needs(self, *programs):
         for it in programs:
             if not (kit() if it == "rt" else shutil.which(it)):
                 self.skipTest(f"not installed here: {it}")
+
+
+class Compiled(Needing):
+    """Compiles C with all the warnings that the project asks for."""
 
     def compile(self, compiler, *words):
         ran = subprocess.run([compiler, f"@{ARM64}/warnings", f"-I{ARM64}", *words], cwd=self.room, capture_output=True, text=True)
@@ -49,6 +54,11 @@ class Functions(Compiled):
         """Links the calls with the toolchain's own functions."""
         objects = (f"{kit()}/c/{it}" for it in ("libos_c.a", "liblibc_c.a"))
         self.assertEqual(self.compile(HERE, "-o", "toolchains", f"{ARM64}/calls.c", *objects), (0, ""))
+
+    def test_a_warning_is_an_error(self):
+        self.needs(HERE)
+        self.put("narrow.c", b"int narrow(long wide);\nint narrow(long wide) {\n    return wide;\n}\n")
+        self.assertEqual(self.compile(HERE, "-fsyntax-only", "narrow.c")[0], 1)
 
     @unittest.skipUnless(platform.machine() == "x86_64", "the toolchain has its own for x86-64")
     def test_each_call_is_answered_as_by_the_toolchains_own(self):
@@ -101,9 +111,28 @@ class Assertions(Compiled):
                 self.assertEqual(self.compile(compiler, "-fsyntax-only", "assertions.c"), (0, ""))
 
     def test_another_number(self):
+        """Of each way in which one is written."""
         self.needs(HERE)
-        self.change("libc/src/lib.rt", "O_NONBLOCK: i32 = 0o4000;", "O_NONBLOCK: i32 = 0o4001;")
-        self.fails(HERE, "O_NONBLOCK")
+        for file, line, other in (
+            ("lib", "O_NONBLOCK: i32 = 0o4000;", "0o4001;"),
+            ("lib", "AT_EMPTY_PATH: i32 = 0x1000;", "0x1001;"),
+            ("lib", "UTIME_OMIT: i64 = (1 << 30) - 2;", "(1 << 30) - 1;"),
+            ("net", "POLLOUT: i16 = 4;", "2;"),
+            ("net", "EAI_SYSTEM: i32 = -11;", "-12;"),
+            ("net", "EPOLLONESHOT: u32 = 1 << 30;", "1 << 29;"),
+        ):
+            front = line[:line.index("= ") + 2]
+            with self.subTest(line):
+                self.change(f"libc/src/{file}.rt", line, front + other)
+                self.fails(HERE, front.split(":")[0])
+                self.change(f"libc/src/{file}.rt", front + other, line)
+
+    def test_each_layout(self):
+        """But for the one that ldaodt hands to nobody."""
+        self.assertEqual(self.write().returncode, 0)
+        text = "".join(bytes_of(it).decode() for it in glob.glob(self.path("rattle/*/src/**/*.rt"), recursive=True))
+        asserted = re.findall(r"_Static_assert\(sizeof\(struct rattle_(\w+)\) ==", bytes_of(self.path("assertions.c")).decode())
+        self.assertEqual(sorted([*asserted, "EpollEvent"]), sorted(re.findall(r"#\[repr\(C\)\](?:\n#.*)*\n(?:pub )?struct (\w+)", text)))
 
     def test_a_number_of_another_crate(self):
         self.needs(HERE)
@@ -134,6 +163,133 @@ class Assertions(Compiled):
         self.assertEqual((ran.returncode, ran.stderr), (1, f"assertions: {self.room}/rattle has no libc and os\n"))
 
 
+# A command that notes its words in a file of its name; where it has an output it writes that; it says what the test has it say. It fails
+# where it is the test's n-th.
+STAND_IN = """#!/bin/sh
+name=${0##*/}
+printf '%s\\n' "$@" > "$NOTES/$name"
+echo "$name" >> "$NOTES/called"
+for it; do
+    [ "$before" != -o ] || echo "of $name" > "$it"
+    [ "$before" != --incremental ] || echo more > "$it/more"
+    before=$it
+done
+cat "$NOTES/says-$name" 2> "/dev/null"
+[ "$(wc -l < "$NOTES/called")" != "$FAILS" ]
+"""
+
+VERDICT = "logic=proved functions=2 target=aarch64-unknown-linux-gnu incremental=trusted"
+
+
+class Small(Needing):
+    """A tree in which the tools are called, and a toolchain and compilers that note how they are called."""
+
+    def setUp(self):
+        super().setUp()
+        for folder in ("tree/tools", "tree/tests", "kit/bin", "bin", "notes"):
+            os.makedirs(self.path(folder))
+        shutil.copytree(ARM64, self.path("tree/tools/arm64"))
+        for it in ("build-arm64", "check-arm64"):
+            shutil.copy(f"{TOP}/tools/{it}", self.path(f"tree/tools/{it}"))
+
+    def put_script(self, *names, text=STAND_IN):
+        for name in names:
+            self.put(name, text.encode())
+            os.chmod(self.path(name), 0o755)
+
+    def runs(self, tool, **surroundings):
+        env = {**os.environ, "PATH": f"{self.path('bin')}:{os.environ['PATH']}", "NOTES": self.path("notes"), "FAILS": "", **surroundings}
+        ran = subprocess.run([self.path(f"tree/tools/{tool}")], env=env, cwd="/", stdin=subprocess.DEVNULL, capture_output=True, text=True, timeout=60)
+        return ran.returncode, ran.stdout, ran.stderr
+
+    def noted(self, name):
+        return bytes_of(self.path(f"notes/{name}")).decode().splitlines()
+
+
+class Building(Small):
+    """tools/build-arm64."""
+
+    def setUp(self):
+        super().setUp()
+        self.put_script("kit/bin/rt", "kit/bin/rattle", f"bin/{CROSS}", "tree/tools/arm64/assertions")
+        os.symlink("../kit/bin/rt", self.path("bin/rt"))
+        self.put("tree/crates.txt", b"# low first\nlow: arrayvec\nhigh: low itoa\napart: low\nldaodt: clap high\n")
+        self.put("notes/says-rattle", f"{VERDICT}\n".encode())
+        os.makedirs(self.path("tree/crates/ldaodt/out/incremental"))
+        self.put("tree/crates/ldaodt/out/incremental/kept", b"proofs")
+
+    def test_what_is_called(self):
+        """The crates that the program names, and where those below them lie, which others don't; and what was kept stays as it is."""
+        self.assertEqual(self.runs("build-arm64"), (0, f"{VERDICT}\n./ldaodt-arm64 is proved and built\n", ""))
+        self.assertEqual(self.noted("called"), ["assertions", CROSS, CROSS, "rattle", CROSS])
+        crates, out = self.path("tree/crates"), self.path("tree/crates/ldaodt/out/arm64")
+        words = " ".join(self.noted("rattle"))
+        for it in (f"build --crate-name ldaodt {crates}/ldaodt/src/main.rt ", f" --extern high={crates}/high/out/rlib/high.rlib ", " --target aarch64-unknown-linux-gnu ",
+                   f" --extern clap={self.path('kit')}/rlibs/clap.rlib ", f" -L dependency={crates}/low/out/rlib ", f" --incremental {out}/incremental ", f" -o {out}/ldaodt.o"):
+            self.assertIn(it, f"{words} ")
+        self.assertEqual((words.count("apart"), words.count("--extern low=")), (0, 0))
+        linking = self.noted(CROSS)
+        self.assertEqual(linking[-2:], [f"{out}/ldaodt.o", f"{out}/system.o"])
+        self.assertLess({"-static-pie", "-Wl,-z,max-page-size=65536"}, set(linking))
+        self.assertEqual(os.listdir(self.path("tree/crates/ldaodt/out/incremental")), ["kept"])
+        self.assertEqual(bytes_of(self.path("tree/ldaodt-arm64")), f"of {CROSS}\n".encode())
+
+    def test_each_step_that_fails(self):
+        """Nothing is built, and the step says why."""
+        self.put("tree/ldaodt-arm64", b"earlier")
+        for number, name in enumerate(("assertions", CROSS, CROSS, "rattle", CROSS), 1):
+            with self.subTest(number):
+                self.put(f"notes/says-{name}", f"{VERDICT}\nno, for a reason\n".encode())
+                self.put("notes/called", b"")
+                self.assertEqual(self.runs("build-arm64", FAILS=str(number)), (1, "", f"build-arm64: {name} failed:\n{VERDICT}\nno, for a reason\n\n"))
+                self.assertEqual((len(self.noted("called")), bytes_of(self.path("tree/ldaodt-arm64"))), (number, b"earlier"))
+
+    def test_what_is_not_said_to_be_proved(self):
+        for said in ("logic=unproved functions=2 target=aarch64-unknown-linux-gnu incremental=trusted", VERDICT.replace("aarch64", "x86_64")):
+            self.put("notes/says-rattle", f"{said}\n".encode())
+            self.assertEqual(self.runs("build-arm64"), (1, "", f"build-arm64: rattle does not say that it is proved:\n{said}\n\n"))
+        self.assertFalse(os.path.exists(self.path("tree/ldaodt-arm64")))
+
+    def test_no_program_for_this_computer(self):
+        shutil.rmtree(self.path("tree/crates/ldaodt/out"))
+        self.assertEqual(self.runs("build-arm64"), (1, "", "build-arm64: there is no program for this computer yet: run make first\n"))
+
+
+class Checking(Small):
+    """tools/check-arm64."""
+
+    SEGMENTS = "  Type  Align\n  LOAD  0x000000 R E 0x10000\n  LOAD  0x010000 RW 0x10000\n  GNU_STACK RW 0x10\n"
+
+    def setUp(self):
+        super().setUp()
+        self.put_script(f"bin/{EMULATOR}", "bin/readelf")
+        # It calls the program that it is given, by another name.
+        self.put_script("tree/tools/check-program", text='#!/bin/bash\nprintf "%s\\n" "${@:3}" > "$NOTES/words"; pwd >> "$NOTES/words"; cat "${2%/*}/ldaodt-arm64" >> "$NOTES/words"\n'
+                        '(exec -a given "$2" check "a b"); exit "${ENDS-0}"\n')
+        self.put("notes/says-readelf", self.SEGMENTS.encode())
+        self.put_script("tree/ldaodt-arm64", text="the program")
+
+    def test_what_is_called(self):
+        """All of the suite but for what the list leaves out, by an emulator of a processor without any extension, and under the same name."""
+        self.needs(HERE)
+        for status in (0, 1):
+            self.assertEqual(self.runs("check-arm64", ENDS=str(status)), (status, "", ""))
+        self.assertEqual(self.noted("words"), ["--leave-out", "tools/arm64/left-out", self.path("tree"), "the program"])
+        words = self.noted(EMULATOR)
+        self.assertEqual((words[:4], os.path.basename(words[4]), words[5:]), (["-cpu", "cortex-a53", "-0", "given"], "ldaodt-arm64", ["check", "a b"]))
+
+    def test_a_program_that_wants_more_of_a_machine(self):
+        self.needs(HERE)
+        for old, new, told in (("LOAD  0x010000 RW 0x10000", "LOAD  0x010000 RW 0x1000", "0x1000 0x10000"), ("GNU_STACK RW 0x10", "INTERP R 0x1", "0x10000 INTERP"), (self.SEGMENTS, "", "")):
+            self.put("notes/says-readelf", self.SEGMENTS.replace(old, new).encode())
+            self.assertEqual(self.runs("check-arm64"), (1, "", f"check-arm64: ./ldaodt-arm64 asks for a C library, or for smaller pages: {told}\n"))
+        self.assertFalse(os.path.exists(self.path("notes/words")))
+
+    def test_no_program(self):
+        os.remove(self.path("tree/ldaodt-arm64"))
+        self.assertEqual(self.runs("check-arm64"), (2, "", "check-arm64: there is no ./ldaodt-arm64 yet: run make check-arm64\n"))
+
+
 class Tools(Case):
     """What the tools say where something is missing."""
 
@@ -161,6 +317,8 @@ class Tools(Case):
         self.says("check-arm64", 2, f"{EMULATOR} is not on the PATH: CONTRIBUTING.md has the packages that bring it")
         self.put_program(EMULATOR)
         self.says("check-arm64", 2, f"{HERE} is not on the PATH: CONTRIBUTING.md has the packages that bring it")
+        self.put_program(HERE)
+        self.says("check-arm64", 2, "readelf is not on the PATH: CONTRIBUTING.md has the packages that bring it")
 
 
 class Numbers(Case):

@@ -22,10 +22,10 @@ class Small(unittest.TestCase):
         self.skipTest("there is no moon")
 
     def test_a_part_of_it(self):
-        for it in "one", "other":
+        for it in "one", "other", "third":
             with self.subTest(it):
-                if it == "other":
-                    self.skipTest("there is no other")
+                if it != "one":
+                    self.skipTest(f"there is no {it}")
 
     @unittest.skip("never")
     def test_never(self):
@@ -35,8 +35,10 @@ class Small(unittest.TestCase):
         self.assertEqual(subprocess.check_output([f"{TOP}/ldaodt"]), b"well\\\\n")
 '''.replace("\\\\", "\\")
 NAME = "test_small.Small"
+NAMES = "test_a_part_of_it test_never test_right test_skipped test_the_program".split()
 SKIPPED = [
     f"left out: {NAME}.test_a_part_of_it [other]: there is no other",
+    f"left out: {NAME}.test_a_part_of_it [third]: there is no third",
     f"left out: {NAME}.test_never: never",
     f"left out: {NAME}.test_skipped: there is no moon",
 ]
@@ -106,8 +108,15 @@ class Tests(Tree):
         self.put("tests/test_other.py", SMALL.encode())
         self.put("list", b"test_small: not at all\n")
         status, lines, _ = self.runs("check-tests", "--leave-out", self.path("list"))
-        self.assertEqual((status, len(self.left_out(lines)), sum(it.endswith(": not at all") for it in lines)), (0, 8, 5))
+        self.assertEqual((status, self.left_out(lines)[-5:], len(self.left_out(lines))), (0, sorted(f"left out: {NAME}.{it}: not at all" for it in NAMES), 9))
         self.closes(lines, "Ran 5 tests in 2 files, 8 left out, 0 wrong")
+
+    def test_a_list_leaves_out_all(self):
+        """Then nothing was tried."""
+        self.put("list", b"test_small: not at all\n")
+        status, lines, _ = self.runs("check-tests", "--leave-out", self.path("list"))
+        self.assertEqual(status, 1)
+        self.closes(lines, "Ran 0 tests in 1 files, 5 left out, 0 wrong")
 
     def test_a_list_that_names_no_test(self):
         for name in (f"{NAME}.test_rig", "test_smal", "test_small.Big"):

@@ -14,9 +14,6 @@ from cases import Case, Console, DeafConsole, as_closed
 from commands import AT_A_MACHINE, RUNS, FalteringConsole
 from outside import Answer, bytes_of, fault, tape_of
 
-# What a probe says of a console that answers nothing.
-NO_PROMPT = 'prompt no\nheard nothing\nhelp: docs/REAL-MACHINE.md, "Nothing answers"\nend NoPrompt\n'
-
 # The tape that `save` makes of the word at 001000: it starts nothing.
 SAVED = tape_of([(0o1000, b"\x34\x12")])
 
@@ -98,7 +95,7 @@ class Numbers(Case):
         with ThreadPoolExecutor(16) as pool:
             for (value, command), answer in zip(rows, pool.map(given, rows)):
                 with self.subTest(command.name, patience=value):
-                    report = f"sent {value + 1} spent {value} {command.counts.format(0)}\nend GaveUp\n" if command.counts else NO_PROMPT
+                    report = f"sent {value + 1} spent {value} {command.counts.format(0)}\nend GaveUp\n" if command.counts else command.unanswered
                     self.is_so(answer, (Answer(5, report, ""), "Z" * (value + 1)))
 
     def test_every_number_is_taken_and_no_other(self):

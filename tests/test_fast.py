@@ -252,7 +252,7 @@ class NotServed(FastCase):
             self.went_as(model.fast() if option else model.ordinary(), peer, self.load(peer, "a.lda" + option))
             ends[option] = model.end, list(peer.machine.words)
         self.is_so(ends[""], ends[" --fast"])
-        self.is_so(model.why, f"memory ends at {START + 2 * (400 - ONE_STRETCH - 1):06o}")
+        self.is_so(model.why, f"word {START + 2 * (400 - ONE_STRETCH - 1):06o} did not answer")
         self.assertIn(model.why, self.told(image, " --fast", words))
 
     def test_memory_that_ends_inside_the_stub(self):
@@ -269,7 +269,7 @@ class NotServed(FastCase):
         image = image_of(400)
         self.put_tape("a.lda", image)
         told = self.told(image, " --fast")
-        for why in ("too few words", "no room", "memory ends", "did not start"):
+        for why in ("too few words", "no room", "did not answer", "did not start"):
             self.assertNotIn(why, told)
         self.assertIn("stub", told)
 
@@ -285,7 +285,7 @@ class Worth(FastCase):
     """How many characters pass in both directions together."""
 
     def test_4096_words(self):
-        self.passes_in(4096, START, 41_500, 253_971)
+        self.passes_in(4096, START, 41_000, 253_971)
 
 
 if __name__ == "__main__":

@@ -9,6 +9,7 @@ import time
 import unittest
 
 from cases import Case, Console
+from chip_cases import ChipConsole, Chips, Test, word
 from commands import AT_A_MACHINE, COMMANDS, RUNS
 from outside import NO_OUTPUT, NO_PORT, PROGRAM, Answer, bytes_of, fault, text_of
 
@@ -103,6 +104,19 @@ class AtAConsole(Logs):
                 given, log = self.logged_at("probe LINE", Console(**machine))
                 self.is_so(log, f"{asked('probe LINE')} {told}")
                 self.is_so(self.without_pace(given), self.without_pace(self.at("probe LINE", Console(**machine))))
+
+    def test_tests_of_memory(self):
+        """What they count is the line before the end."""
+        tests = {
+            Test(0o1000, 0o1006, 1, count=1024): "status 0 end Tested tested 4 words, 0 do not hold",
+            Test(0o1000, 0o1006, 1, (word(0o1002, 3, "0"), word(0o1006, 0, "1")), count=1024): "status 1 end Tested tested 4 words, 2 do not hold",
+            Test(0o1000, 0o1006, 1, count=256): "status 5 end NoWord 001000 tested 0 words, 0 do not hold",
+        }
+        for test, told in tests.items():
+            with self.subTest(told):
+                given, log = self.logged_at(test.words(), ChipConsole(Chips(test.faults, count=test.count)))
+                self.is_so(log, f"{asked(test.words())} {told}")
+                self.is_so(given, self.at(test.words(), ChipConsole(Chips(test.faults, count=test.count))))
 
     def test_several_tapes(self):
         given, log = self.logged_at("load two-words.lda LINE first.lda first.lda", Console())

@@ -1,10 +1,12 @@
 """`tools/machine`, the simulated machine of the pages, and `tools/odt_peer.py` where what is started runs: programs that print, hear, are
-interrupted, wait, go on for ever and halt; the HALT switch, losses, and a line that breaks while a program prints."""
+interrupted, wait, go on for ever and halt; the HALT switch, bad memory, losses, and a line that breaks while a program prints."""
+import contextlib
 import glob
 import os
 import select
 import socket
 import subprocess
+import sys
 import time
 import unittest
 
@@ -172,16 +174,16 @@ class Machine(Case):
         self.switch_off()
         shown = []
         for seed in (1, 1, 2):
-            it = self.switched_on(f"--loss 30 --seed {seed}")
-            it.types("1000/123456\r" * 20)
+            it = self.switched_on(f"--loss 50 --seed {seed}")
+            it.types("Z" * 200)
             while not it.hears_nothing(3 * self.quiet / 1000):
                 it.heard += os.read(it.end, 64).decode()
             shown.append(it.heard)
             self.switch_off()
         self.is_so(shown[0], shown[1])
         self.assertNotEqual(shown[0], shown[2])
-        # Of 20 times 21 keys and characters 7 of 10 pass, the keys' own echoes among them twice.
-        self.assertTrue(100 < len(shown[0]) < 400, len(shown[0]))
+        # Each key has four characters of answer; one of two keys passes, and of their 400 one of two.
+        self.assertTrue(140 < len(shown[0]) < 260, len(shown[0]))
 
     def test_a_line_of_a_speed(self):
         """At 300 baud a character takes a thirtieth of a second, what ODT answers and what a program prints. Both ways go on at once: of so
@@ -226,6 +228,87 @@ class Machine(Case):
         self.assertGreaterEqual(took[""], 600 * 62 * 10 / 38400)
         self.assertLess(took["--fast"], took[""])
 
+    def looks(self, it, address):
+        """What a word of the machine reads, or that it is none."""
+        it.types(f"{address:06o}/")
+        shown = it.hears(" ") if it.hears(f"{address:06o}/") and (first := it.read(1)) != b"?" else "?"
+        if shown == "?":
+            it.hears("@")
+            return None
+        it.types("\r")
+        it.hears("@")
+        return int(first.decode() + shown[:-1], 8)
+
+    def holds(self, it, address, word):
+        """What a word of the machine reads once a number was deposited there."""
+        it.types(f"{address:06o}/")
+        it.hears(" ")
+        it.types(f"{word:06o}\r")
+        it.hears("@")
+        return self.looks(it, address)
+
+    def test_bits_that_are_stuck(self):
+        """Of a word, and of each word of a range, whatever is deposited; the other bits and words are good."""
+        it = self.switched_on("--stuck 1000:0:1 --stuck 001000:15:0 --stuck 20000-20004:2:0 --stuck 20004:2:1")
+        for word in (0, 0o177777, 0o125252):
+            stuck = {0o776: word, 0o1000: word & 0o077777 | 1, 0o1002: word, 0o17776: word,
+                     0o20000: word & ~4, 0o20002: word & ~4, 0o20004: word | 4, 0o20006: word}
+            self.is_so({address: self.holds(it, address, word) for address in stuck}, stuck)
+
+    def test_each_bit_that_is_stuck(self):
+        it = self.switched_on(" ".join(f"--stuck {2 * (16 * value + bit):o}:{bit}:{value}" for value in (0, 1) for bit in range(16)))
+        for value, other in ((0, 0o177777), (1, 0)):
+            for bit in range(16):
+                self.is_so(self.holds(it, 2 * (16 * value + bit), other), other ^ 1 << bit)
+
+    def test_banks_that_do_not_answer(self):
+        it = self.switched_on("--no-bank 2 --no-bank 6 --words 28671")
+        there = {0o37776: True, 0o40000: False, 0o57776: False, 0o60000: True, 0o137776: True, 0o140000: False, 0o157774: False, 0o157776: False}
+        self.is_so({address: self.looks(it, address) is not None for address in there}, there)
+
+    def test_addresses_that_are_one_word(self):
+        it = self.switched_on("--alias 11 --alias 1")
+        for word, address in enumerate((0, 0o4000, 2, 0o4002), 1):
+            self.is_so(self.holds(it, address, word), word)
+            self.is_so([self.looks(it, other) for other in (0, 2, 0o4000, 0o4002, 0o1000, 0o10000)], [word] * 4 + [0, 0])
+
+    def test_a_program_in_bad_memory(self):
+        """It meets what ODT does: a bit that is stuck, two addresses that are one, and no answer, which is a trap."""
+        it = self.switched_on("--stuck 2000:3:1 --alias 15 --no-bank 1")
+        program = (
+            0o012706, 0o000776,             # MOV #776,SP
+            0o005037, 0o002000,             # CLR @#2000
+            0o013737, 0o102000, 0o002002,   # MOV @#102000,@#2002
+            0o005037, 0o020000,             # CLR @#20000
+            0,                              # HALT
+        )
+        it.puts({4: 0o1100, 6: 0o340, **placed(program), 0o1100: 0})
+        it.starts()
+        # Behind the HALT at the end of the trap's way.
+        self.is_so(it.hears("@"), "\r\n001102\r\n@")
+        self.is_so(self.looks(it, 0o2002), 0o10)
+
+    def test_bad_memory_that_is_none(self):
+        """Nothing is made then, and it is said why."""
+        stuck = "argument --stuck: "
+        form = " is none: an octal address, or two with a '-' between them, a bit, and 0 or 1, as 020000:2:0"
+        range_of = ": an address is even and below 160000, and the second not below the first"
+        rows = {
+            **{f"--stuck {it}": f"{stuck}{it!r}{form}" for it in ("x", "1000", "1000:2", "1000:2:2", "1008:2:0", "0001000:2:0", "1000:2:0:1")},
+            **{f"--stuck {it}": f"{stuck}{it!r}{range_of}" for it in ("1001:2:0", "160000:2:0", "1000-776:2:0", "1000-1001:2:0", "0-160000:2:0")},
+            "--stuck 1000:16:0": f"{stuck}'1000:16:0': a bit is 0 to 15",
+            **{f"--no-bank {it}": f"argument --no-bank: '{it}' is none: 0 to 6" for it in ("7", "x", "010")},
+            **{f"--alias {it}": f"argument --alias: '{it}' is none: 1 to 15" for it in ("0", "16", "x")},
+            "--words 4096 --stuck 17776-20000:2:0": f"{stuck}020000 is not in a memory of 4096 words",
+            "--words 4096 --no-bank 0 --no-bank 1": "argument --no-bank: a memory of 4096 words has no bank 1",
+            "--words 4096 --alias 12 --alias 13": "argument --alias: no address in a memory of 4096 words has the bit 13",
+        }
+        for options, said in rows.items():
+            with self.subTest(options):
+                told = subprocess.run([f"{TOP}/tools/machine", *options.split(), self.path("lsi11")], capture_output=True, text=True, check=False)
+                self.is_so((told.returncode, told.stdout, told.stderr.split("\n")[-2]), (2, "", f"machine: error: {said}"))
+                self.is_so(os.path.lexists(self.path("lsi11")), False)
+
     def test_a_cable_that_is_pulled(self):
         """Behind ten keys and characters, while the program prints."""
         it = self.switched_on("--break-after 1020")
@@ -235,6 +318,28 @@ class Machine(Case):
         count = 1020 - passed - 7
         self.is_so(it.hears("A" * (count - 7)), "001000G" + "A" * (count - 7))
         self.assertTrue(self.waits(lambda: not os.path.lexists(self.path("lsi11"))))
+        with contextlib.suppress(OSError):
+            self.is_so(os.read(it.end, 64), b"")
+
+    def test_a_name_that_is_a_file_s(self):
+        self.put("lsi11", b"mine")
+        told = subprocess.run([f"{TOP}/tools/machine", self.path("lsi11")], capture_output=True, text=True, timeout=60)
+        self.is_so((told.returncode, told.stdout, told.stderr), (1, "", f"machine: {self.path('lsi11')} is there already, and is no link\n"))
+        self.is_so(bytes_of(self.path("lsi11")), b"mine")
+
+    def test_an_hour_without_a_key(self):
+        """Then it switches itself off, and not after ten minutes: by a clock that goes 400 times as fast."""
+        faster = "import runpy, sys, time; clock = time.monotonic; time.monotonic = lambda: 400 * clock()"
+        run = f"{faster}; sys.path[0] = '{TOP}/tools'; runpy.run_path('{TOP}/tools/machine', run_name='__main__')"
+        began = time.monotonic()
+        subprocess.run([sys.executable, "-c", run, self.path("lsi11")], stdout=subprocess.DEVNULL, timeout=60, check=True)
+        self.addCleanup(self.switch_off)
+        time.sleep(max(0, began + 1200 / 400 - time.monotonic()))
+        is_on = os.path.islink(self.path("lsi11"))
+        self.assertTrue(is_on or time.monotonic() > began + 3600 / 400)
+        self.assertTrue(self.waits(lambda: not os.path.islink(self.path("lsi11"))))
+        self.assertGreaterEqual(time.monotonic(), began + 3600 / 400)
+
 
 
 def bytes_of_tape(address, data):

@@ -169,6 +169,8 @@ class LaidOut(Case):
         self.assertEqual(os.path.basename(package).rpartition("_")[2], "arm64.deb")
         # All that it calls is in it.
         self.assertEqual(self.told(package, "Architecture", "Depends"), "Architecture: arm64")
+        subprocess.run(["dpkg-deb", "-x", package, self.path("unpacked")], check=True)
+        self.assertEqual(bytes_of(self.path("unpacked/usr/bin/ldaodt")), bytes_of(f"{self.top}/ldaodt-arm64"))
 
     def test_a_program_for_a_processor_that_nobody_packs(self):
         self.put_arm()
@@ -194,6 +196,12 @@ class LaidOut(Case):
             for path, wanted in ((f"{self.room}/usr/bin:/usr/bin:/bin", (0, "")), ("/usr/bin:/bin", (2, f"{name}: there is no ./ldaodt above"))):
                 ran = subprocess.run([f"{examples}/{name}"], env={**os.environ, "PATH": path}, stdin=subprocess.DEVNULL, capture_output=True, text=True)
                 self.assertEqual((ran.returncode, ran.stderr[: len(wanted[1])]), wanted)
+
+    def test_the_machine_that_is_installed(self):
+        """It has all that it reads there."""
+        self.lay_out("install", f"{self.room}/usr")
+        machine = f"{self.room}/usr/share/doc/ldaodt/tools/machine"
+        self.assertIn("--break-after", subprocess.run([machine, "--help"], stdin=subprocess.DEVNULL, capture_output=True, text=True, check=True).stdout)
 
     def test_installed_from_the_archive(self):
         """By the same words as in the repository, to the same files, and taken away again."""

@@ -270,6 +270,16 @@ class Crates(Case):
             following = calls[number + 1][0] if number + 1 < len(calls) else "write"
             self.assertTrue(any(re.search(rf"\b{following}\(", it.split("{", 1)[-1]) for it in bodies), f"{call} in {file} calls no {following}")
 
+    def test_one_loop_of_turns_hears_a_line(self):
+        """Beside listening, and where a line hands on what another heard: no engine but the one has a loop of turns."""
+        calls = set()
+        for name in self.crates:
+            for file in glob.glob(f"{TOP}/crates/{name}/src/**/*.rt", recursive=True) if not name.endswith("_tests") else ():
+                for part in re.split(r"\bfn (?=\w)", text_at(os.path.relpath(file, TOP)))[1:]:
+                    if re.search(r"(?<!\bself)\.hear\(", part) and not part.startswith("hear("):
+                        calls.add((name, re.match(r"\w+", part)[0]))
+        self.is_so(calls, {("engine", "turn"), ("console_lines", "copy_next")})
+
     def test_each_function_and_clause_that_is_named_is_there(self):
         """As `World::run`: `safe`, `since`; told: `drive_in_memory`; and functions with one clause, which has no name."""
         crates, tests = defined_in(it for it in CRATES if "_tests/" not in it), defined_in(CRATES)

@@ -18,6 +18,7 @@ from cases import Case, Console
 from commands import AT_A_MACHINE
 from outside import HELLO, PROGRAM, TOP, Answer, bytes_of, text_of
 from test_devices import is_locked
+from test_probe import WideConsole
 
 # A command that notes its words, and its device where that is its input; it says and ends as the test asks.
 STAND_IN = """#!/bin/bash
@@ -67,6 +68,8 @@ PLACES = (
     ("verify a.lda b.lda", "verify a.lda LINE b.lda"),
     ("save a.lda 0 157776", "save a.lda LINE 0 157776"),
     ("probe", "probe LINE"),
+    ("memory", "memory LINE"),
+    ("memory 20000 37776 --every 3", "memory LINE 20000 37776 --every 3"),
     # What stands behind an option that has a value is no tape, wherever that stands.
     ("load --record a.record a.lda --listen 10 b.lda", "load --record a.record a.lda LINE --listen 10 b.lda"),
     ("load --patience 100 --quiet 300 --start 1000 a.lda", "load --patience 100 --quiet 300 --start 1000 a.lda LINE"),
@@ -396,6 +399,7 @@ PROBED = "prompt yes\nstyle 0\nforgets digits yes\nmemory 000000 to 157776\nkey 
 STORES = "prompt yes\nstyle 0\nforgets digits no: do not load this machine\nthe word at 001000 holds 000000 again\nend NotTrusted\n"
 NO_WORD = "prompt yes\nend NoWord 001000\n"
 BAD_LINE = "prompt yes\nheard ?\\r\\n@00\nhelp: so\nstyle 0\nforgets digits not known\nend GaveUp\n"
+PROMPT = "prompt yes\nheard @001000/00000\nhelp: so\nend GaveUp\n"
 OTHERS = "prompt yes\nheard @001000/0000000\nhelp: so\nend GaveUp\n"
 TALKS = "prompt no\nheard S\\r\\nMEMORY TEST PAS\nhelp: so\nend TurnsOver\n"
 BROKEN = "prompt yes\nstyle 0\nforgets digits not known\nthe word at 001000 held 000000, now look at it\nend LineFailed\n"
@@ -411,7 +415,9 @@ SCANS = (
     (300, NO_WORD, 5, 2, 0, "an ODT answers\n" + NO_WORD, "probe"),
     (300, BAD_LINE, 5, 2, 0, "an ODT answers\n" + BAD_LINE, "probe"),
     # A prompt alone is none.
-    (300, OTHERS, 5, 8, 5, "no ODT, heard @001000/0000000\n", None),
+    (300, PROMPT, 5, 8, 5, "no ODT, heard @001000/00000\n", None),
+    # Longer numbers come at the right speed alone.
+    (300, OTHERS, 5, 2, 5, "no ODT of 16 bits, heard @001000/0000000\n", None),
     # What never falls silent does so at no speed.
     (300, TALKS, 5, 2, 5, "no ODT, heard S\\r\\nMEMORY TEST PAS\n", None),
     # A line that fails is no matter of a speed; what was left in the machine is told.
@@ -437,7 +443,17 @@ class Scans(Script):
                 lines[str(speed)] = said if ended == 4 else f"{speed}: {said}"
                 wanted = "".join(lines.values()) + (f"now write: {self.path('tools/serial')} {speed} {self.device} {written}\n" if written else "")
                 self.is_so((given.status, given.out), (ended, wanted))
-                self.is_so(given.err.split("\n")[0], f"ldaodt-serial: no ODT answers at {self.device}" if ended == 5 else "")
+                kind = " of 16 bits" if report == OTHERS else ""
+                self.is_so(given.err.split("\n")[0], f"ldaodt-serial: no ODT{kind} answers at {self.device}" if ended == 5 else "")
+
+    def test_what_a_terminal_is_told(self):
+        """How long it may take, once, and not what the program tells a terminal of each probe; its faults are handed on."""
+        self.stand_in("ldaodt", text='#!/bin/bash\n[ ! -t 2 ] || echo mostly 8 seconds >&2\necho a fault >&2\necho "heard nothing"\nexit $((++tries < 2 ? 5 : 4))\n')
+        ours, theirs = pty.openpty()
+        with open(ours, "rb", buffering=0) as screen, open(theirs, "wb", buffering=0) as terminal:
+            env = {**os.environ, "PATH": self.path("bin"), "NOTES": self.path("notes"), "HELPS": self.path("helps"), "tries": "1"}
+            subprocess.run([self.path("tools/serial"), "scan", self.device], cwd=self.room, env=env, stdin=subprocess.DEVNULL, stdout=subprocess.DEVNULL, stderr=terminal, timeout=60)
+            self.is_so(screen.read(4096), b"ldaodt-serial: up to eight speeds, at each some seconds\r\na fault\r\n")
 
     def test_what_is_to_be_written_can_be_written(self):
         """Names with a space, of the script and of its device: the line is one for a shell."""
@@ -532,6 +548,19 @@ class Terminals(Script):
         self.is_so((given.status, given.out), (0, "first\nend Started\nheard\n"))
         self.is_so(self.notes()[-1], "minicom -o -D DEVICE -b 9600")
 
+    def test_behind_an_early_interrupt(self):
+        """What shows the report has not begun to work then."""
+        os.remove(self.path("bin/tee"))
+        self.stand_in("bin/tee", text=f'#!/bin/bash\nsleep 1\nexec {shutil.which("tee")} "$@"\n')
+        self.test_behind_an_interrupt()
+
+    def test_what_a_terminal_heeds(self):
+        """Interrupts, which this script ignored while it loaded."""
+        self.stand_in("bin/minicom", text='#!/bin/bash\ngrep SigIgn "/proc/$$/status" >> "$NOTES"\n')
+        given = self.serial("9600 DEVICE load a.lda --talk", preexec_fn=lambda: signal.signal(signal.SIGINT, signal.SIG_DFL))
+        self.is_so(given.status, 0)
+        self.is_so(int(self.notes()[-1].split()[1], 16) & 1 << signal.SIGINT - 1, 0)
+
     def test_behind_a_load(self):
         """One that ended well, and has listened for a second or as long as it was told to; no option of that is the program's."""
         self.stand_in("bin/minicom")
@@ -575,7 +604,9 @@ class Machines(Script):
     def until_it_loads(self, process, line):
         """Waits until the program of such a command has the device; before, the script looks whether it is free."""
         until = time.monotonic() + 60
-        while "/ldaodt load " not in subprocess.run(["ps", "-s", str(process.pid), "-o", "args="], capture_output=True, text=True).stdout or not is_locked(line):
+        # An emulator names the program behind words of its own.
+        has_begun = lambda: re.search(r"/ldaodt\S* load ", subprocess.run(["ps", "-s", str(process.pid), "-o", "args="], capture_output=True, text=True).stdout)
+        while not (has_begun() and is_locked(line)):
             self.assertLess(time.monotonic(), until, "it never came to that")
             time.sleep(0.01)
 
@@ -633,6 +664,13 @@ class Machines(Script):
         given = self.serial("scan DEVICE")
         self.assertRegex(given.out, r"\A9600: no ODT, heard ~+\n300: an ODT answers\nprompt yes\n(.*\n)+end Probed\nnow write: \S+ 300 \S+ load TAPE\n\Z")
         self.is_so((given.status, given.err, set(line.machine.unheard)), (0, "", {"Z"}))
+
+    def test_a_scan_of_a_console_with_longer_numbers(self):
+        """It is found at its speed, and not passed over."""
+        self.machine(WideConsole())
+        given = self.serial("scan DEVICE")
+        self.assertRegex(given.out, r"\A9600: no ODT of 16 bits, heard .*@001000/0000000\n\Z")
+        self.is_so(given.status, 5)
 
     def test_what_is_said_until_a_terminal_begins(self):
         """It is shown, though the terminal throws away what waits for it; and what comes then is the terminal's. `tio` would end where

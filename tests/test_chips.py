@@ -1,0 +1,349 @@
+"""`ldaodt memory`: the picture of bad chips, boards and lines, beside what is worked out from the list of what is bad; lines that lose and
+break, and runs that are killed at each stage; and that no good word is another one afterwards."""
+import re
+import signal
+import subprocess
+import threading
+import unittest
+from concurrent.futures import ThreadPoolExecutor
+
+from cases import StoringConsole, heed_signals
+from chip_cases import (BANK, BITS, EVERY, HEADER, WORDS, ChipCase, ChipConsole, Chips, Fault, Test, changed, chip, named_in, row,
+                        shown_at_last, word)
+from outside import PROGRAM, line_failed
+from paced_line import PacedLine, PacedMachine
+
+FIRST, LAST = 0o1000, 0o1006
+
+# A memory of these words is enough where none lies above.
+FEW = 1024
+
+# Keys: of the trial of a console, a look, an open word with three digits, and a look; and of a word that is looked at twice, turned over,
+# looked at, put back and looked at. The characters of both ways: of the trial's first look, and of all of it; of `Z`; of a word, up to where
+# its number is known, and up to where it is tested.
+TRIAL, KEYS = 30, 44
+LOOKED, TRIED, PROMPTED, WORD, KNOWN, DONE = 30, 97, 5, 124, 46, 120
+
+
+class Chip(ChipCase):
+    """What a memory's test says."""
+
+    def tried(self, test, line=None, more="", **named):
+        """Tests a memory that has what the test says, and nothing else; returns the line, what it read before, and the answer."""
+        line = line or self.console_at(ChipConsole(Chips(test.faults, test.missing, test.count, **named)))
+        before = line.machine.words.readings()
+        given = self.ldaodt(self.words_at(line, f"{test.words()} {more}"))
+        line.settle()
+        return line, before, given
+
+    def is_shown(self, test, line=None, more="", **named):
+        """Asserts that all of a test is right."""
+        line, before, given = self.tried(test, line, more, **named)
+        self.ends(given, int(bool(test.bad())), test.report(before))
+        self.is_harmless(line, before)
+        return line
+
+    def at_once(self, trial, rows, threads=8):
+        """Tries all rows, some side by side."""
+        rows = list(rows)
+        with ThreadPoolExecutor(threads) as pool:
+            for given_row, failed in zip(rows, pool.map(lambda it: why_wrong(trial, it), rows)):
+                with self.subTest(given_row):
+                    if failed:
+                        raise failed
+
+
+def why_wrong(trial, given_row):
+    try:
+        trial(given_row)
+    except Exception as failed:
+        return failed
+    return None
+
+
+class Pictures(Chip):
+    """Lines that lose nothing."""
+
+    def test_good_memory(self):
+        for line in self.lines(lambda: ChipConsole(Chips())):
+            self.is_shown(Test(), line=line)
+
+    def test_the_eight_styles(self):
+        test = Test(FIRST, LAST, 1, (word(0o1002, 3, "0"),), count=FEW)
+        self.at_once(lambda style: self.is_shown(test, line=self.console_at(ChipConsole(Chips(test.faults, count=FEW), style=style))), range(8))
+
+    def test_each_bit_that_is_stuck(self):
+        """Of a word among good ones, and of a range of them."""
+        def trial(row):
+            bit, sign, last = row
+            self.is_shown(Test(FIRST, last, 1, (Fault(range(0o1002, 0o1006, 2), bit, sign),), count=FEW))
+
+        self.at_once(trial, [(bit, sign, last) for bit in range(BITS) for sign in "01" for last in (0o1006,)])
+        self.at_once(lambda bit: self.is_shown(Test(0o1002, 0o1004, 1, (Fault(range(0o1002, 0o1006, 2), bit, "1"),), count=FEW)), range(BITS))
+
+    def test_dead_chips(self):
+        """Two of them, one that lost a quarter of its rows, and one word of two that no sample meets."""
+        self.is_shown(Test(faults=(chip(1, 2, "0"), chip(3, 11, "1"), Fault(range(0o104000, 0o106000, 2), 7, "0"), word(0o120002, 5, "1"))))
+
+    def test_a_chip_that_reads_either(self):
+        """Some of its words read 0, the others 1."""
+        self.is_shown(Test(0o1000, 0o1016, 1, (Fault(range(0o1000, 0o1010, 2), 4, "0"), Fault(range(0o1010, 0o1020, 2), 4, "1")), count=FEW))
+
+    def test_many_bits_of_a_word(self):
+        self.is_shown(Test(FIRST, LAST, 1, (word(0o1004, 0, "1"), word(0o1004, 7, "0"), word(0o1004, 15, "1"), word(0o1006, 7, "0")), count=FEW))
+
+    def test_a_bank_of_ones(self):
+        """It answers, and all of it reads 1."""
+        self.is_shown(Test(faults=tuple(chip(4, bit, "1") for bit in range(BITS))))
+
+    def test_nothing_holds(self):
+        """Each bit of each word reads 0."""
+        self.is_shown(Test(FIRST, LAST, 1, tuple(Fault(range(0, 2 * FEW, 2), bit, "0") for bit in range(BITS)), count=FEW))
+
+    def test_the_most_words_that_are_told(self):
+        """Eight of them."""
+        for count in (7, 8, 9):
+            faults = (Fault(range(0o1002, 0o1002 + 2 * count, 2), 9, "0"),)
+            self.is_shown(Test(0o1000, 0o1040, 1, faults, count=FEW))
+
+    def test_a_bank_that_does_not_answer(self):
+        """In the middle; the test goes on behind it."""
+        self.is_shown(Test(missing=(2,)))
+        self.is_shown(Test(missing=(1, 3, 6), faults=(chip(2, 14, "1"),)))
+
+    def test_memory_that_ends(self):
+        """At the end of a bank, and in a bank."""
+        self.is_shown(Test(count=2 * BANK))
+        self.is_shown(Test(count=BANK + 1000))
+
+    def test_each_so_many_words(self):
+        """Nothing else is typed at."""
+        for first, last, every in ((0o1000, 0o1016, 3), (0o1000, 0o1000, 1), (0o1000, 0o1002, 2), (0o157700, 0o157776, 16), (0, 0o157776, 4096)):
+            with self.subTest(every):
+                line = self.is_shown(Test(first, last, every))
+                opened = {int(it, 8) for it in re.findall(r"([0-7]{6})/", line.machine.typed)}
+                self.is_so(sorted(opened - set(range(first, last + 1, 2 * every)) ), [])
+
+    def test_a_range_over_two_banks(self):
+        self.is_shown(Test(0o17770, 0o20006, 1, (word(0o17774, 1, "0"), word(0o20000, 12, "1"))))
+
+
+class Flickering(Chip):
+    """A bit that is read wrong at some looks. Each word is looked at four times, the first one by the trial of the console, too."""
+
+    TEST = Test(FIRST, LAST, 1, (), count=FEW)
+
+    def shown(self, *wrong_looks):
+        fault = word(0o1004, 6, "x", *wrong_looks)
+        line, before, given = self.tried(self.TEST._replace(faults=(fault,)))
+        self.is_harmless(line, before)
+        return given, before[0o1004 // 2]
+
+    def test_when_it_is_put_back(self):
+        given, held = self.shown(4)
+        turned = held ^ 0o177777
+        text = self.TEST._replace(faults=(word(0o1004, 6, "x"),))
+        line = f"001004 held {held:06o}; {turned:06o} reads {turned:06o}, {held:06o} reads {held ^ 1 << 6:06o}\n"
+        rows = "".join(f"{it}\n" for it in (HEADER, *text.rows()))
+        self.ends(given, 1, f"{rows}{line}tested 4 words, 1 do not hold\nend Tested\n")
+
+    def test_when_it_is_turned_over(self):
+        """It shows as one that always reads the same."""
+        given, held = self.shown(3)
+        sign = str(held >> 6 & 1)
+        self.ends(given, 1, self.TEST._replace(faults=(word(0o1004, 6, sign),)).report({0o1004 // 2: held}))
+
+    def test_when_it_is_looked_at_first(self):
+        """Nothing is deposited before two looks are alike, so that what is put back is right."""
+        for looks in ((1,), (2,), (1, 3), (2, 3)):
+            with self.subTest(looks):
+                given, _ = self.shown(*looks)
+                self.ends(given, 0, self.TEST.report({}))
+
+    def test_when_no_two_looks_are_alike(self):
+        """Patience ends, and nothing was deposited there."""
+        fault = word(0o1004, 6, "x", *range(1, 100, 2))
+        line, before, given = self.tried(self.TEST._replace(faults=(fault,)), more="--patience 3")
+        self.is_harmless(line, before)
+        self.is_so((given.status, given.out.split("\n")[-3:], given.err), (5, ["tested 2 words, 0 do not hold", "end GaveUp", ""], ""))
+        self.is_so([it for it, _ in line.machine.words.stored if it == 0o1004], [])
+
+
+class Losses(Chip):
+    """Lines that lose one of a hundred characters both ways."""
+
+    def test_the_picture_is_the_same(self):
+        def trial(seed):
+            faults = (chip(0, seed % BITS, str(seed // BITS % 2)),) if seed % 3 else ()
+            test = Test(0, 0o7776, EVERY, faults, count=2 * FEW)
+            place = self.device_at if seed % 2 else self.console_at
+            self.is_shown(test, line=place(ChipConsole(Chips(faults, count=2 * FEW, seed=seed)), loss=0.01, seed=seed), more="--patience 1000")
+
+        self.at_once(trial, range(32), threads=16)
+
+    def test_a_patience_that_is_lost(self):
+        """The word under way is named where it may hold another number, and no other word does."""
+        def trial(seed):
+            test = Test(FIRST, 0o1076, 1, (), count=FEW)
+            line, before, given = self.tried(test, self.console_at(ChipConsole(Chips(count=FEW, seed=seed)), loss=0.02, seed=seed), "--patience 1")
+            named = named_in(given.out)
+            self.assertLessEqual(set(changed(line.machine, before)), set(named))
+            self.is_so({it: before[it // 2] for it in named}, named)
+            self.is_so((given.status, given.out.split("\n")[-2], given.err), (5, "end GaveUp", ""))
+
+        self.at_once(trial, range(24), threads=16)
+
+
+class KillingConsole(ChipConsole):
+    """Behind the key with a number something is done before its answer passes."""
+
+    def __init__(self, chips, last_key, then):
+        super().__init__(chips)
+        self.last_key, self.then = last_key, then
+
+    def take(self, key):
+        answer = super().take(key)
+        if len(self.typed) == self.last_key:
+            self.then()
+        return answer
+
+
+class Ends(Chip):
+    """How a test ends that does not come to its end, and what of memory is then another one."""
+
+    WORDS = f"memory LINE {FIRST:o} {FIRST + 2:o}"
+
+    def killed(self, keys, number):
+        """A test that is sent a signal behind so many keys; returns the line, what was read before, how it ended, and what its terminal shows."""
+        is_begun, process = threading.Event(), []
+
+        def kill():
+            is_begun.wait()
+            process[0].send_signal(number)
+
+        line = self.console_at(KillingConsole(Chips(count=FEW), keys, kill))
+        before, words = line.machine.words.readings(), self.words_at(line, self.WORDS)
+
+        def run(terminal):
+            process.append(subprocess.Popen([PROGRAM, *words], cwd=self.room, stderr=terminal, stdout=subprocess.PIPE, preexec_fn=heed_signals))
+            self.addCleanup(self.let_go, process[0])
+            is_begun.set()
+            out, _ = process[0].communicate(timeout=300)
+            return process[0].returncode, out
+
+        ended, shown = self.at_a_terminal(run)
+        line.settle()
+        return line, before, ended, shown
+
+    def is_named(self, keys, number):
+        """Asserts that behind such a signal no word is another one, or the one that the terminal's line names, with what it held."""
+        line, before, ended, shown = self.killed(keys, number)
+        self.is_so(ended, (-number, b""))
+        other, named = changed(line.machine, before), shown_at_last(shown)
+        self.is_harmless(line, before, named)
+        self.is_so({it: before[it // 2] for it in named}, named)
+        # From the first digit of the complement on, up to the CR behind the number that is put back, and its answer.
+        place = (keys - TRIAL - 2) % KEYS
+        self.is_so(other, [FIRST + 2 * ((keys - TRIAL - 2) // KEYS)] if 21 <= place < 35 and keys > TRIAL else [])
+
+    def test_a_kill_at_each_key(self):
+        """Of the trial and of two words."""
+        self.at_once(lambda keys: self.is_named(keys, signal.SIGKILL), range(1, TRIAL + 1 + 2 * KEYS))
+
+    def test_an_interrupt(self):
+        self.at_once(lambda keys: self.is_named(keys, signal.SIGINT), range(TRIAL + 4, TRIAL + 2 + KEYS, 5))
+
+    def test_a_line_that_breaks(self):
+        """Behind each character of the trial and of two words, some left out: the words that were tested, and the one under way, which
+        during the trial is the one that digits may have been typed into."""
+        test = Test(FIRST, FIRST + 2, 1, count=FEW)
+
+        def trial(characters):
+            line = self.console_at(ChipConsole(Chips(count=FEW)), close_after=characters)
+            before = line.machine.words.readings()
+            given = self.ldaodt(self.words_at(line, self.WORDS))
+            line.settle()
+            count, place = divmod(max(0, characters - TRIED - PROMPTED), WORD)
+            is_named = KNOWN <= place < DONE or LOOKED <= characters < TRIED
+            named = FIRST + 2 * count if is_named else None
+            self.ends(given, 4, test.report(before, "LineFailed", count + (place >= DONE), named), line_failed("closed"))
+            self.is_harmless(line, before, [named])
+
+        self.at_once(trial, range(1, TRIED + PROMPTED + 2 * WORD, 3), threads=16)
+
+    def going(self, looks):
+        """A test of four words, the second of which answers so many looks and no more."""
+        class Going(ChipConsole):
+            def has_word(self, address):
+                return super().has_word(address) and (address != 0o1002 or self.words.looks.get(0o1002 // 2, 0) < looks)
+
+        line = self.console_at(Going(Chips(count=FEW)))
+        before = line.machine.words.readings()
+        given = self.ldaodt(self.words_at(line, f"memory LINE {FIRST:o} {LAST:o}"))
+        line.settle()
+        return line, before, given
+
+    def test_a_word_that_goes(self):
+        """Before anything is deposited there it is the end of the bank's memory."""
+        for looks in range(2):
+            line, before, given = self.going(looks)
+            rows = f"{HEADER}\n{row(0, [FIRST], ())}   no memory at 001002\n"
+            self.ends(given, 0, f"{rows}tested 1 words, 0 do not hold\nend Tested\n")
+            self.is_harmless(line, before)
+
+    def test_a_word_that_goes_in_the_middle(self):
+        """What it held is told."""
+        for looks in (2, 3):
+            line, before, given = self.going(looks)
+            self.is_so((given.status, given.out.split("\n")[-3:], given.err), (5, [
+                f"the word at 001002 held {before[0o1002 // 2]:06o}, now look at it", "end NoWord 001002", ""], ""))
+            self.is_so(changed(line.machine, before), [0o1002] if looks == 2 else [])
+
+    def test_no_memory(self):
+        """None at all: nothing is typed but a look at it."""
+        test = Test(FIRST, LAST, 1, count=256)
+        line, before, given = self.tried(test)
+        self.ends(given, 5, test.report(before, "NoWord 001000"))
+        self.is_so((line.machine.typed, line.machine.words.stored), ("Z001000/", []))
+
+    def test_a_console_that_stores(self):
+        """Nothing is tested, and the word that was tried holds its number again."""
+        class Storing(ChipConsole, StoringConsole):
+            pass
+
+        line = self.console_at(Storing(Chips(count=FEW)))
+        before = line.machine.words.readings()
+        given = self.ldaodt(self.words_at(line, self.WORDS))
+        line.settle()
+        self.is_so((given.status, given.out.split("\n")[-2], given.err), (5, "end NotTrusted", ""))
+        self.is_so(changed(line.machine, before), [])
+        self.is_so({it for it, _ in line.machine.words.stored}, {FIRST})
+
+    def test_refused_words(self):
+        """Nobody is connected to."""
+        line = self.console_at(ChipConsole(Chips(count=FEW)))
+        for words in ("1000", "1001 1002", "1000 1001", "1002 1000", "0 160000", "8 10", "0001000 1000", "-2 0", "1000 1002 1004",
+                      "--every 0", "--every -1", "--every 28673", "--every x", "--every", "0 2 --every 0", "--patience 1001", "--words 8", "--record a"):
+            with self.subTest(words):
+                given = self.ldaodt([*f"memory {line.address} {words}".split()])
+                self.is_so((given.status, given.out, given.err.startswith("error: ")), (2, "", True))
+        self.is_so(line.connections, 0)
+
+
+class PacedChips(PacedMachine):
+    """Such a memory at a line in simulated time."""
+
+
+class Times(Chip):
+    """What a test takes."""
+
+    def test_each_64th_word_at_9600_baud(self):
+        """Each word 44 keys and 80 characters, one behind the other, and the quiet times."""
+        line = PacedLine(PacedMachine(), 9600)
+        given = line.load(["memory", "LINE"], cwd=self.room)
+        self.is_so((given.status, given.out), (0, Test().report({})))
+        self.assertLessEqual(line.seconds, 70)
+
+
+if __name__ == "__main__":
+    unittest.main()

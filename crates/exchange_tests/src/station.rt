@@ -204,13 +204,13 @@ impl StationLine {
 
     /// The bytes that the stub was to fill.
     pub(crate) fn memory(&self) -> &[u8] {
-        &self.machine.memory
+        &self.station.memory
     }
 
     /// Whether the stub has halted: behind its last byte it takes no nibble, and any key but a nibble
     /// halts it.
     pub(crate) fn is_halted(&self) -> bool {
-        self.machine.is_halted || self.machine.is_full()
+        self.station.is_halted || self.station.is_full()
     }
 }
 
@@ -225,12 +225,12 @@ impl Line for StationLine {
 
     fn send(&mut self, key: u8) -> Result<(), LineFault> {
         self.log.note(Item::Sent(key), LineFault::Send)?;
-        self.machine.receive(key);
+        self.station.receive(key);
         Ok(())
     }
 
     fn hear(&mut self) -> Result<Heard, LineFault> {
-        let heard = self.machine.next();
+        let heard = self.station.next();
         self.log.note(Item::Heard(heard), LineFault::Receive)?;
         Ok(heard)
     }

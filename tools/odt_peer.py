@@ -285,7 +285,7 @@ class Peer(Line):
     def is_key_there(self):
         return is_there(self.connection)
 
-    def settle(self, seconds=10):
+    def settle(self, seconds=60):
         """Waits until all earlier callers are served, and what they sent is taken: connections are served in turn,
         so one of our own, which asks for nothing and isn't counted, ends after theirs."""
         with socket.create_connection((self.host, self.port), seconds) as ours:

@@ -15,6 +15,11 @@ WORDS = 7 * BANK
 # Each how many words one is tested where no range is asked for.
 EVERY = 64
 
+# The lines of an address, of which the lowest chooses a byte of a word; and the numbers that are deposited in a word to test a bus: in one of
+# them any two of its bits differ. The last is another one where the word held it before.
+LINES = 16
+NUMBERS, OTHER_NUMBER = (0o125252, 0o146314, 0o170360, 0o177400), 0o000377
+
 
 class Fault(NamedTuple):
     """A bit of some words, given by their addresses, and how it shows in the picture: it reads 0, reads 1, or is bad in another way.
@@ -185,13 +190,30 @@ class Test(NamedTuple):
             else:
                 yield f"{name_of(bank)}   {'no memory' if gone else 'not tested'}"
 
-    def report(self, before, end="Tested", count=None, named=None):
+    def good(self):
+        """The first word that is tested and holds, if there is one: there a bus is tested, where each word of a range is."""
+        return next((it for it in self.tested() if not bad_bits(it, self.faults)), None) if self.every == 1 else None
+
+    def around(self, address):
+        """The words that are one address line from another, of those that are there."""
+        return [it for it in (address ^ 1 << line for line in range(1, LINES)) if it < 2 * WORDS and self.is_there(it)]
+
+    def bus(self, same=(), touches=False):
+        """The lines of the bus, where these words are one with the first good one, or two data lines touch."""
+        at = self.good()
+        if at is None:
+            return []
+        found = ["data lines touch"] if touches else [f"{at:06o} and {it:06o} are one word" for it in same]
+        return [*found, f"tested the bus at {at:06o}, beside {0 if touches else len(self.around(at))} words"]
+
+    def report(self, before, end="Tested", count=None, named=None, bus=None):
         """The whole report, where memory read so before: of so many words, if not of all, and with a word that is to be looked at."""
         tested = self.tested()[:count]
         bad = [it for it in tested if bad_bits(it, self.faults)]
         words = [told(it, before[it // 2], self.faults) for it in bad[:8]] + ([f"and {len(bad) - 8} more"] if len(bad) > 8 else [])
         look_at = [f"the word at {it:06o} held {before[it // 2]:06o}, now look at it" for it in ([] if named is None else [named])]
-        lines = [HEADER, *self.rows(count), *words, f"tested {len(tested)} words, {len(bad)} do not hold", *look_at, f"end {end}"]
+        bus = (self.bus() if end == "Tested" else []) if bus is None else bus
+        lines = [HEADER, *self.rows(count), *words, f"tested {len(tested)} words, {len(bad)} do not hold", *bus, *look_at, f"end {end}"]
         return "".join(f"{it}\n" for it in lines)
 
     def words(self):
@@ -235,12 +257,13 @@ def any_test(chance):
 class ChipCase(Case):
     """Tests of memories."""
 
-    def is_harmless(self, line, before, but=()):
-        """Asserts that nothing was typed that starts anything; that each number that was stored is what the word held, or its complement; and
-        that each word reads what it did, but for some."""
+    def is_harmless(self, line, before, but=(), bus=None):
+        """Asserts that nothing was typed that starts anything; that each number that was stored is what the word held, or its complement, or,
+        where a bus is tested, one of the numbers of that; and that each word reads what it did, but for some."""
         machine = line.machine
         self.is_so((re.findall(r"[^0-7/\rZ]", machine.typed), machine.starts), ([], []))
         for address, value in machine.words.stored:
             held = before[address // 2]
-            self.assertIn(value, (held, held ^ 0o177777), f"{address:06o}")
+            numbers = (*NUMBERS[:3], OTHER_NUMBER if held == NUMBERS[3] else NUMBERS[3]) if address == bus else ()
+            self.assertIn(value, (held, held ^ 0o177777, *numbers), f"{address:06o}")
         self.assertLessEqual(set(changed(machine, before)), set(but))

@@ -53,7 +53,7 @@ class Command(NamedTuple):
 MORE = {
     "load": {"end": "Started", "sent": 16, "counts": "verified {} of 1"},
     "verify": {"end": "Same", "sent": 9, "counts": "looked {} of 1 differ 0"},
-    "save": {"end": "Saved", "sent": 9, "counts": "read {} of 1"},
+    "save": {"end": "Saved", "sent": 17, "counts": "read {} of 1"},
     "probe": {"end": "Probed", "unanswered": 'prompt no\nheard nothing\nhelp: docs/REAL-MACHINE.md, "Nothing answers"\nend NoPrompt\n'},
     "memory": {"end": "Tested", "unanswered": Test(0o1000, 0o1000, 1).report({}, "GaveUp", 0)},
     "make": {"keys": b"1000/11064\n"},
@@ -172,5 +172,5 @@ RUNS = (
     Run("load first.lda LINE --listen 1", SilentStart, 30, "verified 1 of 1", "Uncertain", 6),
     Run("load first.lda LINE", StubbornConsole, 22, "verified 0 of 1", "WontHold 001000", 5),
     Run("load first.lda LINE", FalteringConsole, 30, "verified 1 of 1", "LineFailed", 4, START_IN_DOUBT, TO_START),
-    Run("verify first.lda LINE", holding(0o011065), 9, "looked 1 of 1 differ 1", "Differs", 1, listed="001000 177777 011064 differs 011065\n"),
+    Run("verify first.lda LINE", holding(0o011065), 17, "looked 1 of 1 differ 1", "Differs", 1, listed="001000 177777 011064 differs 011065\n"),
 )

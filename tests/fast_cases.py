@@ -199,6 +199,9 @@ class Model:
             if self.why:
                 break
             in_vain = in_vain + 1 if self.verified == before else 0
+        if self.end:
+            self.ends_part()
+            return self
         return self.ordinary()
 
     def visit_all(self, words, counted=False):
@@ -244,7 +247,8 @@ class Model:
         sounded = [self.words[at] for at in between if (at - self.verified) % SOUNDED == SOUNDED - 1 or at == window - 1]
         stub = [Word(place + 2 * number, 0o177777, word) for number, word in enumerate(stub_words(place, stretches))]
         if end := self.visit_all([*sounded, *stub]):
-            return f"word {end[7:]} did not answer" if end.startswith("NoWord") else "the stub did not start"
+            self.end = end if end.startswith("NoWord") else None
+            return self.end or "the stub did not start"
         self.says(f"{place:06o}G", 7)
         self.stubs.append(place)
         self.ends_part()

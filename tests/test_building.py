@@ -31,7 +31,7 @@ if name in meeting:
     open(f"{os.environ['NOTES']}.{name}", "w").close()
     while time.monotonic() < began + 20 and not all(os.path.exists(f"{os.environ['NOTES']}.{it}") for it in meeting):
         time.sleep(0.05)
-time.sleep(0.2)
+time.sleep(1.5 if "slow" in text else 0.2)
 os.makedirs(f"out/incremental", exist_ok=True)
 if "wrong" in text:
     print(f"fn {name}::wrong: not proved")
@@ -182,6 +182,16 @@ class Building(Case):
         self.assertIn("== left\nfn left::wrong: not proved\n", ran.stdout)
         self.assertEqual(os.listdir(f"{self.top}/crates/left/out"), ["incremental"])
         self.assertEqual([self.is_built(it) for it in ("low", "left", "right", "top")], [True, False, True, False])
+
+    def test_one_that_is_not_proved_beside_another(self):
+        """Which ends later, and well: nothing is begun behind it, and it is not all built."""
+        with open(f"{self.top}/crates.txt", "a", encoding="utf-8") as file:
+            file.write("over: top\n")
+        self.write("over", CODE)
+        self.write("left", "fn wrong() {}\n" * 9)
+        self.write("right", "fn slow() {}\n" * 9)
+        ran, notes = self.build("over", "2")
+        self.assertEqual((ran.returncode, sorted(notes)), (1, ["low", "right"]))
 
     def test_an_interrupt_loses_nothing_that_was_kept(self):
         os.makedirs(f"{self.top}/crates/low/out/incremental/earlier")

@@ -1,12 +1,12 @@
 """The tools that try the program from outside, in a small tree of their own: what they leave out is said by name and counted, and
-another program can be tried."""
+another program can be tried; and those that build it and call these, with an `rt` that proves nothing."""
 import os
 import shutil
 import subprocess
 import unittest
 
 from cases import Case
-from outside import TOP
+from outside import TOP, bytes_of
 
 # Tests that are right, that are skipped in one way and another, and one that is right or wrong by what ./ldaodt says.
 SMALL = '''
@@ -124,6 +124,30 @@ class Tests(Tree):
             status, lines, said = self.runs("check-tests", "--leave-out", self.path("list"))
             self.assertEqual((status, lines, said), (1, [], f"check-tests: {self.path('list')} names no test: {name}\n"))
 
+    def test_a_test_that_was_not_run_is_wrong(self):
+        """A skip of its whole class, once that began, says of no test why."""
+        self.put("tests/cases.py", b"PATIENT_QUIET = 1\nclass Case:\n    pass\n")
+        skips = "    @classmethod\n    def setUpClass(cls):\n        raise unittest.SkipTest()\n\n"
+        self.put("tests/test_small.py", SMALL.replace("    def test_right", f"{skips}    def test_right").encode())
+        status, lines, _ = self.runs("check-tests")
+        self.assertEqual(status, 1)
+        self.assertRegex("\n".join(lines), "\nRan 5 tests in 1 files, .* 5 wrong;")
+
+    def test_a_test_without_end_is_ended(self):
+        """And what it waits for is named. Its time is made two seconds here."""
+        with open(self.path("tools/check-tests"), "r+", encoding="utf-8") as tool:
+            text = tool.read()
+            self.assertEqual(text.count("\nTIME = 600\n"), 1)
+            tool.seek(0)
+            tool.write(text.replace("\nTIME = 600\n", "\nTIME = 2  \n"))
+        self.put("tests/cases.py", b"PATIENT_QUIET = 1\nclass Case:\n    pass\n")
+        self.put_script("ldaodt", "exec sleep 50")
+        status, lines, _ = self.runs("check-tests")
+        self.assertEqual(status, 1)
+        self.assertIn("TimeoutError: no end within 2 seconds", lines)
+        self.assertIn("has not ended: sleep 50 ", lines)
+        self.closes(lines, "Ran 5 tests in 1 files, 3 left out, 1 wrong")
+
     def test_a_file_without_a_test_is_wrong(self):
         self.put("tests/test_small.py", b"")
         status, lines, _ = self.runs("check-tests")
@@ -175,6 +199,127 @@ class Program(Tree):
             self.assertEqual(self.runs("check-program", *words), (2, [], f"check-program: {why}\n"))
         os.remove(self.path("ldaodt"))
         self.assertEqual(self.runs("check-program"), (2, [], "check-program: there is no ./ldaodt yet: run make first\n"))
+
+
+class Transcripts(Tree):
+    """tools/check-transcripts, of a page that is all there is."""
+
+    def setUp(self):
+        super().setUp()
+        for name in ("check-transcripts", "outside.py"):
+            shutil.copy(f"{TOP}/tools/{name}", self.path(f"tools/{name}"))
+        self.put_script("ldaodt", "echo well; echo 'ldaodt: ill' >&2; exit 3")
+
+    def verdicts(self, text):
+        """What becomes of a page: the status, the places that are wrong, and the last line."""
+        self.put("docs/a.md", text.encode())
+        status, lines, _ = self.runs("check-transcripts", self.path("docs/a.md"))
+        return status, [it.split(": ")[0] for it in lines if it.startswith("WRONG")], lines[-1]
+
+    def test_all_that_is_right(self):
+        """Also a command's faults, which stand behind what it prints, and its status, which is asked for."""
+        page = "```\n$ ./ldaodt\nwell\nldaodt: ill\n$ echo $?\n3\n$ printf 'a\\r\\n'; cat /dev/null\na\n```\n\n```\nno transcript\n```\n"
+        self.assertEqual(self.verdicts(page), (0, [], "1 transcripts run, 0 left out, 0 wrong"))
+
+    def test_all_that_is_wrong(self):
+        """Each in a block of its own: other text, a last line without an end, a fault that is not shown, or on the other stream, and a status that
+        is not asked for."""
+        blocks = ("echo a\nb", "printf a\na", "echo a\na\n", "./ldaodt\nwell\n$ echo $?\n3", "echo 'ldaodt: ill'\nldaodt: ill",
+                  "(exit 1)", "(exit 2)", "echo a; (exit 77)\na")
+        page = "".join(f"```\n$ {it}\n```\n" for it in blocks)
+        places = [f"WRONG  docs/a.md:{page[:page.index(f'$ {it}{chr(10)}```')].count(chr(10)) + 1}" for it in blocks]
+        self.assertEqual(self.verdicts(page), (1, places, f"{len(blocks)} transcripts run, 0 left out, {len(blocks)} wrong"))
+
+    def test_what_nobody_would_run(self):
+        """A command in no block, in a block of something else, and a block without an end."""
+        right = "```\n$ echo a\na\n```\n"
+        for more, line in (("$ echo b\n", 5), ("```\nb\n$ echo b\n```\n", 7), ("> $ echo b\n", 5), ("```\nb\n", 7)):
+            with self.subTest(more):
+                self.assertEqual(self.verdicts(right + more), (1, [f"WRONG  docs/a.md:{line}"], "1 transcripts run, 0 left out, 1 wrong"))
+
+    def test_a_page_without_one(self):
+        self.assertEqual(self.verdicts("nothing\n"), (1, [], "0 transcripts run, 0 left out, 0 wrong"))
+
+
+class Around(Tree):
+    """tools/build, tools/gate and tools/edits."""
+
+    def setUp(self):
+        super().setUp()
+        for name in ("build", "gate", "edits", "lanes"):
+            shutil.copy(f"{TOP}/tools/{name}", self.path(f"tools/{name}"))
+        for folder in ("bin", "crates/ldaodt", "crates/ldaodt/out", "crates/a", "crates/a/must-fail", "crates/a/more-edits"):
+            os.mkdir(self.path(folder))
+        self.put("examples/first.lda", b"")
+        for name in ("must-fail/first", "more-edits/second", "more-edits/third"):
+            self.put(f"crates/a/{name}.edit", b"")
+        self.put_script("tools/prove-below", "echo below >> notes")
+        self.put_script("tools/check-program", "echo checked >> notes; exit $WRONG")
+        self.put_script("crates/ldaodt/out/ldaodt", "echo new")
+
+    def run_with(self, tool, *words, rt="echo '3 passed, 0 failed'", wrong=0):
+        """Runs a tool with an rt that does this, or without one."""
+        path = "/usr/bin:/bin"
+        if rt is not None:
+            self.put_script("bin/rt", f'echo "rt $*" >> {self.path("notes")}; {rt}')
+            path = f"{self.path('bin')}:{path}"
+        ran = subprocess.run([self.path(f"tools/{tool}"), *words], cwd="/", env={**os.environ, "PATH": path, "WRONG": str(wrong)},
+                             stdin=subprocess.DEVNULL, capture_output=True, text=True, timeout=60)
+        notes = bytes_of(self.path("notes")).decode().splitlines()
+        self.put("notes", b"")
+        return ran.returncode, ran.stdout.splitlines(), ran.stderr, notes
+
+    def program(self):
+        return bytes_of(self.path("ldaodt")).decode().splitlines()[-1]
+
+    def test_a_gate_that_is_passed(self):
+        status, lines, _, notes = self.run_with("gate", "--anew")
+        self.assertEqual((status, lines[-1], notes, self.program()), (0, "3 passed, 0 failed", ["rt ci --anew", "checked"], "echo new"))
+
+    def test_a_gate_that_the_program_does_not_pass(self):
+        status, lines, _, notes = self.run_with("gate", wrong=1)
+        self.assertEqual((status, lines[-1], notes), (1, "3 passed, 1 failed", ["rt ci", "checked"]))
+
+    def test_a_gate_that_the_proofs_do_not_pass(self):
+        """The program is left alone, and not tried."""
+        status, lines, _, notes = self.run_with("gate", rt="echo '2 passed, 1 failed'; exit 5")
+        self.assertEqual((status, lines[-1], notes, self.program()), (5, "2 passed, 1 failed", ["rt ci"], "echo well"))
+
+    def test_edits_that_the_gate_has_no_time_for(self):
+        """They alone are tried, in a copy."""
+        subprocess.run(["git", "init", "-q", self.room], check=True)
+        listing = "ls crates/a/must-fail | tr '\\n' ' '; pwd"
+        status, lines, _, notes = self.run_with("edits", rt=listing)
+        self.assertEqual((status, lines[0].split()[:2], notes), (0, ["second.edit", "third.edit"], ["rt ci a"]))
+        self.assertNotIn(self.room, lines[0])
+        self.assertEqual(sorted(os.listdir(self.path("crates/a/must-fail"))), ["first.edit"])
+        for rt, wanted in (("echo 'BAD EDIT crates/a/must-fail/second.edit'", 1), ("exit 4", 4)):
+            self.assertEqual(self.run_with("edits", "a", rt=rt)[0], wanted)
+
+    def test_a_program_that_is_built(self):
+        """What is below it is proved first where there is no program yet. One that runs is replaced, and one that is the same is left alone."""
+        self.assertEqual(self.run_with("build", "3")[::3], (0, ["rt run"]))
+        self.assertEqual(self.program(), "echo new")
+        before = os.stat(self.path("ldaodt")).st_mtime_ns
+        self.run_with("build")
+        self.assertEqual(os.stat(self.path("ldaodt")).st_mtime_ns, before)
+        os.remove(self.path("ldaodt"))
+        status, lines, _, notes = self.run_with("build", "3")
+        self.assertEqual((status, lines[-1], notes, self.program()), (0, "./ldaodt is proved and built", ["below", "rt run --jobs 3"], "echo new"))
+        shutil.copy(shutil.which("sleep"), self.path("ldaodt"))
+        running = subprocess.Popen([self.path("ldaodt"), "60"])
+        self.addCleanup(self.let_go, running)
+        self.assertEqual((self.run_with("build")[0], self.program()), (0, "echo new"))
+
+    def test_a_program_that_is_not_proved(self):
+        self.assertEqual(self.run_with("build", rt="exit 6")[0], 6)
+        self.assertEqual(self.program(), "echo well")
+
+    def test_without_the_toolchain(self):
+        """A program that is there is taken as it is."""
+        self.assertEqual(self.run_with("build", rt=None)[0], 0)
+        os.remove(self.path("ldaodt"))
+        self.assertEqual([self.run_with(it, rt=None)[0] for it in ("build", "gate", "edits")], [1, 1, 1])
 
 
 if __name__ == "__main__":

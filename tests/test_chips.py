@@ -1,5 +1,6 @@
 """`ldaodt memory`: the picture of bad chips, boards and lines, beside what is worked out from the list of what is bad; lines that lose and
 break, and runs that are killed at each stage; and that no good word is another one afterwards."""
+import itertools
 import re
 import signal
 import subprocess
@@ -8,7 +9,7 @@ import unittest
 from concurrent.futures import ThreadPoolExecutor
 
 from cases import StoringConsole, heed_signals
-from chip_cases import (BANK, BITS, EVERY, HEADER, WORDS, ChipCase, ChipConsole, Chips, Fault, Test, changed, chip, named_in, row,
+from chip_cases import (BANK, BITS, EVERY, HEADER, LINES, NUMBERS, WORDS, ChipCase, ChipConsole, Chips, Fault, Test, changed, chip, named_in, row,
                         shown_at_last, word)
 from outside import PROGRAM, line_failed
 from paced_line import PacedLine, PacedMachine
@@ -22,6 +23,7 @@ FEW = 1024
 # looked at, put back and looked at. The characters of both ways: of the trial's first look, and of all of it; of `Z`; of a word, up to where
 # its number is known, and up to where it is tested.
 TRIAL, KEYS = 30, 44
+DEPOSIT, LOOK = 22, 8
 LOOKED, TRIED, PROMPTED, WORD, KNOWN, DONE = 30, 97, 5, 124, 46, 120
 
 
@@ -40,7 +42,7 @@ class Chip(ChipCase):
         """Asserts that all of a test is right."""
         line, before, given = self.tried(test, line, more, **named)
         self.ends(given, int(bool(test.bad())), test.report(before))
-        self.is_harmless(line, before)
+        self.is_harmless(line, before, bus=test.good())
         return line
 
     def at_once(self, trial, rows, threads=8):
@@ -122,7 +124,8 @@ class Pictures(Chip):
             with self.subTest(every):
                 line = self.is_shown(Test(first, last, every))
                 opened = {int(it, 8) for it in re.findall(r"([0-7]{6})/", line.machine.typed)}
-                self.is_so(sorted(opened - set(range(first, last + 1, 2 * every)) ), [])
+                around = Test(first, last).around(first) if every == 1 else ()
+                self.is_so(sorted(opened - {*range(first, last + 1, 2 * every), *around}), [])
 
     def test_a_range_over_two_banks(self):
         self.is_shown(Test(0o17770, 0o20006, 1, (word(0o17774, 1, "0"), word(0o20000, 12, "1"))))
@@ -136,7 +139,7 @@ class Flickering(Chip):
     def shown(self, *wrong_looks):
         fault = word(0o1004, 6, "x", *wrong_looks)
         line, before, given = self.tried(self.TEST._replace(faults=(fault,)))
-        self.is_harmless(line, before)
+        self.is_harmless(line, before, bus=FIRST)
         return given, before[0o1004 // 2]
 
     def test_when_it_is_put_back(self):
@@ -145,7 +148,8 @@ class Flickering(Chip):
         text = self.TEST._replace(faults=(word(0o1004, 6, "x"),))
         line = f"001004 held {held:06o}; {turned:06o} reads {turned:06o}, {held:06o} reads {held ^ 1 << 6:06o}\n"
         rows = "".join(f"{it}\n" for it in (HEADER, *text.rows()))
-        self.ends(given, 1, f"{rows}{line}tested 4 words, 1 do not hold\nend Tested\n")
+        bus = "".join(f"{it}\n" for it in text.bus())
+        self.ends(given, 1, f"{rows}{line}tested 4 words, 1 do not hold\n{bus}end Tested\n")
 
     def test_when_it_is_turned_over(self):
         """It shows as one that always reads the same."""
@@ -192,6 +196,79 @@ class Losses(Chip):
             self.is_so((given.status, given.out.split("\n")[-2], given.err), (5, "end GaveUp", ""))
 
         self.at_once(trial, range(24), threads=16)
+
+
+class Bus(Chip):
+    """Address lines that make no difference, and data lines that touch, where each word of a range is tested."""
+
+    def bus_tried(self, test, status, found, **chips):
+        """Asserts that a bus is told so, and that each word reads again what it did."""
+        line = self.console_at(ChipConsole(Chips(test.faults, test.missing, test.count, **chips)))
+        if "touching" in chips:
+            # Cleared memory: by itself each word holds.
+            line.machine.words.cells = [0] * test.count
+        before = line.machine.words.readings()
+        given = self.ldaodt(self.words_at(line, test.words()))
+        line.settle()
+        self.ends(given, status, test.report(before, bus=found))
+        self.is_harmless(line, before, bus=test.good())
+
+    def test_each_address_line(self):
+        """Each makes no difference, once."""
+        def trial(line):
+            test = Test(0, 0, 1)
+            self.bus_tried(test, 1, test.bus([1 << line]), dead=(line,))
+
+        self.at_once(trial, range(1, LINES))
+
+    def test_lines_beside_a_word_that_has_their_bits(self):
+        """Also those whose bit is 1 in the word at which the bus is tested."""
+        def trial(line):
+            test = Test(0o52524, 0o52524, 1)
+            self.bus_tried(test, 1, test.bus([0o52524 ^ 1 << line]), dead=(line,))
+
+        self.at_once(trial, range(1, LINES - 1))
+
+    def test_two_address_lines(self):
+        test = Test(FIRST, FIRST + 2, 1)
+        self.bus_tried(test, 1, test.bus([0, FIRST ^ 1 << 13]), dead=(9, 13))
+
+    def test_two_data_lines(self):
+        """Each two of them."""
+        test = Test(0, 0, 1, count=256)
+        self.at_once(lambda two: self.bus_tried(test, 1, test.bus(touches=True), touching=two), itertools.combinations(range(BITS), 2), threads=16)
+
+    def test_a_dead_bank_at_the_first_word(self):
+        """The bus is tested behind it."""
+        faults = tuple(chip(0, bit, "0") for bit in range(BITS))
+        self.is_shown(Test(2 * BANK - 4, 2 * BANK + 2, 1, faults))
+        self.is_shown(Test(2 * BANK - 4, 2 * BANK + 2, 1, missing=(0,)))
+
+    def test_words_that_hold_the_mark(self):
+        """They are no other ones for that."""
+        line = self.console_at(ChipConsole(Chips()))
+        line.machine.words.cells[0o2000 // 2] = line.machine.words.cells[0o4000 // 2] = NUMBERS[3]
+        test = Test(0, 2, 1)
+        self.is_shown(test, line=line)
+
+    def test_a_word_that_holds_the_mark_itself(self):
+        line = self.console_at(ChipConsole(Chips()))
+        line.machine.words.cells[0] = NUMBERS[3]
+        self.is_shown(Test(0, 2, 1), line=line)
+
+    def test_losses(self):
+        """Of one of a hundred characters both ways."""
+        def trial(seed):
+            test = Test(FIRST, FIRST + 2, 1, count=FEW)
+            dead = (1 + seed % 8,) if seed % 2 else ()
+            line = self.console_at(ChipConsole(Chips(count=FEW, seed=seed, dead=dead)), loss=0.01, seed=seed)
+            before = line.machine.words.readings()
+            given = self.ldaodt(self.words_at(line, f"{test.words()} --patience 1000"))
+            line.settle()
+            self.ends(given, int(bool(dead)), test.report(before, bus=test.bus([FIRST ^ 1 << it for it in dead])))
+            self.is_harmless(line, before, bus=FIRST)
+
+        self.at_once(trial, range(16), threads=16)
 
 
 class KillingConsole(ChipConsole):
@@ -250,6 +327,20 @@ class Ends(Chip):
         """Of the trial and of two words."""
         self.at_once(lambda keys: self.is_named(keys, signal.SIGKILL), range(1, TRIAL + 1 + 2 * KEYS))
 
+    def test_a_kill_at_each_key_of_the_bus(self):
+        """Of the numbers that are deposited, the looks around the word, and the old number that is put back: only the word is another one, and
+        it is named."""
+        def trial(keys):
+            line, before, ended, shown = self.killed(keys, signal.SIGKILL)
+            self.is_so(ended, (-signal.SIGKILL, b""))
+            other, named = changed(line.machine, before), shown_at_last(shown)
+            self.is_harmless(line, before, named, bus=FIRST)
+            self.is_so(({it: before[it // 2] for it in named}, other in ([], [FIRST])), (named, True))
+
+        # `Z` and 22 keys for each number; for each address line 8, one of which is a `Z` where nothing answers.
+        begun = TRIAL + 1 + 2 * KEYS
+        self.at_once(trial, range(begun + 1, begun + 1 + 5 * (1 + DEPOSIT) + LOOK * (LINES - 1), 2), threads=16)
+
     def test_an_interrupt(self):
         self.at_once(lambda keys: self.is_named(keys, signal.SIGINT), range(TRIAL + 4, TRIAL + 2 + KEYS, 5))
 
@@ -288,8 +379,9 @@ class Ends(Chip):
         for looks in range(2):
             line, before, given = self.going(looks)
             rows = f"{HEADER}\n{row(0, [FIRST], ())}   no memory at 001002\n"
-            self.ends(given, 0, f"{rows}tested 1 words, 0 do not hold\nend Tested\n")
-            self.is_harmless(line, before)
+            bus = f"tested the bus at {FIRST:06o}, beside {len(Test(count=FEW).around(FIRST)) - 1} words\n"
+            self.ends(given, 0, f"{rows}tested 1 words, 0 do not hold\n{bus}end Tested\n")
+            self.is_harmless(line, before, bus=FIRST)
 
     def test_a_word_that_goes_in_the_middle(self):
         """What it held is told."""

@@ -113,6 +113,23 @@ class Numbers(Case):
                     else:
                         self.is_so((given.status, given.out, given.err.startswith("error: ")), (2, "", True))
 
+    def test_a_look_bears_more_mishaps(self):
+        """What is read of a machine over a bad line wants a hundred times as many. A tape without words needs no console."""
+        self.put_tapes("no-word.lda")
+        for value in (0, 1000, 1001, 65535, 65536, 99999, 100000, 100001, 2 ** 32, 2 ** 64):
+            with self.subTest(value=value):
+                given = self.ldaodt(f"verify no-word.lda 127.0.0.1:1 --patience {value}")
+                if value <= 100000:
+                    self.ends(given, 0, "sent 0 spent 0 looked 0 of 0 differ 0\nend Same\n")
+                else:
+                    self.is_so((given.status, given.out, given.err.startswith("error: ")), (2, "", True))
+
+    def test_a_save_goes_on_behind_a_thousand_mishaps(self):
+        """A console that answers nothing gets one key for each."""
+        peer = self.console_at(DeafConsole())
+        given = self.ldaodt(["save", "a.lda", peer.address, "0", "2", "--quiet", "1", "--patience", "1200"])
+        self.ends(given, 5, "sent 1201 spent 1200 read 0 of 2\nend GaveUp\n")
+
     def test_machines_of_every_size_and_style(self):
         """The last word of a machine's memory is there, and the one behind it is not."""
         sizes = sorted({0, 28672, *(power + by for exponent in range(15) for power in (2 ** exponent,) for by in (-1, 0, 1)), 100, 1000, 10000, 20000})

@@ -240,20 +240,22 @@ class NotServed(FastCase):
         self.is_ordinary(image, "no room for the stub in this tape")
 
     def test_memory_that_ends_inside_the_image(self):
-        """The sounding finds that out; the load goes on to where memory ends, and ends there as without the option."""
+        """The sounding finds that out, and the load ends there, with no word below it typed; without the option it is typed up to
+        memory's end."""
         image = image_of(400)
         # Memory ends behind 300 of them, before the sounding at the last word before the window.
         words = START // 2 + 300
         self.put_tape("a.lda", image)
-        ends = {}
-        for option in ("", " --fast"):
-            peer = self.console_at(FastConsole(image, words=words))
-            model = Model(words_of(image), [BACKGROUND] * words)
-            self.went_as(model.fast() if option else model.ordinary(), peer, self.load(peer, "a.lda" + option))
-            ends[option] = model.end, list(peer.machine.words)
-        self.is_so(ends[""], ends[" --fast"])
-        self.is_so(model.why, f"word {START + 2 * (400 - ONE_STRETCH - 1):06o} did not answer")
-        self.assertIn(model.why, self.told(image, " --fast", words))
+        last = f"{START + 2 * 399:06o}"
+        for option, lacking in (("", START + 2 * 300), (" --fast", START + 2 * (400 - ONE_STRETCH - 1))):
+            with self.subTest(option):
+                peer = self.console_at(FastConsole(image, words=words))
+                model = Model(words_of(image), [BACKGROUND] * words)
+                self.went_as(model.fast() if option else model.ordinary(), peer, self.load(peer, "a.lda" + option))
+                self.is_so(model.end, f"NoWord {lacking:06o}")
+                told = self.told(image, option, words)
+                self.assertIn(f"no word at {lacking:06o}, and the tape goes up to {last}: 'ldaodt probe LINE' says where memory ends\r\n", told)
+                self.assertNotIn("did not serve", told)
 
     def test_memory_that_ends_inside_the_stub(self):
         image = image_of(400)
@@ -263,13 +265,15 @@ class NotServed(FastCase):
         model = Model(words_of(image), [BACKGROUND] * words).fast()
         self.went_as(model, peer, self.load(peer))
         self.is_so((model.end, model.stubs), (f"NoWord {2 * words:06o}", []))
-        self.is_so(list(peer.machine.words), memory_with(image, 4096)[:words])
+        # The words of the stub alone were typed, and the sounding.
+        loaded = memory_with(image, 4096)[:words]
+        self.is_so([at for at in range(START // 2, words - 30 - 1) if peer.machine.words[at] == loaded[at]], [])
 
     def test_a_stub_that_serves_is_not_told_of(self):
         image = image_of(400)
         self.put_tape("a.lda", image)
         told = self.told(image, " --fast")
-        for why in ("too few words", "no room", "did not answer", "did not start"):
+        for why in ("too few words", "no room", "did not serve", "did not start"):
             self.assertNotIn(why, told)
         self.assertIn("stub", told)
 

@@ -155,7 +155,7 @@ class BadMemory(SmallLoads):
         self.is_so((model.end, peer.machine.starts), ("Started", [PLACE] * 3 + [START]))
         peer = halting()
         _, told = self.at_a_terminal(lambda terminal: self.load(peer, stderr=terminal))
-        self.assertIn("--fast did not serve: three stubs took no word", told)
+        self.assertIn("--fast did not serve: three stubs took no word: is the HALT switch at ENABLE?", told)
 
 
 class Losses(SmallLoads):

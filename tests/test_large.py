@@ -105,11 +105,11 @@ SIZES = (1, 1000, 8191, 8192, 20000, WORDS)
 LEFT = 20
 
 
-def at_a_console(room, memory, words):
+def at_a_console(room, memory, command, words=WORDS):
     """Runs a command at a console of its own that has these words, in a process of its own, since four are faster so;
     the quiet time is far above what a busy computer needs. Returns the answer and the starts."""
-    peer = odt_peer.Peer(Console(memory=memory), at_once=True)
-    given = run([word.replace("LINE", peer.name) for word in words.split()] + ["--quiet", "2000"], cwd=room, seconds=400)
+    peer = odt_peer.Peer(Console(words=words, memory=memory), at_once=True)
+    given = run([word.replace("LINE", peer.name) for word in command.split()] + ["--quiet", "2000"], cwd=room, seconds=400)
     peer.close()
     return given, peer.machine.starts
 
@@ -168,16 +168,78 @@ class Sizes(Case):
     def test_looks(self):
         """All words differ from memory, which is zero; all of it is saved."""
         differs = "".join(f"{address:06o} 177777 {value:06o} differs 000000\n" for address, value in IMAGE[:8192])
-        report = f"sent {1 + 8 * 8192} spent 0 looked 8192 of 8192 differ 8192\nend Differs\n"
-        saved = lambda words: Answer(0, f"sent {1 + 8 * words} spent 0 read {words} of {words}\nend Saved\n", "")
+        report = f"sent {1 + 16 * 8192} spent 0 looked 8192 of 8192 differ 8192\nend Differs\n"
+        saved = lambda words: Answer(0, f"sent {1 + 16 * words} spent 0 read {words} of {words}\nend Saved\n", "")
+        stand = Answer(0, f"sent {1 + 8 * WORDS} spent 0 looked {WORDS} of {WORDS} differ 0\nend Same\n", "")
         self.all_end([
             (dict(IMAGE), "save all.lda LINE 0 157776", saved(WORDS), []),
+            (dict(IMAGE), f"verify {WORDS}.lda LINE", stand, []),
             ({}, "verify 8192.lda LINE", Answer(1, differs + report, ""), []),
             (dict(IMAGE), "save saved.lda LINE 0 37776", saved(8192), []),
         ])
         for name, count in (("saved.lda", 8192), ("all.lda", WORDS)):
             words = "".join(f"{address:06o} 177777 {value:06o}\n" for address, value in IMAGE[:count])
             self.is_so(self.ldaodt(f"check {name}").out.split("words ", 1)[1], f"{count}\n{words}")
+
+
+class Parts(Case):
+    """A save of all of memory that goes on behind what an earlier one left."""
+
+    def test_it_goes_on_behind_many_blocks(self):
+        """Behind 33 of 112 blocks of 256 words, and behind all but the last: eight words are looked at once, and the rest is looked at twice."""
+        blocks = [(first, b"".join(value.to_bytes(2, "little") for _, value in IMAGE[first // 2:first // 2 + 256])) for first in range(0, 2 * WORDS, 512)]
+        tape = tape_of(blocks)
+        for count in (33, len(blocks) - 1):
+            with self.subTest(count):
+                self.put(f"{count}.lda.part", tape[:519 * count] + bytes(len(tape) - 519 * count))
+                given, _ = at_a_console(self.room, dict(IMAGE), f"save {count}.lda LINE 0 157776")
+                sent = 1 + 8 * 8 + 1 + 2 * 8 * (WORDS - 256 * count)
+                self.ends(given, 0, f"sent {sent} spent 0 read {WORDS} of {WORDS}\nend Saved\n")
+                self.is_so(bytes_of(self.path(f"{count}.lda")), tape)
+
+
+class Memory(Case):
+    """A test of as many words as there may be."""
+
+    def test_all_words(self):
+        """Of a memory that ends behind the first 64, so that no other answers."""
+        given, _ = at_a_console(self.room, dict(IMAGE[:64]), "memory LINE 0 157776", words=64)
+        rows = given.out.splitlines()
+        self.is_so((given.status, "tested 64 words, 0 do not hold" in rows, rows[-1], rows[1].endswith("   no memory at 000200")), (0, True, "end Tested", True))
+
+
+class ManyTapes(Case):
+    """Eleven tapes, each of 33 blocks."""
+
+    def setUp(self):
+        super().setUp()
+        self.words = {2 * number: number + 1 for number in range(11 * 33)}
+        self.names = [f"{tape}.lda" for tape in range(11)]
+        self.tapes = [[(2 * number, (number + 1).to_bytes(2, "little")) for number in range(33 * tape, 33 * tape + 33)] for tape in range(11)]
+        for name, tape in zip(self.names, self.tapes):
+            self.put(name, tape_of(tape))
+        self.put("clean.script", b"clean\n")
+
+    def test_those_about_no_machine(self):
+        words = "".join(f"{address:06o} 177777 {value:06o}\n" for address, value in self.words.items())
+        checked = "blocks 33 data 66 read 304\nno start 000001\ncanonical yes\n" * 11 + f"words {len(self.words)}\n{words}"
+        self.ends(self.ldaodt(["check", *self.names]), 0, checked)
+        listed = "".join(f"tape {number}\n" + "".join(
+            f"block {place} at {9 * (place - 1)} {address:06o} to {address + 1:06o} bytes 2\n" for place, (address, _) in enumerate(tape, 1))
+            for number, tape in enumerate(self.tapes, 1))
+        self.ends(self.ldaodt(["check", "--blocks", *self.names]), 0, f"{listed}addresses 000000 to {2 * len(self.words) - 1:06o}\nstart of tape 11\n{checked}")
+        for command in (["dialogue", *self.names], ["rehearse", self.names[0], "clean.script", *self.names[1:]]):
+            given = self.ldaodt(command)
+            stands = "".join(f"{address:06o} {value:06o} stands\n" for address, value in self.words.items())
+            self.is_so((given.status, given.err, given.out.endswith(f"end Loaded\nodt Prompt\n{stands}")), (0, "", True))
+
+    def test_those_at_a_machine(self):
+        """Each word has 22 keys, and 8 where it stands."""
+        count = len(self.words)
+        load, verify = (" ".join([name, self.names[0], "LINE", *self.names[1:]]) for name in ("load", "verify"))
+        for memory, words, report in (({}, load, f"sent {1 + 22 * count} spent 0 verified {count} of {count}\nend Loaded\n"),
+                                      (self.words, verify, f"sent {1 + 8 * count} spent 0 looked {count} of {count} differ 0\nend Same\n")):
+            self.ends(at_a_console(self.room, memory, words)[0], 0, report)
 
 
 class SmallBlocks(Case):

@@ -55,8 +55,8 @@ class Logs(Case):
         *before, last = given.err.splitlines(True)
         found = re.fullmatch(r"(\d{4}-\d\d-\d\dT\d\d:\d\d:\d\dZ) (.*)\n", last)
         self.assertTrue(found, repr(given.err))
-        moment = calendar.timegm(time.strptime(found[1], "%Y-%m-%dT%H:%M:%SZ"))
-        self.assertTrue(int(self.begun) <= moment <= time.time(), (self.begun, found[1], time.time()))
+        self.moment = calendar.timegm(time.strptime(found[1], "%Y-%m-%dT%H:%M:%SZ"))
+        self.assertTrue(int(self.begun) <= self.moment <= time.time(), (self.begun, found[1], time.time()))
         return given._replace(err="".join(before)), found[2]
 
     def logged(self, words):
@@ -132,6 +132,12 @@ class AtAConsole(Logs):
             self.is_so((given.status, given.out[:len(REPORT)], given.err), (0, REPORT, ""))
             self.assertIn("end Stale 001000\r\nsent 9 spent 9\r\n", given.out)
             self.is_so(log, f"load first.lda LINE status 0 {STARTED}")
+
+    def test_the_time_is_that_of_its_end(self):
+        """And not when it began, or when it was connected: it is listened to for some seconds."""
+        given, _ = self.logged_at("load first.lda LINE --listen 3", Console())
+        self.is_so(given.status, 0)
+        self.assertGreaterEqual(self.moment - int(self.begun), 3)
 
     def test_a_terminal(self):
         """The line comes behind all that is shown there."""

@@ -24,12 +24,18 @@ FAILED = line_failed("closed")
 IN_A_ROOT = 'for it in lib lib64 usr; do [ -e /$it ] && mkdir -p $it && mount --rbind /$it $it || exit; done; exec chroot . "$@"'
 BESIDE = ".part"
 
-# What passes at a look at two words of a machine of zeroed memory, keys and answers in their order, and which of these
-# are keys. A number counts once its space has come.
-PASSES = [(key, answer) for keys in ("Z", "001000/\r", "001002/\r") for key, answer in zip(
-    keys, ["?\r\n@"] if keys == "Z" else [*keys[:6], "/000000 ", "\r\n@"])]
-ARE_KEYS = [it for key, answer in PASSES for it in [True, *(False for _ in answer)]]
-NUMBERS_AT = (26, 51)
+
+def are_keys(times):
+    """Of all that passes where two words of a machine of zeroed memory are looked at so many times each, keys and answers in their
+    order: which are keys."""
+    looks = ["Z", *times * ["001000/\r"], *times * ["001002/\r"]]
+    passes = [(key, answer) for keys in looks for key, answer in zip(keys, ["?\r\n@"] if keys == "Z" else [*keys[:6], "/000000 ", "\r\n@"])]
+    return [it for key, answer in passes for it in [True, *(False for _ in answer)]]
+
+
+# A number that is looked at twice counts once the second space has come.
+ARE_KEYS, ARE_KEYS_TWICE = are_keys(1), are_keys(2)
+NUMBERS_AT = (51, 101)
 
 
 def numbers(seed, count):
@@ -84,15 +90,15 @@ class Verify(Looks):
         """Of two words, of which the second has one byte and stands under its mask."""
         for line in self.lines(lambda: Console(memory={0o1000: 0o011065, 0o1002: 0o125504})):
             given = self.look(line, "verify two-words.lda LINE first.lda")
-            self.ends(given, 1, "001000 177777 011064 differs 011065\nsent 17 spent 0 looked 2 of 2 differ 1\nend Differs\n")
-            self.was_typed(line, "Z001000/\r001002/\r")
+            self.ends(given, 1, "001000 177777 011064 differs 011065\nsent 25 spent 0 looked 2 of 2 differ 1\nend Differs\n")
+            self.was_typed(line, "Z001000/\r001000/\r001002/\r")
 
     def test_words_that_differ_are_listed_in_their_order(self):
         """The second differs in the byte that its mask names; what stands is not listed."""
         line = self.console_at(Console(memory={0o1000: 1, 0o1002: 0o125505}))
         given = self.look(line, "verify two-words.lda LINE")
         self.ends(given, 1, "001000 177777 031421 differs 000001\n001002 000377 000104 differs 125505\n"
-                            "sent 17 spent 0 looked 2 of 2 differ 2\nend Differs\n")
+                            "sent 33 spent 0 looked 2 of 2 differ 2\nend Differs\n")
 
     def test_a_high_byte(self):
         self.put("high.lda", tape_of([(0o1001, b"\x55")]))
@@ -100,7 +106,7 @@ class Verify(Looks):
         self.ends(self.look(line, "verify high.lda LINE"), 0, "sent 9 spent 0 looked 1 of 1 differ 0\nend Same\n")
         line = self.console_at(Console(memory={0o1000: 0o053000}))
         self.ends(self.look(line, "verify high.lda LINE"), 1, "001000 177400 052400 differs 053000\n"
-                                                              "sent 9 spent 0 looked 1 of 1 differ 1\nend Differs\n")
+                                                              "sent 17 spent 0 looked 1 of 1 differ 1\nend Differs\n")
 
     def test_many_words(self):
         """Two blocks of a tape, one word of 300 wrong."""
@@ -111,7 +117,7 @@ class Verify(Looks):
         line = self.device_at(Console(memory=memory))
         wrong = words[(0o2000 - 0o1000) // 2]
         self.ends(self.look(line, "verify many.lda LINE"), 1, f"002000 177777 {wrong:06o} differs {wrong ^ 0o100:06o}\n"
-                                                              "sent 2401 spent 0 looked 300 of 300 differ 1\nend Differs\n")
+                                                              "sent 2409 spent 0 looked 300 of 300 differ 1\nend Differs\n")
 
     def test_a_tape_without_words_needs_no_console(self):
         for address in (self.taken_port(), "./nothing"):
@@ -122,7 +128,7 @@ class Verify(Looks):
         """257 words end behind 001000; what was read until then is told, too."""
         for line in self.lines(lambda: Console(words=257, memory={0o1000: 1})):
             given = self.look(line, "verify two-words.lda LINE")
-            self.ends(given, 5, "001000 177777 031421 differs 000001\nsent 16 spent 0 looked 1 of 2 differ 1\nend NoWord 001002\n")
+            self.ends(given, 5, "001000 177777 031421 differs 000001\nsent 24 spent 0 looked 1 of 2 differ 1\nend NoWord 001002\n")
 
     def test_a_console_that_answers_nothing(self):
         """Each of its four keys is a `Z`, behind a silence."""
@@ -138,10 +144,10 @@ class Verify(Looks):
         self.holds({})
 
     def test_an_output_that_is_full(self):
-        """Behind the first line that can't be written no word is read."""
+        """Behind the first line that can't be written, of a word that was looked at twice, no word is read."""
         line = self.console_at(Console())
         self.ends(self.look(line, "verify two-words.lda LINE", before="> /dev/full"), 4, "", NO_OUTPUT)
-        self.was_typed(line, "Z001000/")
+        self.was_typed(line, "Z001000/\r001000/")
         line = self.console_at(Console(memory={0o1000: 0o031421, 0o1002: 0o104}))
         self.ends(self.look(line, "verify two-words.lda LINE", before="> /dev/full"), 4, "", NO_OUTPUT)
         self.was_typed(line, "Z001000/\r001002/\r")
@@ -181,8 +187,8 @@ class Save(Looks):
     def test_a_range_of_words(self):
         for number, line in enumerate(self.lines(lambda: Console(memory={0o1000: 0o011064, 0o1002: 0o177777}))):
             given = self.look(line, f"save {number}.lda LINE 1000 1004")
-            self.ends(given, 0, "sent 25 spent 0 read 3 of 3\nend Saved\n")
-            self.was_typed(line, "Z001000/\r001002/\r001004/\r")
+            self.ends(given, 0, "sent 49 spent 0 read 3 of 3\nend Saved\n")
+            self.was_typed(line, "Z001000/\r001000/\r001002/\r001002/\r001004/\r001004/\r")
             self.is_so(bytes_of(self.path(f"{number}.lda")), as_tape(0o1000, [0o011064, 0o177777, 0]))
             self.is_so(os.path.exists(self.path(f"{number}.lda{BESIDE}")), False)
 
@@ -190,7 +196,7 @@ class Save(Looks):
         line = self.console_at(Console(memory={0: 0o123456, 0o157776: 0o101010}))
         for name, address, word in (("low", 0, 0o123456), ("high", 0o157776, 0o101010)):
             given = self.look(line, f"save {name}.lda LINE {address:o} {address:06o}")
-            self.ends(given, 0, "sent 9 spent 0 read 1 of 1\nend Saved\n")
+            self.ends(given, 0, "sent 17 spent 0 read 1 of 1\nend Saved\n")
             self.is_so(bytes_of(self.path(f"{name}.lda")), as_tape(address, [word]))
 
     def test_blocks_of_512_bytes(self):
@@ -199,14 +205,14 @@ class Save(Looks):
         line = self.console_at(Console(memory=as_memory(0o1000, words)))
         for count in (255, 256, 257, 512):
             given = self.look(line, f"save {count}.lda LINE 1000 {0o1000 + 2 * count - 2:o}")
-            self.ends(given, 0, f"sent {1 + 8 * count} spent 0 read {count} of {count}\nend Saved\n")
+            self.ends(given, 0, f"sent {1 + 16 * count} spent 0 read {count} of {count}\nend Saved\n")
             self.is_so(bytes_of(self.path(f"{count}.lda")), as_tape(0o1000, words[:count]))
 
     def test_a_start(self):
         line = self.console_at(Console())
-        self.ends(self.look(line, "save a.lda LINE 1000 1000 --start 1002"), 0, "sent 9 spent 0 read 1 of 1\nend Saved\n")
+        self.ends(self.look(line, "save a.lda LINE 1000 1000 --start 1002"), 0, "sent 17 spent 0 read 1 of 1\nend Saved\n")
         self.is_so(bytes_of(self.path("a.lda")), as_tape(0o1000, [0], start=0o1002))
-        self.ends(self.look(line, "save b.lda LINE 1000 1000 --start 173001"), 0, "sent 9 spent 0 read 1 of 1\nend Saved\n")
+        self.ends(self.look(line, "save b.lda LINE 1000 1000 --start 173001"), 0, "sent 17 spent 0 read 1 of 1\nend Saved\n")
         self.is_so(bytes_of(self.path("b.lda")), as_tape(0o1000, [0], start=0o173001))
 
     def test_memory_comes_back_as_it_was(self):
@@ -214,7 +220,7 @@ class Save(Looks):
         words = numbers("before", 40)
         memory = as_memory(0o776, [0o1111, *words, 0o2222])
         line = self.device_at(Console(memory=memory))
-        self.ends(self.look(line, "save a.lda LINE 1000 1116"), 0, "sent 321 spent 0 read 40 of 40\nend Saved\n")
+        self.ends(self.look(line, "save a.lda LINE 1000 1116"), 0, "sent 641 spent 0 read 40 of 40\nend Saved\n")
         for address, word in as_memory(0o1000, numbers("after", 40)).items():
             line.machine.words[address // 2] = word
         given = self.ldaodt(self.words_at(line, "load a.lda LINE"))
@@ -228,7 +234,7 @@ class Save(Looks):
         """The tape has what there was."""
         words = numbers("small", 64)
         for number, line in enumerate(self.lines(lambda: Console(words=64, memory=as_memory(0, words)))):
-            self.ends(self.look(line, f"save {number}.lda LINE 0 157776"), 5, "sent 520 spent 0 read 64 of 28672\nend NoWord 000200\n")
+            self.ends(self.look(line, f"save {number}.lda LINE 0 157776"), 5, "sent 1032 spent 0 read 64 of 28672\nend NoWord 000200\n")
             self.is_so(bytes_of(self.path(f"{number}.lda")), as_tape(0, words))
 
     def test_no_word_at_all(self):
@@ -243,15 +249,15 @@ class Save(Looks):
         self.holds({})
 
     def test_a_patience_that_is_lost(self):
-        """The machine falls silent behind its first word, and the tape has that."""
+        """The machine falls silent behind its first word: more could be had, and no tape of that one has the name."""
         class Falling(Console):
             def take(self, key):
                 answer = super().take(key)
-                return answer if len(self.typed) <= 9 else ""
+                return answer if len(self.typed) <= 17 else ""
 
         line = self.device_at(Falling(memory={0o1000: 0o011064}))
-        self.ends(self.look(line, "save a.lda LINE 1000 1002 --patience 2"), 5, "sent 12 spent 2 read 1 of 2\nend GaveUp\n")
-        self.is_so(bytes_of(self.path("a.lda")), as_tape(0o1000, [0o011064]))
+        self.ends(self.look(line, "save a.lda LINE 1000 1002 --patience 2"), 5, "sent 20 spent 2 read 1 of 2\nend GaveUp\n")
+        self.holds({})
 
 
 class Files(Looks):
@@ -290,7 +296,7 @@ class Files(Looks):
         line = self.console_at(Console(memory={0o1000: 0o011064}))
         words = ["/program", "save", "/a.lda", line.address, "1000", "1000", "--quiet", str(self.quiet)]
         given = subprocess.run([*rooted, *words], cwd=self.room, capture_output=True, text=True, check=False)
-        self.is_so((given.returncode, given.stdout, given.stderr), (0, "sent 9 spent 0 read 1 of 1\nend Saved\n", ""))
+        self.is_so((given.returncode, given.stdout, given.stderr), (0, "sent 17 spent 0 read 1 of 1\nend Saved\n", ""))
         self.is_so(bytes_of(self.path("a.lda")), as_tape(0o1000, [0o011064]))
 
     def test_a_console_that_is_not_there(self):
@@ -318,7 +324,7 @@ class Files(Looks):
         self.ends(self.look(other, "save a.lda LINE 1000 1000"), 4, "", "ldaodt: a.lda.part is there already\n")
         self.is_so(other.connections, 0)
         out, err = process.communicate(timeout=60)
-        self.is_so((process.returncode, out, err), (0, "sent 265 spent 0 read 33 of 33\nend Saved\n", ""))
+        self.is_so((process.returncode, out, err), (0, "sent 529 spent 0 read 33 of 33\nend Saved\n", ""))
         self.holds_in_room({"a.lda": as_tape(0o1000, [0] * 33)})
 
     def holds_in_room(self, files):
@@ -342,11 +348,11 @@ class Files(Looks):
                 self.ends(given, 4, "", fault(f"cannot write {size}.lda", errno.EFBIG))
                 self.is_so((line.connections, line.machine.typed), (0, ""))
             else:
-                self.ends(given, 0, "sent 9 spent 0 read 1 of 1\nend Saved\n")
+                self.ends(given, 0, "sent 17 spent 0 read 1 of 1\nend Saved\n")
         line = self.console_at(Console(words=64))
         self.ends(self.look(line, "save a.lda LINE 176 200", file_size=17), 4, "", fault("cannot write a.lda", errno.EFBIG))
         self.is_so(line.machine.typed, "")
-        self.ends(self.look(line, "save a.lda LINE 176 200", file_size=18), 5, "sent 16 spent 0 read 1 of 2\nend NoWord 000200\n")
+        self.ends(self.look(line, "save a.lda LINE 176 200", file_size=18), 5, "sent 24 spent 0 read 1 of 2\nend NoWord 000200\n")
         self.holds_in_room({"16.lda": as_tape(0o1000, [0]), "17.lda": as_tape(0o1000, [0]), "a.lda": as_tape(0o176, [0])})
 
 
@@ -360,14 +366,14 @@ class Failures(Looks):
             return characters, self.look(line, "verify two-words.lda LINE"), self.look_again(line, characters)
 
         with ThreadPoolExecutor(16) as pool:
-            for characters, verified, saved in pool.map(trial, range(1, len(ARE_KEYS))):
+            for characters, verified, saved in pool.map(trial, range(1, len(ARE_KEYS_TWICE))):
                 with self.subTest(characters):
-                    sent = sum(ARE_KEYS[:characters + 1])
+                    sent = sum(ARE_KEYS_TWICE[:characters + 1])
                     read = sum(characters >= it for it in NUMBERS_AT)
                     differ = ("001000 177777 031421 differs 000000\n", "001002 000377 000104 differs 000000\n")[:read]
                     self.ends(verified, 4, "".join(differ) + f"sent {sent} spent 0 looked {read} of 2 differ {read}\nend LineFailed\n", FAILED)
                     self.ends(saved, 4, f"sent {sent} spent 0 read {read} of 2\nend LineFailed\n", FAILED)
-                    self.is_so(bytes_of(self.path(f"{characters}.lda")), as_tape(0o1000, [0] * read) if read else b"")
+                    self.is_so(bytes_of(self.path(f"{characters}.lda")), b"")
 
     def look_again(self, line, characters):
         """A save over a line like the one of a look before it, which has hung up."""
@@ -382,12 +388,12 @@ class Failures(Looks):
             return characters, self.look(line, f"save {characters}.lda LINE 1000 1002")
 
         with ThreadPoolExecutor(16) as pool:
-            for characters, given in pool.map(trial, range(1, len(ARE_KEYS) - 1)):
+            for characters, given in pool.map(trial, range(1, len(ARE_KEYS_TWICE) - 1)):
                 with self.subTest(characters):
                     self.is_so((given.status, given.err, given.out.split("\n")[1:]), (4, FAILED, ["end LineFailed", ""]))
                     read = int(re.search(r" read (\d) of 2\n", given.out)[1])
                     self.assertLessEqual(read, sum(characters >= it for it in NUMBERS_AT))
-                    self.is_so(bytes_of(self.path(f"{characters}.lda")), as_tape(0o1000, [0] * read) if read else b"")
+                    self.is_so(bytes_of(self.path(f"{characters}.lda")), b"")
 
     def test_each_lost_character(self):
         """It costs a mishap, and each word is read all the same."""
@@ -421,7 +427,7 @@ class Failures(Looks):
                 with self.subTest(seed):
                     read = int(re.search(r" read (\d) of 6\n", given.out)[1])
                     ended.add(given.out.split("\n")[1])
-                    self.is_so(bytes_of(self.path(f"{seed}.lda")), as_tape(0o1000, words[:read]) if read else b"")
+                    self.is_so(bytes_of(self.path(f"{seed}.lda")), as_tape(0o1000, words) if read == 6 else b"")
             self.assertLessEqual(ended, {"end Saved", "end GaveUp"})
             self.assertIn("end GaveUp", ended)
 
@@ -448,7 +454,7 @@ class Failures(Looks):
             for keys, is_there, given in pool.map(trial, (0, 1, 2, 7, 8, 9, 10, 30, 90, 150, 200)):
                 with self.subTest(keys):
                     self.is_so(is_there, False)
-                    self.ends(given, 0, "sent 265 spent 0 read 33 of 33\nend Saved\n")
+                    self.ends(given, 0, "sent 529 spent 0 read 33 of 33\nend Saved\n")
                     self.is_so(bytes_of(self.path(f"{keys}.lda")), as_tape(0o1000, words))
                     self.is_so(os.path.exists(self.path(f"{keys}.lda{BESIDE}")), False)
 
@@ -490,7 +496,7 @@ class Words(Looks):
         """An address is one to six octal digits."""
         line = self.console_at(Console(memory={0o1000: 0o011064}))
         for number, words in enumerate(("1000 1000", "001000 1000", "01000 001000")):
-            self.ends(self.look(line, f"save {number}.lda LINE {words}"), 0, "sent 9 spent 0 read 1 of 1\nend Saved\n")
+            self.ends(self.look(line, f"save {number}.lda LINE {words}"), 0, "sent 17 spent 0 read 1 of 1\nend Saved\n")
             self.is_so(bytes_of(self.path(f"{number}.lda")), as_tape(0o1000, [0o011064]))
 
     def test_ranges_that_are_none(self):

@@ -248,11 +248,12 @@ class Machine(Case):
         return self.looks(it, address)
 
     def test_bits_that_are_stuck(self):
-        """Of a word, and of each word of a range, whatever is deposited; the other bits and words are good."""
-        it = self.switched_on("--stuck 1000:0:1 --stuck 001000:15:0 --stuck 20000-20004:2:0 --stuck 20004:2:1")
+        """Of a word, and of each word of a range, whatever is deposited; the other bits and words are good. Of two that are asked for the last
+        one counts."""
+        it = self.switched_on("--stuck 1000:0:1 --stuck 001000:15:0 --stuck 20000-20004:2:0 --stuck 20004:2:1 --stuck 20010:5:1 --stuck 20010:5:0")
         for word in (0, 0o177777, 0o125252):
             stuck = {0o776: word, 0o1000: word & 0o077777 | 1, 0o1002: word, 0o17776: word,
-                     0o20000: word & ~4, 0o20002: word & ~4, 0o20004: word | 4, 0o20006: word}
+                     0o20000: word & ~4, 0o20002: word & ~4, 0o20004: word | 4, 0o20006: word, 0o20010: word & ~0o40}
             self.is_so({address: self.holds(it, address, word) for address in stuck}, stuck)
 
     def test_each_bit_that_is_stuck(self):
@@ -267,7 +268,7 @@ class Machine(Case):
         self.is_so({address: self.looks(it, address) is not None for address in there}, there)
 
     def test_addresses_that_are_one_word(self):
-        it = self.switched_on("--alias 11 --alias 1")
+        it = self.switched_on("--alias 11 --alias 1 --alias 11")
         for word, address in enumerate((0, 0o4000, 2, 0o4002), 1):
             self.is_so(self.holds(it, address, word), word)
             self.is_so([self.looks(it, other) for other in (0, 2, 0o4000, 0o4002, 0o1000, 0o10000)], [word] * 4 + [0, 0])
@@ -320,6 +321,13 @@ class Machine(Case):
         self.assertTrue(self.waits(lambda: not os.path.lexists(self.path("lsi11"))))
         with contextlib.suppress(OSError):
             self.is_so(os.read(it.end, 64), b"")
+
+    def test_what_was_answered_before_a_cable_is_pulled(self):
+        """It can still be read a while later."""
+        it = self.switched_on("--break-after 17")
+        it.types("1000/")
+        time.sleep(0.15)
+        self.is_so(it.hears(" "), "1000/000000 ")
 
     def test_a_name_that_is_a_file_s(self):
         self.put("lsi11", b"mine")

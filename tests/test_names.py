@@ -122,7 +122,7 @@ class Names(Case):
         for path in [*paths_to("saved.lda", LONGEST_PATH - BESIDE), "s" * (LONGEST_NAME - BESIDE)]:
             with self.subTest(length=len(path)):
                 given = self.ldaodt(["save", path, line.address, "1000", "1000", "--start", "1000", "--quiet", str(self.quiet)])
-                self.ends(given, 0, "sent 9 spent 0 read 1 of 1\nend Saved\n")
+                self.ends(given, 0, "sent 17 spent 0 read 1 of 1\nend Saved\n")
                 self.is_so(self.ldaodt(["check", path]), self.checked())
                 os.remove(self.path(os.path.basename(path)))
 

@@ -304,6 +304,8 @@ class Crates(Case):
                       "    ensures text: result ≡ octal_text word\n    ensures is_octal: IsOct6 word result\n", ran.stdout)
         self.assertIn("line.rt: pub trait Line\n\nfn send(&mut self, key: u8)", ran.stdout)
         self.assertNotIn("digit_at", ran.stdout)
+        ran = subprocess.run([f"{TOP}/tools/promises"], capture_output=True, text=True)
+        self.is_so(re.findall("^# (.*)", ran.stdout, re.MULTILINE), [it for it in self.crates if not it.endswith("_tests")])
         ran = subprocess.run([f"{TOP}/tools/promises", "nothing"], capture_output=True, text=True)
         self.is_so((ran.returncode, ran.stderr), (2, "promises: crates.txt has no nothing\n"))
 

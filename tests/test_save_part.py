@@ -16,7 +16,7 @@ import traced
 # 300 words are one block of 512 bytes and a shorter one: 519 and 95 bytes, and 7 that end the tape.
 WORDS = numbers("part", 300)
 LAST = 0o1000 + 2 * len(WORDS) - 2
-SAVE = f"save a.lda LINE 1000 {LAST:o}"
+SAVE = f"save a.lda LINE 1000 {LAST:o} --once"
 BLOCK, ROOM = 519, 519 + 95 + 7
 TAPE = as_tape(0o1000, WORDS)
 SAVED = "sent 2401 spent 0 read 300 of 300\nend Saved\n"
@@ -166,7 +166,7 @@ class GoesOn(Part):
             tape = as_tape(0o1000, words)
             self.put("a.lda.part", tape[:-7] + bytes(7))
             line = self.console_at(Console(memory=as_memory(0o1000, words)))
-            given = self.look(line, f"save a.lda LINE 1000 {0o1000 + 2 * len(words) - 2:o}")
+            given = self.look(line, f"save a.lda LINE 1000 {0o1000 + 2 * len(words) - 2:o} --once")
             self.ends(given, 0, f"sent {len(LOOKS)} spent 0 read {len(words)} of {len(words)}\nend Saved\n")
             self.is_so((self.are_there(), bytes_of(self.path("a.lda"))), ({"a.lda"}, tape))
             os.remove(self.path("a.lda"))
@@ -189,7 +189,7 @@ class GoesOn(Part):
         """Killed once it was whole."""
         tape = as_tape(0o1000, WORDS[:20])
         self.put("a.lda.part", tape)
-        given = self.look(self.machine(), "save a.lda LINE 1000 1046")
+        given = self.look(self.machine(), "save a.lda LINE 1000 1046 --once")
         self.ends(given, 0, "sent 161 spent 0 read 20 of 20\nend Saved\n")
         self.is_so((self.are_there(), bytes_of(self.path("a.lda"))), ({"a.lda"}, tape))
 
@@ -218,7 +218,7 @@ class GoesOn(Part):
         for words in ("1000 2124", "1000 2130", "1002 2130", "776 2124", "1000 1000"):
             self.leave()
             line = self.machine()
-            self.ends(self.look(line, f"save a.lda LINE {words}"), 3, "", ANOTHERS)
+            self.ends(self.look(line, f"save a.lda LINE {words} --once"), 3, "", ANOTHERS)
             self.is_so((line.connections, self.are_there(), self.part()), (0, {"a.lda.part"}, TAPE[:BLOCK] + bytes(ROOM - BLOCK)))
 
     def test_what_is_no_front_of_a_tape(self):
@@ -292,7 +292,8 @@ class GoesOn(Part):
 
 
 class Ended(Part):
-    """A save that ends by itself gives FILE, and leaves no part."""
+    """FILE comes to its name where its tape is all that can be had, and leaves no part then; else the part stays, and the same line
+    goes on behind it."""
 
     def test_all_words(self):
         self.ends(self.look(self.machine(), SAVE), 0, SAVED)
@@ -302,7 +303,7 @@ class Ended(Part):
         for words in (256, 270, 512, 513):
             with self.subTest(words):
                 line = self.console_at(Console(words=words, memory=as_memory(0, numbers("ends", words))))
-                given = self.look(line, "save a.lda LINE 0 3776")
+                given = self.look(line, "save a.lda LINE 0 3776 --once")
                 self.ends(given, 5, f"sent {8 * words + 8} spent 0 read {words} of 1024\nend NoWord {2 * words:06o}\n")
                 self.is_so((self.are_there(), bytes_of(self.path("a.lda"))), ({"a.lda"}, as_tape(0, numbers("ends", words))))
                 os.remove(self.path("a.lda"))
@@ -316,7 +317,34 @@ class Ended(Part):
         out, err = process.communicate(timeout=60)
         count = int(out.split(" read ")[1].split()[0])
         self.is_so((process.returncode, err, out.splitlines()[1], count >= 256), (4, FAILED, "end LineFailed", True))
-        self.is_so((self.are_there(), bytes_of(self.path("a.lda"))), ({"a.lda"}, as_tape(0o1000, WORDS[:count])))
+        self.is_left(1)
+        self.is_saved(self.look(self.machine(), SAVE))
+
+    def test_a_line_that_fails_before_the_first_block(self):
+        """There is nothing to go on behind, and nothing in the way."""
+        line = self.device_at(SlowBegin(memory=as_memory(0o1000, WORDS)))
+        process = self.begin(self.words_at(line, SAVE))
+        self.until(lambda: len(line.machine.typed) > 8 * 20)
+        line.hang_up()
+        self.is_so((process.wait(), self.are_there()), (4, set()))
+        self.is_saved(self.look(self.machine(), SAVE), SAVED)
+
+    def test_a_patience_that_is_lost(self):
+        """A console that falls silent behind the first block, and again behind what the same line went on with."""
+        class Falling(Console):
+            silent_behind = 8 * 270
+
+            def take(self, key):
+                return "" if len(self.typed) > self.silent_behind else super().take(key)
+
+        class FallingSooner(Falling):
+            silent_behind = len(LOOKS) + 8 * 10
+
+        for kind in (Falling, FallingSooner):
+            given = self.look(self.machine(kind), SAVE + " --patience 2")
+            self.is_so((given.status, given.out.splitlines()[1]), (5, "end GaveUp"))
+            self.is_left(1)
+        self.is_saved(self.look(self.machine(), SAVE))
 
     def test_a_console_that_is_not_there(self):
         """The part goes: nothing is in it."""

@@ -151,7 +151,7 @@ class Between(Calls):
         """Where it comes once room was taken, nothing is typed; what a save has written comes to no name. That file is not taken
         away."""
         for place in self.PLACES:
-            for behind, keys in (("fsync", 0), ("ftruncate", 9)):
+            for behind, keys in (("fsync", 0), ("ftruncate", 17)):
                 with self.subTest(place, behind=behind):
                     line = self.console_at(Console())
                     given = self.ask(line, "save a.lda LINE 1000 1000", self.led_elsewhere("a.lda.part", behind, place))
@@ -161,7 +161,7 @@ class Between(Calls):
 
     def test_a_link_in_the_place_of_a_tape_that_was_written(self):
         """It leads to the tape, and would itself come to the tape's name. Where it comes once room was taken, nothing is typed."""
-        for behind, keys in (("fsync", 0), ("ftruncate", 9)):
+        for behind, keys in (("fsync", 0), ("ftruncate", 17)):
             def before(call, behind=behind):
                 if call.name == behind and call.file() == "a.lda.part":
                     os.rename(self.path("a.lda.part"), self.path("b.lda"))
@@ -214,7 +214,7 @@ class Answers(Calls):
                 self.holds({"a.record": MARKED})
                 os.remove(self.path("a.record"))
                 given = self.ask(self.console_at(Console()), "save a.lda LINE 1000 1000", unlocked)
-                self.ends(given, 0, "sent 9 spent 0 read 1 of 1\nend Saved\n")
+                self.ends(given, 0, "sent 17 spent 0 read 1 of 1\nend Saved\n")
                 self.is_so(bytes_of(self.path("a.lda")), tape_of([(0o1000, b"\0\0")]))
                 os.remove(self.path("a.lda"))
 
@@ -234,7 +234,7 @@ class Answers(Calls):
             self.ends(self.load(line, before, f"--record {record}"), 0, STOOD if name == "b.record" else STARTED.replace("30", "16"))
             self.is_so(bytes_of(self.path(name)).decode(), MARKED)
         given = self.ask(self.console_at(Console(memory={0o1000: 0o011064})), "save a.lda LINE 1000 1000", before)
-        self.ends(given, 0, "sent 9 spent 0 read 1 of 1\nend Saved\n")
+        self.ends(given, 0, "sent 17 spent 0 read 1 of 1\nend Saved\n")
         self.is_so(bytes_of(self.path("a.lda")), tape_of([(0o1000, b"\x34\x12")]))
 
     def test_a_record_that_can_not_be_gone_back_in(self):

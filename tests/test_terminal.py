@@ -1,19 +1,22 @@
 """Standard error on a terminal: one line says how far a load is, and nothing of it is left. Standard input at one: it is
 said what is read."""
 import errno
+import gzip
 import os
 import pty
 import re
+import shutil
 import signal
 import subprocess
 import time
 import unittest
 from concurrent.futures import ThreadPoolExecutor
 
-from cases import Case, Console, DeafConsole
+from cases import Case, Console, DeafConsole, Losing, LossyConsole, RunningConsole
 from cases import SlowConsole as Hundredths
-from commands import COUNTING
-from outside import PROGRAM, fault, line_failed, tape_of
+from chip_cases import ChipConsole, Chips, Test
+from commands import COUNTING, RUNS
+from outside import FIRST, PROGRAM, bytes_of, fault, line_failed, tape_of
 
 # Each line that is shown: the terminal is asked to cut what it has no column for, and behind the text to take away what
 # is left of the line before it and to wrap again.
@@ -23,7 +26,7 @@ NO_WORD = SHOWN.format("0 of 1 words, 0%")
 CLEARED = "\r\x1b[K"
 GOING_ON = "going on behind 1 of 2 words, listening; power lost? use --recheck"
 SAVING_ON = "going on behind 256 of 512 words, listening; power lost? remove the .part file"
-PROBING = "probing: four to six quiet times, mostly 8 seconds\r\n"
+PROBING = "probing: mostly 8 seconds; 20 where nothing answers\r\n"
 STARTED = "sent 30 spent 0 verified 1 of 1\nend Started\n"
 
 # The words of two-words.lda.
@@ -68,6 +71,21 @@ class SilentConsole(ChangingConsole):
         return answer if len(self.typed) <= self.keys else ""
 
 
+class HeldStub(RunningConsole):
+    """Of what the program that was started prints the 128th character comes late, and none behind it."""
+
+    printed_count = 0
+
+    def printed(self):
+        text = super().printed()
+        if text and self.computer.is_running:
+            if self.printed_count < 128 <= self.printed_count + len(text):
+                time.sleep(0.15)
+            self.printed_count += len(text)
+            return text if self.printed_count <= 128 else ""
+        return text
+
+
 class Screen:
     """A terminal of so many columns, as far as it is used here: which line the cursor is in, and what that shows."""
 
@@ -98,6 +116,18 @@ class Screen:
         place = min(self.column, self.columns - 1)
         self.line = self.line[:place] + character + self.line[place + 1:]
         self.column = place + 1
+
+
+class ForgetfulHundredths(Hundredths):
+    """It takes a hundredth of a second for each key, and answers one of the first not at all."""
+    begun = float("inf")
+
+    def take(self, key):
+        answer = super().take(key)
+        if len(self.typed) == 12:
+            self.begun = time.monotonic()
+            return ""
+        return answer
 
 
 class BabblingConsole(Console):
@@ -176,18 +206,30 @@ class Terminal(Case):
                 screen.show(shown)
                 self.is_so((screen.row, screen.wraps), (0, True))
 
+    def test_a_chunk_counts_once_it_was_answered(self):
+        """The first 32 of 400 words, which a stub takes and then no more: they are shown before another character is sent."""
+        self.put("many.lda", tape_of([(0o1000, bytes(800))], 0o1000))
+        ended, shown = self.interrupted("load many.lda LINE --fast", HeldStub(), lambda machine: machine.printed_count > 2 * 64 + 8)
+        self.is_so(ended, (-signal.SIGINT, b""))
+        self.assertRegex(shown.split("\r")[-1], r"^\x1b\[\?7l32 of 400 words, 8%(, [\d:]+ left)?\x1b")
+
     def test_how_long_it_takes(self):
-        """It is said once, behind the eighth word, on a line of its own; and where what was done need not be done again, that, too.
-        Of 4,000 words each takes 22 keys, or 8 where it is only looked at, and each key a hundredth of a second."""
+        """It is said once, behind the tenth second, on a line of its own; and where what was done need not be done again, that, too.
+        Of 4,000 words each takes 22 keys, 8 where it is only looked at, or 16 where twice, and each key a hundredth of a second. A mishap of the
+        first second, which takes as long as a hundred words, does not count for more than it is."""
         self.put("many.lda", tape_of([(0o1000, bytes(8000))], 0o1000))
         self.put("a.record", b"LDAODT 2\n" + b"".join(b"%06o 000000\n" % (0o1000 + 2 * number) for number in range(20)))
         for words, keys, goes_on in (("load many.lda LINE", 22, False), ("load many.lda LINE --record a.record", 8, True),
-                                     ("verify many.lda LINE", 8, False), ("save a.lda LINE 0 17776", 8, True)):
+                                     ("verify many.lda LINE", 8, False), ("save a.lda LINE 0 17776", 16, True)):
             with self.subTest(words):
-                ended, shown = self.interrupted(words, Hundredths(), lambda machine: len(machine.typed) > 20 * 8 + 12 * keys)
+                machine = ForgetfulHundredths()
+                ended, shown = self.interrupted(words, machine, lambda machine: time.monotonic() > machine.begun + 13)
                 self.is_so(ended[0], -signal.SIGINT)
-                told = re.findall(r"\rsome \d+ minutes at this pace(; after Ctrl-C the same line goes on)?\x1b\[K\r\n", shown)
-                self.is_so(told, ["; after Ctrl-C the same line goes on" if goes_on else ""])
+                told = re.findall(r"\rsome (\d+) minutes at this pace(; after Ctrl-C the same line goes on)?\x1b\[K\r\n", shown)
+                self.is_so([behind for _, behind in told], ["; after Ctrl-C the same line goes on" if goes_on else ""])
+                # A key takes a hundredth of a second or a little more, a fifth of ten seconds may be lost with the mishap.
+                least = 4000 * keys / 100 / 60
+                self.assertLessEqual(int(told[0][0]), least * 1.6)
 
     def test_a_fault_stands_on_a_cleared_line(self):
         """The machine hangs up after `Z` and two characters of its answer."""
@@ -218,6 +260,25 @@ class Terminal(Case):
         babble = SHOWN.format("0 of 1 words, 0%, listening, 1 mishap")
         self.assertTrue(shown.startswith(LISTENING + NO_WORD + babble), repr(shown))
 
+    def test_a_line_that_is_never_silent_is_told(self):
+        """A device that sends back what it hears: once ten seconds are over, and once only. Nothing but the `Z` is typed."""
+        self.put_tapes("first.lda")
+        line = self.device_at(Console(), settings="raw echo")
+
+        def load(terminal):
+            process = subprocess.Popen([PROGRAM, *self.load_words(line, "first.lda")], cwd=self.room, stderr=terminal, stdout=subprocess.DEVNULL)
+            self.addCleanup(self.let_go, process)
+            time.sleep(13)
+            self.assertIsNone(process.poll())
+            process.kill()
+            process.wait()
+
+        _, shown = self.at_a_terminal(load)
+        line.hang_up()
+        told = re.findall(r"\rthe line is never silent, and says: (.*)\r\n(.*)\x1b\[K\r\n", shown)
+        self.is_so([rest for _, rest in told], ["a program that runs does so, and a system that echoes (stty -echo); 'ldaodt probe LINE' says more"])
+        self.is_so((len(told[0][0]), line.machine.starts), (24, []))
+
     def test_words_of_the_record_count(self):
         """The first word is looked at with nine keys. Of the second word's eight keys and the start's seven the last ten are slow."""
         self.put("a.record", b"LDAODT 2\n001000 031421")
@@ -236,7 +297,8 @@ class Terminal(Case):
             (None, None, "", "Started", ""),
             (one, None, "--recheck", "Started", ""),
             (both, None, "", "Started", "2 of 2 by the record\r\n"),
-            (f"{both}G\n", None, "", "MaybeStarted", "2 of 2 by the record\r\n"),
+            (f"{both}G\n", None, "", "MaybeStarted",
+             "2 of 2 by the record\r\nlook at the machine first: the program may run; to load it again remove the record\r\n"),
             (both, None, "--no-start", "Loaded", "2 of 2 by the record\r\n"),
             (one, 4, "", "LineFailed", f"1 of 2 by the record\r\n{GOES_ON}{FAILED}"),
             ("", 4, "", "LineFailed", f"{GOES_ON}{FAILED}"),
@@ -291,7 +353,7 @@ class Looks(Case):
         """Each key is slow, so that a line is shown with each word; how long the rest takes is the computer's. A `save` of the
         two words types what a `verify` of them does."""
         for words, report in (("verify two-words.lda LINE", "sent 17 spent 0 looked 2 of 2 differ 0\nend Same\n"),
-                              ("save a.lda LINE 1000 1002", "sent 17 spent 0 read 2 of 2\nend Saved\n")):
+                              ("save a.lda LINE 1000 1002", "sent 33 spent 0 read 2 of 2\nend Saved\n")):
             with self.subTest(words):
                 given, shown = self.look_at_a_terminal(SlowConsole(0, memory={0o1000: 0o031421, 0o1002: 0o104}), words, quiet=1000)
                 self.is_so((given.status, given.out), (0, report))
@@ -300,12 +362,178 @@ class Looks(Case):
                            ["0 of 2 words, 0%, listening", "0 of 2 words, 0%", "1 of 2 words, 50%", "2 of 2 words, 100%"])
                 self.assertTrue(shown.endswith(CLEARED), repr(shown))
 
+    def test_differences_stand_on_lines_of_their_own(self):
+        """Where the terminal that shows how far a verify is has its output, too. Each key is slow, so that something is shown with each."""
+        self.put_tapes("two-words.lda")
+        words = self.words_at(self.console_at(SlowConsole(0)), "verify two-words.lda LINE", 1000)
+        _, shown = self.at_a_terminal(lambda it: subprocess.run([PROGRAM, *words], cwd=self.room, stdout=it, stderr=it, check=False))
+        lines = []
+        for line in shown.split("\r\n"):
+            screen = Screen(80)
+            screen.show(line)
+            lines.append(screen.line)
+        self.is_so(lines, ["001000 177777 031421 differs 000000", "001002 000377 000104 differs 000000",
+                           "sent 33 spent 0 looked 2 of 2 differ 2", "end Differs", ""])
+        self.assertIn("1 of 2 words, 50%", shown)
+
+    def goes_on_with(self, machine):
+        """A save that goes on behind a block of zeroes."""
+        self.put("b.lda.part", tape_of([(0o1000, bytes(512))])[:-7] + bytes(526))
+        return self.look_at_a_terminal(machine, "save b.lda LINE 1000 2776")
+
+    def test_a_save_that_its_looks_hold_up(self):
+        """What was shown is gone before the fault is told."""
+        given, shown = self.goes_on_with(Console(memory={0o1000: 1}))
+        self.is_so((given.status, given.out.split("\n")[1]), (5, "end Stale 001000"))
+        stale = "ldaodt: memory does not hold what b.lda.part says: remove b.lda.part to begin again\r\n"
+        self.is_so(shown.split(CLEARED), [SHOWN.format(SAVING_ON), stale])
+
+    def test_mishaps_of_the_looks_of_a_save_count(self):
+        """A key of the looks is lost, and none behind them."""
+        given, shown = self.goes_on_with(LossyConsole(lost_key=30))
+        self.is_so((given.status, given.out.split()[2:4]), (0, ["spent", "1"]))
+        self.assertRegex(shown, r"256 of 512 words, 50%, 1 mishap")
+        self.assertNotRegex(shown, r"\d%\x1b|\d%, \d+:")
+
+    def test_what_is_told_of_a_save_that_ends_early(self):
+        """That the same line goes on, where a block was read; nothing where none was, or all that can be had."""
+        goes_on = "the same line goes on where it was; power lost? remove the .part file\r\n"
+        for keys, told in ((16 * 300, goes_on), (16 * 200, "")):
+            given, shown = self.look_at_a_terminal(SilentConsole(keys), "save a.lda LINE 1000 2776 --patience 2")
+            self.is_so((given.status, given.out.split("\n")[1], shown.split(CLEARED)[-1]), (5, "end GaveUp", told))
+            self.let_go_of("a.lda.part")
+        given, shown = self.look_at_a_terminal(Console(words=600), "save a.lda LINE 1000 2776")
+        self.is_so((given.status, given.out.split("\n")[1], shown.split(CLEARED)[-1]), (5, "end NoWord 002260", ""))
+
+    def let_go_of(self, name):
+        """Removes a file, where it is there."""
+        try:
+            os.remove(self.path(name))
+        except FileNotFoundError:
+            pass
+
     def test_mishaps_are_counted(self):
         """As those of a load."""
         given, shown = self.look_at_a_terminal(DeafConsole(), "verify first.lda LINE --patience 2")
         self.is_so((given.status, given.out), (5, "sent 3 spent 2 looked 0 of 1 differ 0\nend GaveUp\n"))
         mishaps = "".join(SHOWN.format(f"0 of 1 words, 0%, {text}") for text in ("1 mishap", "2 mishaps"))
         self.is_so(shown, LISTENING + NO_WORD + mishaps + CLEARED)
+
+
+class Together(Case):
+    """Standard output and standard error at one terminal: what was shown is cleared once, whatever ends it, before anything is printed."""
+
+    def shown_at(self, machine, words, quiet=None, **named):
+        """Runs a command at a machine; returns its status, what the terminal showed until it was cleared, and what stands there behind
+        each time that it was."""
+        peer = self.console_at(machine, **named)
+        given, shown = self.at_a_terminal(lambda it: self.ldaodt(self.words_at(peer, words, quiet), stdout=it, stderr=it))
+        progress, *told = shown.split(CLEARED)
+        self.assertTrue(progress and "\n" not in progress, repr(shown))
+        return given.status, progress, told
+
+    def ends_once(self, machine, words, report, err="", **named):
+        """Asserts that behind the line that was cleared the report stands, and last a fault; returns what was shown before."""
+        status, progress, told = self.shown_at(machine, words, **named)
+        self.is_so(len(told), 1)
+        self.assertTrue(told[0].startswith(shown_as(report)) and told[0].endswith(shown_as(err)), repr(told))
+        return status, progress
+
+    def test_each_end(self):
+        """Also where the line fails, memory ends, or a machine starts and falls silent."""
+        self.put_tapes("first.lda")
+        for number, run in enumerate(it for it in RUNS if not it.listed):
+            with self.subTest(run.words, end=run.end):
+                words = run.words.replace("new.lda", f"{number}.lda")
+                status, progress = self.ends_once(run.console(0), words, run.answer().out, run.err, close_after=run.breaks, takes_last=True)
+                self.is_so(status, run.status)
+                self.assertTrue(progress.startswith(LISTENING), repr(progress))
+
+    def test_looks_that_hold_it_up(self):
+        """Words that were done before, of a load and of a save, and that memory does not hold, or no longer has; and a line that breaks in
+        the looks."""
+        self.put_tapes("first.lda")
+        self.put("a.record", b"LDAODT 2\n001000 011064\n")
+        self.put("a.lda.part", tape_of([(0o1000, bytes(512))])[:-7] + bytes(7 + 2 * 44 + 7))
+        for words in ("load first.lda LINE --record a.record", "save a.lda LINE 1000 2126"):
+            for end, status, machine, breaks in (("Stale 001000", 5, {"memory": {0o1000: 1}}, None), ("NoWord 001000", 5, {"words": 256}, None),
+                                                 ("LineFailed", 4, {}, 6)):
+                with self.subTest(words, end=end):
+                    given, progress, told = self.shown_at(Console(**machine), words, close_after=breaks)
+                    self.is_so((given, len(told)), (status, 1))
+                    self.assertTrue("going on behind" in progress and told[0].startswith("sent "), repr((progress, told)))
+                    self.assertIn(f"\r\nend {end}\r\n", told[0])
+
+    def test_memory(self):
+        """Of a test that comes to its end, where there is no memory, or a line that breaks."""
+        for count, end, status, breaks in ((1024, "Tested", 0, None), (256, "NoWord 001000", 5, None), (1024, "LineFailed", 4, 150)):
+            with self.subTest(end):
+                words = Test(0o1000, 0o1006, 1, count=count).words()
+                given, progress, told = self.shown_at(ChipConsole(Chips(count=count)), words, close_after=breaks)
+                self.is_so((given, len(told)), (status, 1))
+                self.assertTrue(progress.startswith(SHOWN.format("0 of 4 words, 0%, listening")), repr(progress))
+                self.assertIn(f"\r\nend {end}\r\n", told[0])
+
+
+class SlowChips(Losing, ChipConsole):
+    """It takes its time for each CR: a line is shown with each word that was tested."""
+
+    def take(self, key):
+        if key == "\r":
+            time.sleep(0.15)
+        return super().take(key)
+
+
+class SilentChips(ChipConsole):
+    """It answers no key behind so many."""
+
+    def __init__(self, keys):
+        super().__init__(Chips(count=1024))
+        self.keys = keys
+
+    def take(self, key):
+        answer = super().take(key)
+        return answer if len(self.typed) <= self.keys else ""
+
+
+class Tests(Case):
+    """A test of memory whose standard error is a terminal."""
+
+    # The keys of the trial of a console.
+    TRIAL = 30
+
+    def shown_of(self, test, lost_key=None):
+        """The texts that are shown while a memory is tested, without the time that is left, and what each word held."""
+        machine = SlowChips(chips=Chips(missing=test.missing), lost_key=lost_key)
+        held = ["%06o" % machine.words.reading(it // 2) for it in test.tested()]
+        peer = self.console_at(machine)
+        given, shown = self.at_a_terminal(lambda it: self.ldaodt(self.words_at(peer, test.words(), 1000), stderr=it))
+        self.is_so((given.status, given.out.split("\n")[-2]), (0, "end Tested"))
+        texts = re.findall(re.escape(SHOWN).replace(r"\{\}", "(.*?)"), shown)
+        return list(dict.fromkeys(re.sub(r", [\d:]+ left$", "", it) for it in texts)), held
+
+    def test_each_word_counts(self):
+        """Also those of an earlier bank, behind one that is not there. Behind them all the bus is tested at the first."""
+        texts, held = self.shown_of(Test(0o17776, 0o40000, 1, missing=(1,)))
+        self.is_so(texts, ["0 of 4098 words, 0%, listening", "0 of 4098 words, 0%", f"testing 017776, it held {held[0]}: 0 of 4098 words, 0%",
+                           "1 of 4098 words, 0%", f"testing 040000, it held {held[1]}: 1 of 4098 words, 0%", "2 of 4098 words, 0%",
+                           f"testing 017776, it held {held[0]}: 2 of 4098 words, 0%"])
+
+    def test_mishaps_are_counted(self):
+        """The second key of the first word's address is lost."""
+        texts, held = self.shown_of(Test(0o1000, 0o1000, 1), lost_key=self.TRIAL + 2)
+        self.is_so(texts, ["0 of 1 words, 0%, listening", "0 of 1 words, 0%", "0 of 1 words, 0%, 1 mishap",
+                           f"testing 001000, it held {held[0]}: 0 of 1 words, 0%, 1 mishap", "1 of 1 words, 100%, 1 mishap",
+                           f"testing 001000, it held {held[0]}: 1 of 1 words, 100%, 1 mishap"])
+
+
+    def test_what_helps(self):
+        """Only where no word was tested for want of answers: at a machine that never answers, and not where it falls silent later."""
+        for silent_behind, told in ((0, ASK_PROBE), (self.TRIAL + 50, "")):
+            with self.subTest(silent_behind):
+                peer = self.console_at(SilentChips(silent_behind))
+                given, shown = self.at_a_terminal(lambda it: self.ldaodt(self.words_at(peer, "memory LINE 1000 1002 --patience 1"), stderr=it))
+                self.is_so((given.status, given.out.split("\n")[-2], shown.split(CLEARED)[1:]), (5, "end GaveUp", [told]))
 
 
 class Plain(Case):
@@ -340,6 +568,22 @@ class Plain(Case):
         self.is_so(self.each((("probe LINE", "Probed"),), Console), {"probe LINE": PROBING})
 
 
+class Output(Case):
+    """A terminal that has standard output, too."""
+
+    def test_the_line_in_which_a_machine_falls_silent_is_ended(self):
+        """So that a shell's prompt stands in one of its own: `@` is the last that ODT prints. A file has what was said, and no more."""
+        self.put_tapes("first.lda")
+        for said, ended in (("\r\n001002\r\n@", True), ("DONE\r\n", False)):
+            with self.subTest(said):
+                lines = [self.console_at(Console(says=[(0, said)])) for _ in range(2)]
+                words = [self.load_words(line, "first.lda --listen 1") for line in lines]
+                _, shown = self.at_a_terminal(lambda it, words=words: subprocess.run([PROGRAM, *words[0]], cwd=self.room, stdout=it, stderr=it, check=True))
+                self.is_so(shown.split(CLEARED)[1], shown_as(STARTED + said + "\n" * ended))
+                given, shown = self.at_a_terminal(lambda it, words=words: self.ldaodt(words[1], stderr=it))
+                self.is_so((given.out, shown.split(CLEARED)[-1]), (STARTED + said, ""))
+
+
 class Input(Case):
     """A tape on standard input, where that is a terminal."""
 
@@ -364,18 +608,49 @@ class Input(Case):
         last = b"\1\0\7\0\0\2\0" + bytes([-10 & 255])
         # Behind as much as is read of a file at once.
         far = bytes(8192) + b"text"
-        places = {last: len(last), far: 8192}
-        for data, told in ((b":1000", "this is Intel HEX"), (b"S1130", "these are S-records"), (b"S4130", "this is text"), (b"\x1f\x8b\b\0", "this is compressed"),
-                           (b"1000 1\n", "this is text"), (b"\x1f\x8c\b\0", ""), (b"text\xff", "this is text"), (b"tex\xff", ""), (far, ""), (last, "it lacks a block with a start")):
+        behind = last + b"x"
+        label = "it is no tape, or a label stands before it"
+        places = {last: len(last), far: 8192, behind: len(last)}
+        for data, told in ((b"", "the file is empty"), (b"\xff\xff" + last, "its leader is rubouts"), (far, label), (behind, ""),
+                           (b":1000", "this is Intel HEX"), (b"S1130", "these are S-records"), (b"S4130", "this is text"), (b"\x1f\x8b\b\0", "this is compressed"),
+                           (b"1000 1\n", "this is text"), (b"\x1f\x8c\b\0", label), (b"text\xff", "this is text"), (b"tex\xff", label), (last, "it lacks a block with a start")):
             with self.subTest(data):
                 self.put("a.lda", data)
                 given, shown = self.at_a_terminal(lambda it: self.ldaodt("check a.lda", stderr=it))
-                why = "NoTransfer" if data == last else "Stray"
+                why = "NoTransfer" if data in (last, b"") else "Stray"
                 self.is_so((given.status, given.out), (3, ""))
                 refused, *advice = shown.split("\r\n")
                 self.is_so(refused, f"ldaodt: tape refused at {places.get(data, 0)}: {why}")
                 self.is_so((advice[0].startswith(told), len(advice) > 1), (True, bool(told)))
                 self.ends(self.ldaodt("check a.lda"), 3, "", f"{refused}\n")
+
+    def is_advised(self, data, advice, more="", **words):
+        """Asserts that of a file with this data a terminal is told that, and does what is told, with words in the place of those in
+        capitals, and more behind them; returns what is then said of the tape."""
+        self.put("a", data)
+        given, shown = self.at_a_terminal(lambda it: self.ldaodt("check a", stderr=it))
+        found = re.search(advice, shown.replace("\r\n", "\n"))
+        self.is_so((given.status, bool(found)), (3, True))
+        command = re.sub(r"\b(TAPE|FILE|N)\b", lambda it: words[it[0]], found[1]) + more
+        path = f"{os.path.dirname(PROGRAM)}:{os.environ['PATH']}"
+        subprocess.run(["bash", "-c", command], cwd=self.room, check=True, capture_output=True, env={**os.environ, "PATH": path})
+        return self.ldaodt(["check", words["TAPE"]])
+
+    def test_what_is_told_makes_a_tape(self):
+        tape = bytes_of(FIRST)
+        is_whole = lambda given, start: self.ends(given, 0, f"blocks 1 data 2 read 16\n{start}\ncanonical yes\nwords 1\n001000 177777 011064\n")
+        is_whole(self.is_advised(tape[:-7], "\n(printf .*)\n", TAPE="a"), "no start 000001")
+        is_whole(self.is_advised(gzip.compress(tape), ": (gunzip .*)\n", FILE="a", TAPE="b"), "start 001000")
+        is_whole(self.is_advised(b"hello\n" + tape, "'(tail .*)'", FILE="a", TAPE="c", N="7"), "start 001000")
+        is_whole(self.is_advised(b"001000 11064\n", "'(ldaodt make)'", " d a", TAPE="d"), "no start 000001")
+
+    def test_what_is_told_of_hex_makes_a_tape(self):
+        """Octal 011064 is hexadecimal 1234."""
+        if not shutil.which("srec_cat"):
+            self.skipTest("srec_cat is not installed")
+        for data in (b":020200003412B6\n:00000001FF\n", b"S10502003412B2\nS9030000FC\n"):
+            given = self.is_advised(data, "\n(srec_cat .*)\n", FILE="a", TAPE="b", N="1")
+            self.is_so((given.status, given.out.splitlines()[1:]), (0, ["no start 000001", "canonical no", "words 1", "001000 177777 011064"]))
 
     def test_nothing_is_said_where_the_input_was_asked_for(self):
         given = self.type_at(["check", "-"], b"\x04")

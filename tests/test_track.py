@@ -49,12 +49,13 @@ class Tracks(Case):
             self.follows(KEYS[:lost] + KEYS[lost + 1:lost + 20] + "Z" + KEYS[lost + 1:])
 
     def test_it_comes_back_to_the_track(self):
-        """Behind a key that is none and a Z it is what it was at that prompt."""
+        """Behind a key that is none, with a Z and without one, it is what it was at that prompt; of two that are the same the later one goes on."""
         for number, key in enumerate(KEYS):
             if key == "/" and "G" not in KEYS[:number]:
                 first = KEYS.rindex("Z" if "\r" not in KEYS[:number] else "\r", 0, number) + 1
-                machine = self.follows(KEYS[:number] + "xZ" + KEYS[first:number + 2])
-                self.assertIsNotNone(machine.place)
+                for behind in ("xZ", "x"):
+                    machine = self.follows(KEYS[:number] + behind + KEYS[first:number + 2])
+                    self.assertIsNotNone(machine.place)
 
     def test_another_word(self):
         """A track that goes elsewhere is left for good."""

@@ -4,7 +4,7 @@ import re
 import unittest
 
 from cases import Case, Console
-from commands import COMMANDS
+from commands import AT_A_MACHINE, COMMANDS, OF_TAPES
 from outside import FIRST, LOST_DIGIT, NO_PORT, TOP, bytes_of, fault
 
 NO_TEXT = "ldaodt: a word of the command line is not UTF-8\n"
@@ -104,11 +104,18 @@ class Words(Case):
         for name in ("", "check", "--help"):
             self.ends(self.ldaodt("", bytes_of(FIRST), name=name), 0, CHECKED)
 
-    def test_a_thousand_words(self):
-        given = self.ldaodt(["check"] + [FIRST] * 1000)
-        self.ends(given, 0, "".join(CHECKED.splitlines(True)[:3]) * 1000 + "words 1\n001000 177777 011064\n")
-        given = self.ldaodt(["rehearse", FIRST, LOST_DIGIT] + [FIRST] * 1000)
-        self.ends(given, 0, "sent 34 lost 1 spent 1 verified 1 of 1\nend Started\nodt Running 001000\n001000 011064 stands\n")
+    def test_three_thousand_words(self):
+        """Of each command that takes further tapes. Those at a machine reach nobody behind them, and say so."""
+        tapes = [FIRST] * 3000
+        reports = {"check": "".join(CHECKED.splitlines(True)[:3]) * 3000 + "words 1\n001000 177777 011064\n",
+                   "dialogue": self.ldaodt(["dialogue", FIRST]).out, "rehearse": self.ldaodt(["rehearse", FIRST, LOST_DIGIT]).out}
+        for command in OF_TAPES:
+            with self.subTest(command.name):
+                given = self.ldaodt(command.words(*tapes, line="x:y", script=LOST_DIGIT))
+                if command in AT_A_MACHINE:
+                    self.ends(given, 4, "", fault("cannot connect to x:y", NO_PORT))
+                else:
+                    self.ends(given, 0, reports[command.name])
 
 
 class Commands(Case):
@@ -136,11 +143,86 @@ class Commands(Case):
                 words = command.words(line="b:1")[:1 + count]
                 self.is_refused(words, why, self.USAGES[command.name].replace(" [OPTIONS]", ""))
 
+    def test_an_option_that_wants_another_word(self):
+        """It is said which, wherever the option stands; with that word it is taken: here up to a line that nobody has."""
+        self.put_tapes("first.lda")
+        for words, wanted, given in (
+            ("load first.lda b:1 --recheck", "--record <FILE>", "--record a.record"),
+            ("load --recheck first.lda b:1 --no-start", "--record <FILE>", "--record a.record"),
+            ("memory b:1 1000", "<TO>", "1002"),
+        ):
+            with self.subTest(words):
+                refused = self.ldaodt(words)
+                self.is_so((refused.status, refused.out), (2, ""))
+                self.assertTrue(refused.err.startswith(f"error: the following required arguments were not provided:\n  {wanted}\n"), refused.err)
+                taken = self.ldaodt(f"{words} {given}".replace("b:1", self.taken_port()))
+                self.is_so((taken.status, taken.err.startswith("ldaodt: cannot connect to ")), (4, True))
+
+    def test_options_that_exclude_each_other(self):
+        """Each of them alone is taken."""
+        for command in ("load first.lda b:1", "dialogue first.lda"):
+            for words in ("--no-start --start 1000", "--start 1000 --no-start"):
+                with self.subTest(f"{command} {words}"):
+                    refused = self.ldaodt(f"{command} {words}")
+                    self.is_so((refused.status, refused.out), (2, ""))
+                    self.assertRegex(refused.err, r"^error: the argument '--(no-start|start <AAAAAA>)' cannot be used with '--(no-start|start <AAAAAA>)'\n")
+
     def test_one_too_many(self):
         """But for commands that take further tapes."""
         for command in self.NAMED:
             if not command.takes("[MORE].."):
                 self.is_refused([*command.words(line="b:1", words="words"), "b.lda"], "unexpected argument 'b.lda' found", self.USAGES[command.name])
+
+
+def options_of(command):
+    """The options of a command by the page of help: each its name, what stands for its value, if it has one, and what is said of it."""
+    page = bytes_of(f"{TOP}/tests/help.md").decode()
+    listed = re.search(rf"^Usage: ldaodt {command.name}\b.*?\nOptions:\n(.*?)\n\n", page, re.MULTILINE | re.DOTALL)[1]
+    return re.findall(r"^ +(?:-\w, )?(--[a-z-]+)(?: <(\w+)>)? +(.*(?:\n {10,}.*)*)", listed, re.MULTILINE)
+
+
+class Options(Case):
+    """What the page of help says of options: how small and how large a number may be, and which have a value. A command at a machine whose
+    words are taken reaches nobody."""
+
+    # The options of each command.
+    TEXTS = [(command, *found) for command in COMMANDS if command.name for found in options_of(command)]
+
+    def setUp(self):
+        super().setUp()
+        self.put_tapes("first.lda")
+        self.put("a.script", b"clean\n")
+
+    def is_taken(self, is_taken, command, *more):
+        """Asserts whether a command takes such words more."""
+        with self.subTest(command.name, more=more):
+            given = self.ldaodt([*command.words(line="x:y", file="first.lda"), *more])
+            self.is_so((given.status == 2, given.err.startswith("error: ")), (not is_taken, not is_taken))
+
+    def test_limits(self):
+        """A number may be the least and the greatest that help names, and neither one less nor one more."""
+        tried = set()
+        for command, option, value, text in self.TEXTS:
+            limits = re.search(r"(?<![\w:])(\d+) to (\d+)(?!\d)", " ".join(text.split()))
+            if value in ("N", "MS", "SECONDS"):
+                least, greatest = int(limits[1]), int(limits[2])
+                tried.add(option)
+                for number in (least, greatest):
+                    self.is_taken(True, command, option, str(number))
+                for number in (least - 1, greatest + 1):
+                    self.is_taken(False, command, f"{option}={number}")
+        self.is_so(tried, {"--words", "--style", "--every", "--listen", "--patience", "--quiet"})
+
+    def test_values(self):
+        """One that has a value wants it, one that has none takes none, and each stands there once."""
+        for command, option, value, _ in self.TEXTS:
+            if option in ("--help", "--version"):
+                continue
+            some = {"": [], "FILE": ["a.record"], "AAAAAA": ["1000"]}.get(value, ["7"])
+            beside = ["--record", "a.record"] if option == "--recheck" else []
+            self.is_taken(True, command, option, *some, *beside)
+            self.is_taken(False, command, *beside, option, *some, option, *some)
+            self.is_taken(False, command, *beside, *([option] if value else [f"{option}=1"]))
 
 
 if __name__ == "__main__":

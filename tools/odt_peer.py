@@ -1,5 +1,5 @@
 #!/usr/bin/env python3
-"""A simulated LSI-11 console behind a TCP port or a serial device, with a line that may lose characters or break.
+"""A simulated LSI-11 console behind a TCP port or a serial device, with a line that may lose or change characters, or break.
 
     tools/odt_peer.py [--port N | --device [--stty "SETTING.."]] [--console KIND] [--words N] [--style N]
                       [--says TEXT] [--loss PERCENT] [--seed N] [--baud N] [--break-after N]
@@ -146,15 +146,15 @@ def is_there(*ends, seconds=0):
 class Line:
     """A machine, and the line to it: subclasses say what the line is made of, and whether a key is waiting there."""
 
-    def __init__(self, machine, loss=0.0, seed=0, close_after=None, takes_last=False, baud=None, tell=None, at_once=False):
-        self.machine, self.loss, self.baud = machine, loss, baud
+    def __init__(self, machine, loss=0.0, seed=0, close_after=None, takes_last=False, baud=None, tell=None, at_once=False, change=0.0):
+        self.machine, self.loss, self.change, self.baud = machine, loss, change, baud
         self.chance = random.Random(seed)
         # How many characters, keys and answers together, pass before the line breaks (None: it holds),
         # and whether a key that is the last of them still reaches the machine.
         self.close_after, self.takes_last = close_after, takes_last
-        self.keys = self.answered = self.lost = 0
-        # Whether an answer is sent at once, as a bridge may do it, and not character by character. For lines that hold, lose nothing
-        # and have no baud.
+        self.keys = self.answered = self.lost = self.changes = 0
+        # Whether an answer is sent at once, as a bridge may do it, and not character by character. For lines that hold, lose and change
+        # nothing and have no baud.
         self.at_once = at_once
         self.tell = tell or (lambda _text: None)
         self.is_hung_up = threading.Event()
@@ -177,7 +177,7 @@ class Line:
                 if self.loses():
                     continue
                 starts = len(self.machine.starts)
-                answer = self.machine.take(key)
+                answer = self.machine.take(self.passed(key))
                 is_started = len(self.machine.starts) > starts
                 if is_started:
                     self.tell(f"started at {self.machine.starts[-1]:06o}")
@@ -223,7 +223,7 @@ class Line:
             self.wait_a_character()
             if self.loses():
                 continue
-            send(character.encode("latin-1"))
+            send(self.passed(character).encode("latin-1"))
             self.answered += 1
             if self.is_over():
                 return False
@@ -246,11 +246,19 @@ class Line:
         self.lost += is_lost
         return is_lost
 
+    def passed(self, character):
+        """What becomes of a character on the line, which may change one of its seven bits."""
+        if not self.change or self.chance.random() >= self.change:
+            return character
+        self.changes += 1
+        return chr(ord(character) ^ 1 << self.chance.randrange(7))
+
     def is_over(self):
         return self.close_after is not None and self.keys + self.answered >= self.close_after
 
     def count(self):
-        return f"{self.keys} keys, {self.answered} characters answered, {self.lost} lost"
+        changed = f", {self.changes} changed" if self.change else ""
+        return f"{self.keys} keys, {self.answered} characters answered, {self.lost} lost{changed}"
 
 
 class Peer(Line):
@@ -278,6 +286,10 @@ class Peer(Line):
                 try:
                     connection.setsockopt(socket.IPPROTO_TCP, socket.TCP_NODELAY, 1)
                     self.talk(connection.recv, connection.sendall)
+                    # A key that came and is not read would make of the close a reset, which the host tells apart.
+                    connection.shutdown(socket.SHUT_WR)
+                    while connection.recv(64):
+                        pass
                 except OSError:
                     pass
             self.tell(f"gone: {self.count()}")
@@ -409,6 +421,7 @@ def main():
     words.add_argument("--style", type=int, choices=range(8), default=0)
     words.add_argument("--says", default="", help="what the program prints that is started; \\r and \\n as there")
     words.add_argument("--loss", type=float, default=0, help="of a hundred characters, each way")
+    words.add_argument("--change", type=float, default=0, help="of a hundred characters, each way, by one bit of seven")
     words.add_argument("--seed", type=int, default=0)
     words.add_argument("--baud", type=int)
     words.add_argument("--break-after", type=int, help="characters, keys and answers together, after which the line is dead")
@@ -416,7 +429,7 @@ def main():
     tell = lambda text: print(text, flush=True)
     says = asked.says.encode("latin-1").decode("unicode_escape")
     machine = CONSOLES[asked.console](asked.words, asked.style, [(0, says)])
-    named = {"loss": asked.loss / 100, "seed": asked.seed, "close_after": asked.break_after, "baud": asked.baud, "tell": tell}
+    named = {"loss": asked.loss / 100, "change": asked.change / 100, "seed": asked.seed, "close_after": asked.break_after, "baud": asked.baud, "tell": tell}
     line = Device(machine, asked.stty, **named) if asked.device else Peer(machine, asked.port, **named)
     tell(line.name)
     try:

@@ -50,6 +50,7 @@ rule_of_form form.Further name = repeated name
 rule_of_form (form.Text _) name = option name
 rule_of_form (form.Number _ least most) name = numeric name least most
 rule_of_form (form.Digit _ most) name = numeric name 0 most
+rule_of_form (form.LongNumber _ most) name = numeric name 0 most
 rule_of_form form.Flag name = flag name
 rule_of_form (form.FlagBeside _) name = tied_flag name
 rule_of_form (form.FlagWithout _) name = tied_flag name

@@ -1,10 +1,12 @@
 -- The commands: the word of each, its arguments and options, and what these say (this project's own).
-use Rattle.std.specs.Prelude.{◌≡◌, true, List, [], ◌∷◌, Some, fold, map, option_map, codes}
+use Rattle.std.specs.Prelude.{◌≡◌, Bool, true, if◌then◌else◌, List, [], ◌∷◌, Some, fold, map, option_map, codes}
 use Rattle.clap.specs.Matches.{first_value}
 use Rattle.clap.specs.Simple.{App, Shape, new_app, new_shape, on_top, with_subcommand}
 use Rattle.clap.specs.Walk.{Rule, Text}
 use Rattle.clap.specs.declared.parser.matches.Found.{Found}
 use Rattle.host_core.specs.Core.{plain_patience}
+use Rattle.reading_core.specs.declared.care.Care.{Care}
+use Rattle.reading_core.specs.declared.care.Care.TheVariants.{Once, Twice, TwiceWhereOther}
 use Rattle.request_values.specs.declared.machine.Load.{Load}
 use Rattle.request_values.specs.declared.machine.Look.{Look}
 use Rattle.request_values.specs.declared.machine.MemoryTest.{MemoryTest}
@@ -51,16 +53,16 @@ abbrev pub all_commands : List Shape
 all_commands =
     shape_with (codes "load") (
     needed (codes "TAPE") ∷ needed (codes "LINE") ∷ repeated (codes "MORE")
-    ∷ option (codes "record") ∷ tied_flag (codes "recheck") ∷ flag (codes "fast") ∷ option (codes "start") ∷ tied_flag (codes "no-start")
+    ∷ option (codes "record") ∷ tied_flag (codes "recheck") ∷ flag (codes "careful") ∷ flag (codes "fast") ∷ option (codes "start") ∷ tied_flag (codes "no-start")
     ∷ numeric (codes "listen") 1 65_535 ∷ numeric (codes "patience") 0 1000 ∷ numeric (codes "quiet") 1 60_000 ∷ flag (codes "log") ∷ []
     )
     ∷ shape_with (codes "verify") (
-    needed (codes "TAPE") ∷ needed (codes "LINE") ∷ repeated (codes "MORE")
-    ∷ numeric (codes "patience") 0 1000 ∷ numeric (codes "quiet") 1 60_000 ∷ flag (codes "log") ∷ []
+    needed (codes "TAPE") ∷ needed (codes "LINE") ∷ repeated (codes "MORE") ∷ flag (codes "careful")
+    ∷ numeric (codes "patience") 0 100_000 ∷ numeric (codes "quiet") 1 60_000 ∷ flag (codes "log") ∷ []
     )
     ∷ shape_with (codes "save") (
-    needed (codes "FILE") ∷ needed (codes "LINE") ∷ needed (codes "FROM") ∷ needed (codes "TO") ∷ option (codes "start")
-    ∷ numeric (codes "patience") 0 1000 ∷ numeric (codes "quiet") 1 60_000 ∷ flag (codes "log") ∷ []
+    needed (codes "FILE") ∷ needed (codes "LINE") ∷ needed (codes "FROM") ∷ needed (codes "TO") ∷ option (codes "start") ∷ flag (codes "once")
+    ∷ numeric (codes "patience") 0 100_000 ∷ numeric (codes "quiet") 1 60_000 ∷ flag (codes "log") ∷ []
     )
     ∷ shape_with (codes "probe") (
     needed (codes "LINE") ∷ option (codes "address")
@@ -90,6 +92,7 @@ pub record SaysLoad (found : Found) (load : Load) : Type 0 where
   pub record_file : option_map (λ name. name.now) load.«record» ≡ first_value found (codes "record")
   pub recheck : IsFlag found (codes "recheck") load.options.recheck
   pub fast : IsFlag found (codes "fast") load.options.fast
+  pub careful : IsFlag found (codes "careful") load.options.careful
   pub patience : IsNumberOf found (codes "patience") plain_patience load.options.patience
   pub quiet : IsNumberOf found (codes "quiet") plain_quiet load.quiet_ms
   pub listen : IsNumberGiven found (codes "listen") load.listen
@@ -101,12 +104,25 @@ pub record IsLookOf (found : Found) (look : Look) : Type 0 where
   pub patience : IsNumberOf found (codes "patience") plain_patience look.patience
   pub quiet : IsNumberOf found (codes "quiet") plain_quiet look.quiet_ms
 
+-- where words are verified, each that is not as expected is looked at twice, and every one with the option
+pub record IsVerifyingCare (found : Found) (care : Care) : Type 0 where
+  pub is_careful : Bool
+  pub flag : IsFlag found (codes "careful") is_careful
+  pub care_is : care ≡ (if is_careful then Twice else TwiceWhereOther)
+
+-- where words are saved, each is looked at twice, and only once with the option
+pub record IsSavingCare (found : Found) (care : Care) : Type 0 where
+  pub is_once : Bool
+  pub flag : IsFlag found (codes "once") is_once
+  pub care_is : care ≡ (if is_once then Once else Twice)
+
 -- a save is what the arguments and options of `save` say
 pub record IsSaveOf (found : Found) (save : Save) : Type 0 where
   pub file : first_value found (codes "FILE") ≡ Some save.file.now
   pub range : IsRangeOf found save.range
   pub start : IsSavedStart (first_value found (codes "start")) save.start
   pub look : IsLookOf found save.look
+  pub care : IsSavingCare found save.look.care
 
 -- a tape is made as the arguments and options of `make` say
 pub record IsMakeOf (found : Found) (make : Make) : Type 0 where
@@ -148,7 +164,7 @@ IsTapeRequestOf command found (Print request) = IsPrintRequestOf command found r
 -- one at a machine is
 abbrev pub IsMachineRequestOf : Text → Found → MachineRequest → Type 0
 IsMachineRequestOf command found (Loads names load) = (command ≡ codes "load") × NamesTapes found names.items × SaysLoad found load
-IsMachineRequestOf command found (Verify names look) = (command ≡ codes "verify") × NamesTapes found names.items × IsLookOf found look
+IsMachineRequestOf command found (Verify names look) = (command ≡ codes "verify") × NamesTapes found names.items × IsLookOf found look × IsVerifyingCare found look.care
 IsMachineRequestOf command found (Saves save) = (command ≡ codes "save") × IsSaveOf found save
 IsMachineRequestOf command found (Probes probe) = (command ≡ codes "probe") × IsProbeOf found probe
 IsMachineRequestOf command found (TestsMemory test) = (command ≡ codes "memory") × IsTestOf found test

@@ -43,6 +43,9 @@ enum Form {
     // An option with a number that may be 0 to this one.
     Digit(&'static str, u8),
 
+    // The same, to one that may be larger.
+    LongNumber(&'static str, u32),
+
     // An option without a value.
     Flag,
 
@@ -73,6 +76,10 @@ impl Argument {
             }
             Form::Digit(value, most) => {
                 let parser = value_parser!(u8).range(0..=i64::from(most));
+                Ok(arg.long(self.name).value_name(value).value_parser(parser))
+            }
+            Form::LongNumber(value, most) => {
+                let parser = value_parser!(u32).range(0..=i64::from(most));
                 Ok(arg.long(self.name).value_name(value).value_parser(parser))
             }
             Form::Flag => Ok(flag(arg, self.name)),
@@ -193,6 +200,24 @@ Type in a small program first that takes the words as
 bytes: some 8 times as quick, from 300 words on",
 };
 
+pub(crate) const CAREFUL: Argument = Argument {
+    name: names::CAREFUL,
+    form: Form::Flag,
+    help: "Look at every word twice",
+};
+
+/// The same for a load, which says what it is good for.
+pub(crate) const CAREFUL_LOAD: Argument = Argument {
+    help: "Bear a line that also changes characters",
+    ..CAREFUL
+};
+
+pub(crate) const ONCE: Argument = Argument {
+    name: names::ONCE,
+    form: Form::Flag,
+    help: "Look at every word only once",
+};
+
 pub(crate) const START: Argument = Argument {
     name: names::START,
     form: Form::Text("AAAAAA"),
@@ -239,7 +264,18 @@ Test one word of so many, 1 to 28672 [default: 64, and
 pub(crate) const PATIENCE: Argument = Argument {
     name: names::PATIENCE,
     form: Form::Number("N", 0, 1000),
-    help: "Mishaps that are survived, 0 to 1000 [default: 8]",
+    help: "\
+How many answers may not come or not fit, in each
+part of the run, 0 to 1000 [default: 8]",
+};
+
+// What is read of a machine stays as it is, however often that is tried: over a bad line all of it wants many.
+pub(crate) const LONG_PATIENCE: Argument = Argument {
+    name: names::PATIENCE,
+    form: Form::LongNumber("N", 100_000),
+    help: "\
+How many answers may not come or not fit, 0 to
+100000 [default: 8]",
 };
 
 pub(crate) const QUIET: Argument = Argument {

@@ -4,20 +4,23 @@
 ghost use Rattle.std.specs.Prelude.{◌≡◌, IfOk, codes};
 ghost use Rattle.clap.specs.Matches.{found_of};
 ghost use Rattle.clap.specs.Matches.{first_value};
-ghost use Rattle.command_line.specs.Commands.{SaysLoad, IsLookOf, IsMachineRequestOf};
+ghost use Rattle.host_core.specs.Core.{plain_patience};
+ghost use Rattle.command_line.specs.Commands.{SaysLoad, IsLookOf, IsMachineRequestOf, IsSavingCare, IsVerifyingCare};
 ghost use Rattle.command_line.specs.Options.{IsNumberOf, plain_step};
 
 use crate::addresses::{probed_of, range_of, saved_start_of, start_of, tested_range_of};
 use crate::arguments::{
-    ADDRESS, EVERY, FAST, FILE, FIRST_TESTED, FROM, LAST_TESTED, LINE, LISTEN, LOG, MORE, NO_START,
-    PATIENCE, QUIET, RECHECK, RECORD, SAVED_START, START, TAPE, TO,
+    ADDRESS, CAREFUL, CAREFUL_LOAD, EVERY, FAST, FILE, FIRST_TESTED, FROM, LAST_TESTED, LINE,
+    LISTEN, LOG, LONG_PATIENCE, MORE, NO_START, ONCE, PATIENCE, QUIET, RECHECK, RECORD,
+    SAVED_START, START, TAPE, TO,
 };
 use crate::commands::KnownCommand;
 use crate::names;
 use crate::no_request::NoRequest;
-use crate::values::{line_of, number_given, number_of, tapes_of, text_of};
+use crate::values::{line_of, long_number_of, number_given, number_of, tapes_of, text_of};
 use clap::ArgMatches;
 use host_core::PLAIN_PATIENCE;
+use reading_core::Care;
 use request_values::{Load, LoadOptions, Look, MachineRequest, MemoryTest, Probe, Save};
 use std::alloc::Global;
 
@@ -36,7 +39,19 @@ const LOAD: KnownCommand = KnownCommand {
     word: "load",
     about: "Loads a machine at a serial device or behind a port",
     arguments: &[
-        TAPE, LINE, MORE, RECORD, RECHECK, FAST, START, NO_START, LISTEN, PATIENCE, QUIET, LOG,
+        TAPE,
+        LINE,
+        MORE,
+        RECORD,
+        RECHECK,
+        CAREFUL_LOAD,
+        FAST,
+        START,
+        NO_START,
+        LISTEN,
+        PATIENCE,
+        QUIET,
+        LOG,
     ],
     help: "\
 Each word is looked at, deposited where it is not there yet, and read back; at
@@ -67,11 +82,12 @@ Example, a machine on a serial adapter, which prints when it runs:
 const VERIFY: KnownCommand = KnownCommand {
     word: "verify",
     about: "Looks whether a machine holds what tapes say, and changes nothing",
-    arguments: &[TAPE, LINE, MORE, PATIENCE, QUIET, LOG],
+    arguments: &[TAPE, LINE, MORE, CAREFUL, LONG_PATIENCE, QUIET, LOG],
     help: "\
 Each word of the tapes is looked at, in the order of the addresses. One that
-differs is a line: its address, mask and value, 'differs', and the word that is
-there. Nothing is typed that changes memory or starts anything.
+differs, also when it is looked at again, is a line: its address, mask and
+value, 'differs', and the word that is there. Nothing is typed that changes
+memory or starts anything.
 
 Exit status:
   0  the look ended Same: memory holds each byte of the tapes
@@ -88,14 +104,25 @@ Example, the morning after a load:
 const SAVE: KnownCommand = KnownCommand {
     word: "save",
     about: "Saves words of a machine as a tape, and changes nothing",
-    arguments: &[FILE, LINE, FROM, TO, SAVED_START, PATIENCE, QUIET, LOG],
+    arguments: &[
+        FILE,
+        LINE,
+        FROM,
+        TO,
+        SAVED_START,
+        ONCE,
+        LONG_PATIENCE,
+        QUIET,
+        LOG,
+    ],
     help: "\
-The words from FROM to TO, both included, are looked at and written as one
-tape. A file that is there is never overwritten. Where the machine has no such
-word, the line fails or patience ends, the tape has the words that were read,
-and without any there is no file. Where it is broken off, FILE.part keeps the
-words that were read, and the same line goes on behind them, once it has looked
-at 8 of them. Nothing is typed that changes memory or starts anything.
+The words from FROM to TO, both included, are looked at, each twice, since they
+may be the only copy, and written as one tape. A file that is there is never
+overwritten. Where memory ends before TO, the tape has the words below, and
+without any there is no file. Where it ends otherwise or is broken off,
+FILE.part keeps the words that were read, and the same line goes on behind
+them, once it has looked at 8 of them. Nothing is typed that changes memory or
+starts anything.
 
 Exit status:
   0  the look ended Saved
@@ -143,8 +170,9 @@ Each word is looked at twice, its complement is deposited and looked at, and
 what it held is put back and looked at. In the report a row is a bank of 4096
 words, and a column a bit of them, which is a chip: '.' held in every word, '0'
 or '1' reads so whatever is deposited, 'x' is bad in another way. The first 8
-words that do not hold are listed. Address lines or data lines that touch may
-not show.
+words that do not hold are listed. Where each word of a range is tested, so is
+the bus: data lines that touch and addresses that are one word are told. Other
+tests may not show them.
 
 Leave the console at its @ before, with no program running; none is started. At
 the first word it is tried, as by probe, whether the console forgets digits: if
@@ -153,7 +181,7 @@ number than it did: the terminal, or the report, names it and what it held.
 
 Exit status:
   0  the test ended Tested: every word that was tested held
-  1  a word does not hold
+  1  a word does not hold, data lines touch, or two addresses are one word
   4  the output could not be written, there was no connection, or the line
      failed
   5  the test ended NotTrusted: the console stores digits; GaveUp: there was no
@@ -184,9 +212,10 @@ fn load_of<'a>(alloc: Global, found: &ArgMatches<'a>) -> Result<Load<'a>, NoRequ
         line: line_of(alloc, found)?,
         record: found.get_str(names::RECORD),
         options: LoadOptions {
-            patience: u32::from(number_of(found, names::PATIENCE, PLAIN_PATIENCE as u16)?),
+            patience: patience_of(found)?,
             recheck: found.get_flag(names::RECHECK),
             fast: found.get_flag(names::FAST),
+            careful: found.get_flag(names::CAREFUL),
         },
         start: start_of(alloc, found)?,
         listen: number_given(found, names::LISTEN)?,
@@ -201,7 +230,12 @@ pub(crate) fn verifying_of<'a>(
 ) -> Result<MachineRequest<'a>, NoRequest>
     ensures { IfOk result (IsMachineRequestOf (codes "verify") (found_of found.now)) }
 {
-    let look = look_of(alloc, found)?;
+    let look = look_of(
+        alloc,
+        found,
+        verifying_care(found),
+        long_patience_of(found)?,
+    )?;
     Ok(MachineRequest::Verify(tapes_of(alloc, found)?, look))
 }
 
@@ -213,7 +247,7 @@ pub(crate) fn saving_of<'a>(
     ensures { IfOk result (IsMachineRequestOf (codes "save") (found_of found.now)) }
 {
     let file = text_of(found, names::FILE)?;
-    let look = look_of(alloc, found)?;
+    let look = look_of(alloc, found, saving_care(found), long_patience_of(found)?)?;
     let range = range_of(alloc, found)?;
     let start = saved_start_of(alloc, found)?;
     Ok(MachineRequest::Save(Save {
@@ -231,7 +265,7 @@ pub(crate) fn probing_of<'a>(
 ) -> Result<MachineRequest<'a>, NoRequest>
     ensures { IfOk result (IsMachineRequestOf (codes "probe") (found_of found.now)) }
 {
-    let look = look_of(alloc, found)?;
+    let look = look_of(alloc, found, Care::Once, patience_of(found)?)?;
     let address = probed_of(alloc, found)?;
     Ok(MachineRequest::Probe(Probe { address, look }))
 }
@@ -243,7 +277,7 @@ pub(crate) fn testing_of<'a>(
 ) -> Result<MachineRequest<'a>, NoRequest>
     ensures { IfOk result (IsMachineRequestOf (codes "memory") (found_of found.now)) }
 {
-    let look = look_of(alloc, found)?;
+    let look = look_of(alloc, found, Care::Once, patience_of(found)?)?;
     let range = tested_range_of(alloc, found)?;
     let every = step_of(found)?;
     if every == 0 {
@@ -263,13 +297,57 @@ fn step_of(found: &ArgMatches<'_>) -> Result<u16, NoRequest>
     number_of(found, names::EVERY, otherwise)
 }
 
-// A look at a machine.
-fn look_of<'a>(alloc: Global, found: &ArgMatches<'a>) -> Result<Look<'a>, NoRequest>
-    ensures { IfOk result (IsLookOf (found_of found.now)) }
+// How many mishaps are survived.
+fn patience_of(found: &ArgMatches<'_>) -> Result<u32, NoRequest>
+    ensures { IfOk result (IsNumberOf (found_of found.now) (codes "patience") plain_patience) }
+{
+    Ok(u32::from(number_of(found, names::PATIENCE, PLAIN_PATIENCE as u16)?))
+}
+
+// The same, where they may be more.
+fn long_patience_of(found: &ArgMatches<'_>) -> Result<u32, NoRequest>
+    ensures { IfOk result (IsNumberOf (found_of found.now) (codes "patience") plain_patience) }
+{
+    long_number_of(found, names::PATIENCE, PLAIN_PATIENCE)
+}
+
+// How often words are looked at where they are verified.
+fn verifying_care(found: &ArgMatches<'_>) -> Care
+    ensures { IsVerifyingCare (found_of found.now) result }
+{
+    if found.get_flag(names::CAREFUL) {
+        Care::Twice
+    } else {
+        Care::TwiceWhereOther
+    }
+}
+
+// How often words are looked at where they are saved.
+fn saving_care(found: &ArgMatches<'_>) -> Care
+    ensures { IsSavingCare (found_of found.now) result }
+{
+    if found.get_flag(names::ONCE) {
+        Care::Once
+    } else {
+        Care::Twice
+    }
+}
+
+// A look at a machine, with this care and this patience.
+fn look_of<'a>(
+    alloc: Global,
+    found: &ArgMatches<'a>,
+    care: Care,
+    patience: u32,
+) -> Result<Look<'a>, NoRequest>
+    requires { IsNumberOf (found_of found.now) (codes "patience") plain_patience patience }
+    ensures says { IfOk result (IsLookOf (found_of found.now)) }
+    ensures care { IfOk result (λ look. look.care ≡ care) }
 {
     Ok(Look {
         line: line_of(alloc, found)?,
-        patience: u32::from(number_of(found, names::PATIENCE, PLAIN_PATIENCE as u16)?),
+        care,
+        patience,
         quiet_ms: u32::from(number_of(found, names::QUIET, PLAIN_QUIET)?),
     })
 }

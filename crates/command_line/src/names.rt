@@ -39,6 +39,12 @@ pub const RECORD: &str = "record";
 /// Whether each word is looked at again.
 pub const RECHECK: &str = "recheck";
 
+/// Whether each word is looked at twice.
+pub const CAREFUL: &str = "careful";
+
+/// Whether each word is looked at only once.
+pub const ONCE: &str = "once";
+
 /// Whether a stub takes the words.
 pub const FAST: &str = "fast";
 

@@ -114,6 +114,20 @@ pub(crate) fn number_of(
     Ok(number_given(found, name)?.unwrap_or(otherwise))
 }
 
+/// The number that an option gives which may be larger, or the one that is meant without it.
+pub(crate) fn long_number_of(
+    found: &ArgMatches<'_>,
+    name: &str,
+    otherwise: u32,
+) -> Result<u32, NoRequest>
+    ensures { IfOk result (IsNumberOf (found_of found.now) name.now otherwise) }
+{
+    match found.try_get_one::<u32>(name) {
+        Ok(number) => Ok(number.unwrap_or(otherwise)),
+        Err(_) => Err(NoRequest::Meaningless),
+    }
+}
+
 /// The number that an option gives, where it is given.
 pub(crate) fn number_given(found: &ArgMatches<'_>, name: &str) -> Result<Option<u16>, NoRequest>
     ensures { IfOk result (IsNumberGiven (found_of found.now) name.now) }

@@ -6,6 +6,7 @@ use Rattle.host_devices.specs.Devices.{LineTold}
 use Rattle.load_engine.specs.Lent.{memory_told}
 use Rattle.record_file.specs.DiskStep.{DiskStep}
 use Rattle.requests.specs.Asked.{SystemAsked, asked_of}
+use Rattle.requests.specs.Moment.{Moment}
 use Rattle.simulated_system.specs.LineRequests.{asked_by}
 use Rattle.simulated_system.specs.ToldOpenings.{opened_by}
 use Rattle.simulated_system.specs.declared.line_request.LineRequest.{LineRequest}
@@ -22,3 +23,7 @@ asked_told opened disk for_lines lines = asked_of (Some (opened_by opened)) disk
 -- what is left of the input, what was written, and what was said of faults
 abbrev pub held_told : List ℕ → List ℕ → List ℕ → Held
 held_told rest out err = record { input = Some rest; out = Some out; unread = false; err = record { text = Some err; failures = None } }
+
+-- the moment at which this was asked and the streams hold this; what its files hold the disk does not tell
+abbrev pub moment_told : SystemAsked → Held → Moment
+moment_told asked held = record { asked = asked; holds = λ name. None; held = held }

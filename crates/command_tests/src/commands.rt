@@ -3,6 +3,7 @@
 
 use endings::CommandFault;
 use odt_machine::{LARGEST_WORDS, PLAIN_STYLE};
+use reading_core::Care;
 use request_values::{
     AddressRange, CheckOptions, Console, Load, LoadOptions, Look, MachineRequest, MemoryTest,
     PrintRequest, Probe, Rehearsal, Request, Save, Stage, TapeRequest,
@@ -21,6 +22,7 @@ pub(crate) const OPTIONS: LoadOptions = LoadOptions {
     patience: 0,
     recheck: false,
     fast: false,
+    careful: false,
 };
 
 /// Such a load, through that port.
@@ -45,6 +47,7 @@ pub(crate) const PATIENT_LOAD: Load<'static> = Load {
 /// A look through it that survives none.
 pub(crate) const LOOK: Look<'static> = Look {
     line: PORT,
+    care: Care::Once,
     patience: 0,
     quiet_ms: QUIET_MS,
 };

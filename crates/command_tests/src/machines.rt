@@ -299,7 +299,7 @@ static TESTS: [Row; 7] = [
         Asked::Test(0o001002, LOOK),
         AMPLE,
         Status::Done,
-        "                15 14 13 12 11 10  9  8  7  6  5  4  3  2  1  0\n000000-017776   .  .  .  .  .  .  .  .  .  .  .  .  .  .  .  .\ntested 2 words, 0 do not hold\nend Tested\n",
+        "                15 14 13 12 11 10  9  8  7  6  5  4  3  2  1  0\n000000-017776   .  .  .  .  .  .  .  .  .  .  .  .  .  .  .  .\ntested 2 words, 0 do not hold\ntested the bus at 001000, beside 15 words\nend Tested\n",
         "",
         1,
     ),
@@ -318,7 +318,7 @@ static TESTS: [Row; 7] = [
             ..LOADED
         },
         Status::Done,
-        "                15 14 13 12 11 10  9  8  7  6  5  4  3  2  1  0\n000000-017776   .  .  .  .  .  .  .  .  .  .  .  .  .  .  .  .\ntested 1 words, 0 do not hold\nend Tested\n",
+        "                15 14 13 12 11 10  9  8  7  6  5  4  3  2  1  0\n000000-017776   .  .  .  .  .  .  .  .  .  .  .  .  .  .  .  .\ntested 1 words, 0 do not hold\ntested the bus at 001000, beside 15 words\nend Tested\n",
         "",
         1,
     ),
@@ -330,7 +330,7 @@ static TESTS: [Row; 7] = [
             ..AMPLE
         },
         Status::Done,
-        "                15 14 13 12 11 10  9  8  7  6  5  4  3  2  1  0\n000000-017776   .  .  .  .  .  .  .  .  .  .  .  .  .  .  .  .   no memory at 001002\ntested 1 words, 0 do not hold\nend Tested\n",
+        "                15 14 13 12 11 10  9  8  7  6  5  4  3  2  1  0\n000000-017776   .  .  .  .  .  .  .  .  .  .  .  .  .  .  .  .   no memory at 001002\ntested 1 words, 0 do not hold\ntested the bus at 001000, beside 1 words\nend Tested\n",
         "",
         1,
     ),

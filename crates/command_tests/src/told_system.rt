@@ -1,10 +1,9 @@
 //! A system of which each part tells what is asked of it, and what `attempt` promises of one that does.
 ghost use Rattle.std.specs.Prelude.{◌≡◌, ℕ, List, []};
-ghost use Rattle.requests.specs.Asked.{asked_of};
+ghost use Rattle.requests.specs.Asked.{asked_of, system_told};
 ghost use Rattle.requests.specs.Attempt.{IsAttempted};
-ghost use Rattle.requests.specs.Moment.{moment};
 ghost use Rattle.request_values.specs.Change.{◌⇒◌};
-ghost use Rattle.command_tests.specs.ToldSystem.{held_told};
+ghost use Rattle.command_tests.specs.ToldSystem.{held_told, moment_told};
 
 use crate::attempts::{Ended, NOBODY};
 use crate::told_consoles::ToldConsoles;
@@ -62,7 +61,7 @@ pub(crate) fn attempt_told<'a, R: Abort + Files + Clock>(
     input: &[u8],
 ) -> (ToldSystem<'a, R>, Ended)
     ensures { (rest : List ℕ) × IsAttempted request.now
-        (moment system.entry (held_told input.now [] []) ⇒ moment result.0 (held_told rest result.1.out.items result.1.err.items))
+        (moment_told system.entry (held_told input.now [] []) ⇒ moment_told result.0 (held_told rest result.1.out.items result.1.err.items))
         result.1.status }
 {
     let ToldSystem {
@@ -100,7 +99,7 @@ pub(crate) fn attempt_told<'a, R: Abort + Files + Clock>(
 
 // The parts of a system that tell.
 fn parts_of<K: Kinds>(system: System<K>) -> (K::Inputs, K::Disk, K::Consoles)
-    ensures { system ≡ asked_of (K.Inputs.opened result.0) (K.Disk.asked result.1) (K.Consoles.asked result.2) (K.Consoles.lines result.2) }
+    ensures { system ≡ system_told (asked_of (K.Inputs.opened result.0) (K.Disk.asked result.1) (K.Consoles.asked result.2) (K.Consoles.lines result.2)) result.1 }
 {
     let System {
         inputs,

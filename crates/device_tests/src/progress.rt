@@ -576,21 +576,26 @@ fn a_pause_is_forgotten_within_a_minute(rt: HostRuntime) {
     }
 }
 
-// How many words there are of which eight are verified within a second, where that is kept, how
+// How many words there are of which eight are verified in each of ten seconds, where that is kept, how
 // often something was shown by then, and the line that says how long it takes, where that is two minutes or more.
 const FORECASTS: [(u32, KeptIn, u32, Option<&str>); 4] = [
-    (967, KeptIn::Record, 2, None),
+    (1039, KeptIn::Record, 3, None),
     (
-        968,
+        1040,
         KeptIn::Record,
-        3,
+        4,
         Some("some 2 minutes at this pace; after Ctrl-C the same line goes on"),
     ),
-    (968, KeptIn::Nothing, 3, Some("some 2 minutes at this pace")),
+    (
+        1040,
+        KeptIn::Nothing,
+        4,
+        Some("some 2 minutes at this pace"),
+    ),
     (
         28672,
         KeptIn::Part,
-        3,
+        4,
         Some("some 59 minutes at this pace; after Ctrl-C the same line goes on"),
     ),
 ];
@@ -610,11 +615,16 @@ fn is_forecast(
     line.sees(answered(b'Z', 0, 0));
     clock.millis.set(Some(BEGINNING.saturating_add(1000)));
     line.sees(answered(b'/', 8, 0));
+    if terminal.writes.get() != 2 {
+        return false;
+    }
+    clock.millis.set(Some(BEGINNING.saturating_add(10_000)));
+    line.sees(answered(b'/', 80, 0));
     if terminal.writes.get() != writes || !terminal.has_said(said) {
         return false;
     }
-    clock.millis.set(Some(BEGINNING.saturating_add(2000)));
-    line.sees(answered(b'/', 9, 0));
+    clock.millis.set(Some(BEGINNING.saturating_add(11_000)));
+    line.sees(answered(b'/', 88, 0));
     terminal.writes.get() == writes.saturating_add(1)
 }
 
@@ -627,6 +637,52 @@ fn a_long_load_says_once_how_long_it_takes(rt: HostRuntime) {
             "{words}"
         );
     }
+}
+
+// What a line says that is never silent, as it is told once ten seconds have gone by.
+const OVERHEARD: &str = "the line is never silent, and says: .kabcdefghijklmnopqrsttu\n\
+    a program that runs does so, and a system that echoes (stty -echo); 'ldaodt probe LINE' says more";
+
+#[test]
+fn a_line_that_is_never_silent_is_told_once(rt: HostRuntime) {
+    let clock = SetClock::new(Some(BEGINNING));
+    let terminal = Screen::new(rt.alloc());
+    let line = ProgressLine::new(&clock, &terminal, KeptIn::Record);
+    line.begins(0, 2000);
+    for (place, character) in b"xyz\r\xEBabcdefghijklmnopqrst".iter().enumerate() {
+        clock
+            .millis
+            .set(Some(BEGINNING.saturating_add(place as u64)));
+        line.sees(noticed(Heard::Got(*character), 0));
+    }
+    clock.millis.set(Some(BEGINNING.saturating_add(9_999)));
+    line.sees(noticed(Heard::Got(b't'), 0));
+    assert!(rt; !terminal.has_said(Some(OVERHEARD)));
+    clock.millis.set(Some(BEGINNING.saturating_add(10_100)));
+    line.sees(noticed(Heard::Got(b'u'), 0));
+    assert!(rt; terminal.has_said(Some(OVERHEARD)));
+    clock.millis.set(Some(BEGINNING.saturating_add(20_000)));
+    line.sees(noticed(Heard::Got(b'v'), 0));
+    assert!(rt; !terminal.has_said(Some(OVERHEARD)));
+}
+
+#[test]
+fn a_line_that_falls_silent_is_not_told(rt: HostRuntime) {
+    let clock = SetClock::new(Some(BEGINNING));
+    let terminal = Screen::new(rt.alloc());
+    let line = ProgressLine::new(&clock, &terminal, KeptIn::Record);
+    line.begins(0, 2000);
+    for second in 0..40u64 {
+        clock.millis.set(Some(BEGINNING.saturating_add(second.saturating_mul(1000))));
+        let heard = if second % 9 == 8 {
+            Heard::Quiet
+        } else {
+            Heard::Got(b'a')
+        };
+        line.sees(noticed(heard, 0));
+        assert!(rt; terminal.puts("0 of 2000 words, 0%, listening"), "{second}");
+    }
+    assert!(rt; terminal.writes.get() == 40);
 }
 
 // Types keys, and hears what comes behind the last of them.

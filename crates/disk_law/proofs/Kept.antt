@@ -1,9 +1,9 @@
 -- Calls that begin a record beside the old one keep a record.
-use Rattle.std.proofs.Common.{◌≡◌, ℕ, ◌+◌, ◌⊎◌, List, [], ◌∷◌, ◌++◌, length, Option, Some, None, inl, inr, arith, ap, sym, subst, ◌∙◌}
+use Rattle.std.proofs.Common.{◌≡◌, ℕ, ◌+◌, ◌⊎◌, List, [], ◌∷◌, ◌++◌, length, Option, Some, None, inl, inr, arith, ap, subst, ◌∙◌}
 use Rattle.std.specs.Prelude.{codes, ⊤}
 use Rattle.load_record.specs.Keeper.{Lasts}
 use Rattle.record_file.specs.Beginning.{new_name}
-use Rattle.record_file.specs.DiskStep.{Did, Open, Rename, Remove, SyncFolder, Cut, SyncFile}
+use Rattle.record_file.specs.DiskStep.{Did, Open, Link, Rename, Remove, SyncFolder, Cut, SyncFile}
 use Rattle.record_file.specs.declared.disk.Access.TheVariants.{New}
 use Rattle.disk_law.specs.Disk.{Disk, Event, Asked, Written, Synced, Kind, History, Leaves, Nothing, File, disk_of, more, told, after, made, renamed, removed, folder_synced, file_synced, written, torn_by, Torn}
 use Rattle.disk_law.specs.Laws.{IsFresh, IsOnDisk, IsBesideOnly, IsSo, AreSo, ARecordIsKept}
@@ -81,6 +81,7 @@ step : (kind : Kind) (d : Disk) (name text : List ℕ) (event : Event) (n : List
     → ((n ≡ new_name name) → ⊥) → Leaves (after kind d event) n left → Leaves d n left ⊎ ((n ≡ name) × (left ≡ Some text))
 step kind d name text (Asked i (Did (Open New new))) n left names so other leaves =
     inl (by_made d name text new i n left so (λ e. other (e ∙ names)) leaves)
+step kind d name text (Asked i (Did (Link from to))) n left names so other leaves = absurd names
 step kind d name text (Asked i (Did (Rename from to None))) n left names so other leaves = absurd so
 step kind d name text (Asked i (Did (Rename from to (Some whole)))) n left names so other leaves =
     let come = by_renamed d to whole from n left so (λ e. other (e ∙ names.0)) leaves in

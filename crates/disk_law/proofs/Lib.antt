@@ -1,8 +1,11 @@
 pub mod Appends
+pub mod Blocks
 pub mod Kept
+pub mod Lives
 pub mod Names
 pub mod Needed
 pub mod OnDisk
 pub mod Over
 pub mod Own
+pub mod Shelf
 pub mod Stays

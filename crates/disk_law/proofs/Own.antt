@@ -1,94 +1,78 @@
 -- A load takes FILE away only where it made it.
-use Rattle.std.proofs.Common.{◌≡◌, ◌⊎◌, ℕ, Bool, true, false, List, [], ◌∷◌, ◌++◌, Option, Some, None, inl, inr, refl, sym, subst, ◌∙◌}
-use Rattle.std.specs.Prelude.{⊤}
-use Rattle.record_file.specs.Beginning.{Course, Replaced, new_name, new_record, IsRenaming, Whole, Unsynced, NotRenamed, Moved, IsWriting, NotHeld, NoRoom, NotWritten, Written as WrittenBeside}
-use Rattle.record_file.specs.Beginning.{IsBeside, OutOfReach, NoMemory, NoFolder, AtFolder, IsPlaceSynced, FolderOpened, FolderShut, Unresolved, IsFileCut, CutAndSynced, NotCut}
-use Rattle.record_file.specs.Beginning.{IsLetGo, Stays, StaysBehindLink, LeadsElsewhere, Goes, IsMadeReady, ReadyDevice, ReadyFile, IsUnready, NotWritable, NotSynced, MovedAway}
+use Rattle.std.proofs.Common.{◌≡◌, ◌⊎◌, ℕ, Bool, true, false, List, [], ◌∷◌, ◌++◌, Option, inl, inr, refl, sym, ◌∙◌}
+use Rattle.record_file.specs.Beginning.{Course, Replaced, new_name, IsBeside, Whole, Unsynced, NotRenamed, Stopped, FolderOpened, FolderShut}
+use Rattle.record_file.specs.Beginning.{IsFileCut, CutAndSynced, NotCut, IsLetGo, Stays, StaysBehindLink, LeadsElsewhere, Goes, IsMadeReady, ReadyDevice, ReadyFile}
 use Rattle.record_file.specs.Beginning.{IsWrittenOver, Device, PlainFile, IsNotWrittenOver, Unready, Unwritten, Uncut, IsBegun, Beside, InPlace, IsNotBegun, NotBeside, NotInPlace}
-use Rattle.record_file.specs.DiskStep.{DiskStep, Did, Open, Rename, Remove, SyncFolder, Cut, SyncFile, Look, step_by}
-use Rattle.record_file.specs.declared.disk.Access.TheVariants.{New}
+use Rattle.record_file.specs.DiskStep.{DiskStep, Did, Failed, Look, Remove, Rename, SyncFolder, LeaveAllBut}
 use Rattle.record_file.specs.declared.made.Made.{Made}
-use Rattle.record_file.specs.declared.made.Made.TheVariants.{Before, Here, BehindLink}
+use Rattle.record_file.specs.declared.made.Made.TheVariants.{Here}
 use Rattle.disk_law.specs.Removing.{TakesAway, TakeAway, OnlyItsOwnFileGoes}
 use Rattle.disk_law.proofs.Kept.{not_itself}
-use Rattle.disk_law.proofs.Names.{HasNames, HaveNames, beside}
+use Rattle.disk_law.proofs.Names.{EachLeaves, LeavesAllBut, each_leaves}
 
 joined : (name : List ℕ) (xs ys : List DiskStep) → TakeAway name (xs ++ ys) → TakeAway name xs ⊎ TakeAway name ys
 joined name [] ys away = inr away
 joined name (x ∷ xs) ys (inl away) = inl (inl away)
 joined name (x ∷ xs) ys (inr away) = elim (joined name xs ys away) [ inl front ↦ inl (inr front) | inr back ↦ inr back ]
 
--- ---- beside
+-- ---- steps that leave each file but the new one as it is
 
-other_name : (name text : List ℕ) (step : DiskStep) → HasNames name text step → TakesAway name step → ⊥
-other_name name text (Did (Remove n)) has away = not_itself name (sym away ∙ has)
-other_name name text other has away = absurd away
+stays : (name : List ℕ) (step : DiskStep) → LeavesAllBut (new_name name) step → TakesAway name step → ⊥
+stays name (Did (Remove n)) leaves away = not_itself name (sym away ∙ leaves)
+stays name other leaves away = absurd away
 
-other_names : (name text : List ℕ) (steps : List DiskStep) → HaveNames name text steps → TakeAway name steps → ⊥
-other_names name text [] have away = absurd away
-other_names name text (step ∷ steps) have (inl away) = other_name name text step have.0 away
-other_names name text (step ∷ steps) have (inr away) = other_names name text steps have.1 away
+each_stay : (name : List ℕ) (steps : List DiskStep) → EachLeaves (new_name name) steps → TakeAway name steps → ⊥
+each_stay name [] leave away = absurd away
+each_stay name (step ∷ steps) leave (inl away) = stays name step leave.0 away
+each_stay name (step ∷ steps) leave (inr away) = each_stay name steps leave.1 away
+
+stay : (name : List ℕ) (steps : List DiskStep) → LeaveAllBut (new_name name) false steps → TakeAway name steps → ⊥
+stay name steps leave = each_stay name steps (each_leaves (new_name name) false steps leave)
+
+-- no name goes by three such steps
+none_of : (name : List ℕ) (x y z : DiskStep) → (TakesAway name x → ⊥) → (TakesAway name y → ⊥) → (TakesAway name z → ⊥) → TakeAway name (x ∷ y ∷ z ∷ []) → ⊥
+none_of name x y z a b c (inl away) = a away
+none_of name x y z a b c (inr (inl away)) = b away
+none_of name x y z a b c (inr (inr (inl away))) = c away
+none_of name x y z a b c (inr (inr (inr away))) = absurd away
 
 beside_keeps : (name text : List ℕ) (was : Made) (course : Course) (is : Made) (steps : List DiskStep) → IsBeside name text was course is steps → TakeAway name steps → ⊥
-beside_keeps name text was course is steps list away = other_names name text steps (beside name text was course is steps list) away
+beside_keeps name text was course is steps (Whole before left folder whole f) (inl away) = absurd away
+beside_keeps name text was course is steps (Whole before left folder whole f) (inr away) = elim (joined name before _ away) [
+  | inl front ↦ stay name before whole.0 front
+  | inr back ↦ none_of name (Did (Look name)) (Did (Rename (new_name name) name left)) (Did (SyncFolder folder)) (λ a. absurd a) (λ a. absurd a) (λ a. absurd a) back
+]
+beside_keeps name text was course is steps (Unsynced before left folder whole) (inl away) = absurd away
+beside_keeps name text was course is steps (Unsynced before left folder whole) (inr away) = elim (joined name before _ away) [
+  | inl front ↦ stay name before whole.0 front
+  | inr back ↦ none_of name (Did (Look name)) (Did (Rename (new_name name) name left)) (Failed (SyncFolder folder)) (λ a. absurd a) (λ a. absurd a) (λ a. absurd a) back
+]
+beside_keeps name text was course is steps (NotRenamed same leave f) away = stay name steps leave.0 away
+beside_keeps name text was course is steps (Stopped same leave) away = stay name steps leave.0 away
 
 -- ---- in place
 
--- a step takes no name away
-abbrev IsMild : DiskStep → Type 0
-IsMild (Did (Remove n)) = ⊥
-IsMild other = ⊤
+ready : (name : List ℕ) (made : Made) (device : Bool) (steps : List DiskStep) → IsMadeReady name made device steps → TakeAway name steps → ⊥
+ready name made device steps ReadyDevice away = absurd away
+ready name made device steps (ReadyFile before (FolderOpened target folder f)) away = stay name steps tt away
+ready name made device steps (ReadyFile before (FolderShut target folder f was)) away = stay name steps tt away
 
-abbrev AreMild : List DiskStep → Type 0
-AreMild [] = ⊤
-AreMild (step ∷ steps) = IsMild step × AreMild steps
+file_cut : (name : List ℕ) (before : Option (List ℕ)) (text : List ℕ) (done : Bool) (steps : List DiskStep) → IsFileCut before text done steps → TakeAway name steps → ⊥
+file_cut name before text done steps (CutAndSynced wrote true all) (inl a) = absurd a
+file_cut name before text done steps (CutAndSynced wrote true all) (inr (inl a)) = absurd a
+file_cut name before text done steps (CutAndSynced wrote true all) (inr (inr a)) = absurd a
+file_cut name before text done steps (CutAndSynced wrote false all) (inl a) = absurd a
+file_cut name before text done steps (CutAndSynced wrote false all) (inr (inl a)) = absurd a
+file_cut name before text done steps (CutAndSynced wrote false all) (inr (inr a)) = absurd a
+file_cut name before text done steps (NotCut wrote all) (inl a) = absurd a
+file_cut name before text done steps (NotCut wrote all) (inr a) = absurd a
 
-mild_step : (name : List ℕ) (step : DiskStep) → IsMild step → TakesAway name step → ⊥
-mild_step name (Did (Remove n)) mild away = absurd mild
-mild_step name other mild away = absurd away
-
-mild_keeps : (name : List ℕ) (steps : List DiskStep) → AreMild steps → TakeAway name steps → ⊥
-mild_keeps name [] mild away = absurd away
-mild_keeps name (step ∷ steps) mild (inl away) = mild_step name step mild.0 away
-mild_keeps name (step ∷ steps) mild (inr away) = mild_keeps name steps mild.1 away
-
-both : (xs ys : List DiskStep) → AreMild xs → AreMild ys → AreMild (xs ++ ys)
-both [] ys first then = then
-both (x ∷ xs) ys first then = (first.0, both xs ys first.1 then)
-
-looked : (name : List ℕ) (found : Bool) → IsMild (step_by (Look name) found)
-looked name true = tt
-looked name false = tt
-
-synced : (folder : List ℕ) (done : Bool) → IsMild (step_by (SyncFolder folder) done)
-synced folder true = tt
-synced folder false = tt
-
-file_synced : (wrote : Option (List ℕ)) (done : Bool) → IsMild (step_by (SyncFile wrote) done)
-file_synced wrote true = tt
-file_synced wrote false = tt
-
-place : (name : List ℕ) (made : Made) (done : Bool) (steps : List DiskStep) → IsPlaceSynced name made done steps → AreMild steps
-place name made done steps (FolderOpened target folder was of) = (tt, (tt, (synced folder was, tt)))
-place name made done steps (FolderShut target folder of) = (tt, (tt, tt))
-place name made done steps Unresolved = (tt, tt)
-
-file_cut : (before : Option (List ℕ)) (text : List ℕ) (done : Bool) (steps : List DiskStep) → IsFileCut before text done steps → AreMild steps
-file_cut before text done steps (CutAndSynced wrote was all) = (tt, (file_synced wrote was, tt))
-file_cut before text done steps (NotCut wrote all) = (tt, tt)
-
-ready : (name : List ℕ) (made : Made) (device : Bool) (steps : List DiskStep) → IsMadeReady name made device steps → AreMild steps
-ready name made device steps ReadyDevice = tt
-ready name made device steps (ReadyFile before at) = both before _ (place name made true before at) (tt, tt)
-
-unready : (name : List ℕ) (made : Made) (steps : List DiskStep) → IsUnready name made steps → AreMild steps
-unready name made steps NotWritable = tt
-unready name made steps (NotSynced before at) = place name made false before at
-unready name made steps (MovedAway found before at) = both before _ (place name made true before at) (looked name found, tt)
-
-over : (name : List ℕ) (made : Made) (before : Option (List ℕ)) (text : List ℕ) (device : Bool) (steps : List DiskStep) → IsWrittenOver name made before text device steps → AreMild steps
-over name made before text device steps (Device made_ready is) = ready name made true made_ready is
-over name made before text device steps (PlainFile made_ready cutting is cut) = both made_ready cutting (ready name made false made_ready is) (file_cut before text true cutting cut)
+over : (name : List ℕ) (made : Made) (before : Option (List ℕ)) (text : List ℕ) (device : Bool) (steps : List DiskStep) → IsWrittenOver name made before text device steps → TakeAway name steps → ⊥
+over name made before text device steps (Device made_ready is) away = ready name made true made_ready is away
+over name made before text device steps (PlainFile made_ready cutting is cut) away = elim (joined name made_ready cutting away) [
+  | inl front ↦ ready name made false made_ready is front
+  | inr back ↦ file_cut name before text true cutting cut back
+]
 
 -- ---- what is let go
 
@@ -99,35 +83,23 @@ let_go name made steps (LeadsElsewhere found) away = refl
 let_go name made steps (Goes removed) away = refl
 
 not_over : (name : List ℕ) (made : Made) (before : Option (List ℕ)) (text : List ℕ) (steps : List DiskStep) → IsNotWrittenOver name made before text steps → TakeAway name steps → made ≡ Here
-not_over name made before text steps (Unready made_ready going is go) away = elim (joined name made_ready going away) [
-  | inl front ↦ absurd (mild_keeps name made_ready (unready name made made_ready is) front)
+not_over name made before text steps (Unready unready going leave go) away = elim (joined name unready going away) [
+  | inl front ↦ absurd (stay name unready leave front)
   | inr back ↦ let_go name made going go back
 ]
-not_over name made before text steps (Unwritten device made_ready is) away = absurd (mild_keeps name made_ready (ready name made device made_ready is) away)
-not_over name made before text steps (Uncut made_ready cutting is cut) away =
-    absurd (mild_keeps name (made_ready ++ cutting) (both made_ready cutting (ready name made false made_ready is) (file_cut before text false cutting cut)) away)
+not_over name made before text steps (Unwritten device made_ready is) away = absurd (ready name made device made_ready is away)
+not_over name made before text steps (Uncut made_ready cutting is cut) away = elim (joined name made_ready cutting away) [
+  | inl front ↦ absurd (ready name made false made_ready is front)
+  | inr back ↦ absurd (file_cut name before text false cutting cut back)
+]
 
 -- ---- whose file it is behind a beginning
 
-renamed_made : (name new folder text : List ℕ) (was : Made) (course : Course) (is : Made) (steps : List DiskStep)
-    → IsRenaming (new_record name new folder text) was course is steps → is ≡ Here → was ≡ Here
-renamed_made name new folder text was course is steps (Whole left l) here = absurd (cc here)
-renamed_made name new folder text was course is steps (Unsynced left l) here = absurd (cc here)
-renamed_made name new folder text was course is steps (NotRenamed left removed) here = here
-renamed_made name new folder text was course is steps (Moved found removed) here = here
-
-written_made : (name folder text : List ℕ) (was : Made) (course : Course) (is : Made) (steps : List DiskStep) → IsWriting name folder text was course is steps → is ≡ Here → was ≡ Here
-written_made name folder text was course is steps (NotHeld making held) here = here
-written_made name folder text was course is steps (NoRoom making held) here = here
-written_made name folder text was course is steps (NotWritten making removed held) here = here
-written_made name folder text was course is steps (WrittenBeside way after making renaming held renamed) here =
-    renamed_made name (new_name name) folder text was way after renaming renamed here
-
 beside_made : (name text : List ℕ) (was : Made) (course : Course) (is : Made) (steps : List DiskStep) → IsBeside name text was course is steps → is ≡ Here → was ≡ Here
-beside_made name text was course is steps OutOfReach here = here
-beside_made name text was course is steps NoMemory here = here
-beside_made name text was course is steps (NoFolder folder of) here = here
-beside_made name text was course is steps (AtFolder folder way after writing of wrote) here = written_made name folder text was way after writing wrote here
+beside_made name text was course is steps (Whole before left folder whole f) here = absurd (cc here)
+beside_made name text was course is steps (Unsynced before left folder whole) here = absurd (cc here)
+beside_made name text was course is steps (NotRenamed same leave f) here = here
+beside_made name text was course is steps (Stopped same leave) here = here
 
 pub only_its_own_file_goes : OnlyItsOwnFileGoes
 only_its_own_file_goes name text known steps = record {
@@ -140,7 +112,7 @@ only_its_own_file_goes name text known steps = record {
     begun steps (Beside after all list) away = beside_keeps name text known.made Replaced after all list away
     begun steps (InPlace after before writing list is) away = elim (joined name before writing away) [
       | inl front ↦ beside_keeps name text known.made _ after before list front
-      | inr back ↦ mild_keeps name writing (over name after known.written text known.device writing is) back
+      | inr back ↦ over name after known.written text known.device writing is back
     ]
 
     not_begun : (steps : List DiskStep) → IsNotBegun name known text steps → TakeAway name steps → known.made ≡ Here

@@ -1,13 +1,12 @@
 -- A new record that has come to the old one's place stays.
-use Rattle.std.proofs.Common.{◌≡◌, ℕ, ◌⊎◌, List, [], ◌∷◌, ◌++◌, Option, Some, None, inl, inr, refl, ap, sym, subst, ◌∙◌}
+use Rattle.std.proofs.Common.{◌≡◌, ℕ, List, [], ◌∷◌, ◌++◌, Option, Some, None, inl, inr, refl, ap, sym, subst, ◌∙◌}
 use Rattle.load_record.specs.Keeper.{Lasts}
-use Rattle.record_file.specs.Beginning.{Course, Replaced, new_name, new_record, IsMakingHeld, IsRenaming, Whole, Unsynced, NotRenamed, Moved, IsWriting, NotHeld, NoRoom, NotWritten, Written as WrittenBeside}
-use Rattle.record_file.specs.Beginning.{IsBeside, OutOfReach, NoMemory, NoFolder, AtFolder}
-use Rattle.record_file.specs.DiskStep.{DiskStep, Did, Failed, Look, Open, Rename, Remove, SyncFolder, Cut, SyncFile}
+use Rattle.record_file.specs.Beginning.{Course, Replaced, new_name, IsBeside, Whole, Unsynced, NotRenamed, Stopped}
+use Rattle.record_file.specs.DiskStep.{DiskStep, Did, FindSoleFile, Look, Open, Link, Rename, Remove, SyncFolder, Cut, SyncFile}
 use Rattle.record_file.specs.Folder.{IsFolderOf}
 use Rattle.record_file.specs.declared.disk.Access.TheVariants.{New}
 use Rattle.record_file.specs.declared.made.Made.{Made}
-use Rattle.disk_law.specs.Disk.{Disk, Event, Asked, Written, Synced, Kind, History, Leaves, Nothing, File, disk_of, more, told, renamed, folder_synced, file_synced, written, torn_by, Torn, after, made, removed, cut, at_first, after_all}
+use Rattle.disk_law.specs.Disk.{Disk, Event, Asked, Written, Synced, Kind, History, Leaves, Nothing, File, disk_of, more, told, renamed, folder_synced, file_synced, written, torn_by, Torn, after, at_first, after_all}
 use Rattle.disk_law.specs.Laws.{FoldersAreKept, IsOnDisk, IsBesideOnly, IsSo, AreSo, ANewRecordStays}
 use Rattle.disk_law.proofs.Kept.{not_itself, by_synced, by_written, same_text}
 
@@ -25,6 +24,8 @@ seen_step : (kind : Kind) (d : Disk) (event : Event) → ((n : List ℕ) (x : Op
     → (n : List ℕ) (x : Option ℕ) → (after kind d event).leads n x → (after kind d event).may_lead n x
 seen_step kind d (Asked i (Did (Open New name))) seen n x (inl same) = inr same
 seen_step kind d (Asked i (Did (Open New name))) seen n x (inr other) = inl (seen n x other.1)
+seen_step kind d (Asked i (Did (Link from to))) seen n x (inl led) = inr led
+seen_step kind d (Asked i (Did (Link from to))) seen n x (inr other) = inl (seen n x other.1)
 seen_step kind d (Asked i (Did (Rename from to left))) seen n x (inl led) = inr (inl led)
 seen_step kind d (Asked i (Did (Rename from to left))) seen n x (inr (inl gone)) = inr (inr gone)
 seen_step kind d (Asked i (Did (Rename from to left))) seen n x (inr (inr other)) = inl (seen n x other.2)
@@ -42,12 +43,12 @@ seen_all : (kind : Kind) (d : Disk) (events : List Event) → ((n : List ℕ) (x
 seen_all kind d [] seen = seen
 seen_all kind d (event ∷ earlier) seen = seen_step kind (after_all kind d earlier) event (seen_all kind d earlier seen)
 
-seen : (history : History) (n : List ℕ) (x : Option ℕ) → (disk_of history).leads n x → (disk_of history).may_lead n x
+pub seen : (history : History) (n : List ℕ) (x : Option ℕ) → (disk_of history).leads n x → (disk_of history).may_lead n x
 seen history = seen_all history.kind (at_first history.names history.texts) history.events (λ n x leads. leads)
 
 -- ---- the last two calls
 
-ends_same : (xs ys : List DiskStep) (x y : DiskStep) → xs ++ x ∷ [] ≡ ys ++ y ∷ [] → (xs ≡ ys) × (x ≡ y)
+pub ends_same : (xs ys : List DiskStep) (x y : DiskStep) → xs ++ x ∷ [] ≡ ys ++ y ∷ [] → (xs ≡ ys) × (x ≡ y)
 ends_same [] [] x y is = (refl, cc is)
 ends_same [] (b ∷ []) x y is = absurd (cc is)
 ends_same [] (b ∷ b' ∷ ys) x y is = absurd (cc is)
@@ -133,35 +134,19 @@ appended : (xs ys zs : List DiskStep) → xs ++ (ys ++ zs) ≡ (xs ++ ys) ++ zs
 appended [] ys zs = refl
 appended (x ∷ xs) ys zs = ap (λ l. x ∷ l) (appended xs ys zs)
 
-renaming_ends : (name folder text : List ℕ) (was : Made) (course : Course) (is : Made) (steps before : List DiskStep) → course ≡ Replaced → IsFolderOf name folder
-    → IsRenaming (new_record name (new_name name) folder text) was course is steps → EndsSo name text (before ++ steps)
-renaming_ends name folder text was course is steps before replaced of (Whole left l) = record {
-  front = before ++ Did (Look name) ∷ [];
+beside_ends : (name text : List ℕ) (was : Made) (course : Course) (is : Made) (steps : List DiskStep) → course ≡ Replaced → IsBeside name text was course is steps → EndsSo name text steps
+beside_ends name text was course is steps replaced (Whole before left folder whole f) = record {
+  front = Did (FindSoleFile name) ∷ (before ++ Did (Look name) ∷ []);
   folder = folder;
   left = left;
-  of = of;
-  lasts = l;
-  all = appended before (Did (Look name) ∷ []) (Did (Rename (new_name name) name left) ∷ Did (SyncFolder folder) ∷ [])
-      ∙ appended (before ++ Did (Look name) ∷ []) (Did (Rename (new_name name) name left) ∷ []) (Did (SyncFolder folder) ∷ []);
+  of = f;
+  lasts = whole.2;
+  all = ap (λ l. Did (FindSoleFile name) ∷ l) (appended before (Did (Look name) ∷ []) (Did (Rename (new_name name) name left) ∷ Did (SyncFolder folder) ∷ [])
+      ∙ appended (before ++ Did (Look name) ∷ []) (Did (Rename (new_name name) name left) ∷ []) (Did (SyncFolder folder) ∷ []));
 }
-renaming_ends name folder text was course is steps before replaced of (Unsynced left l) = absurd (cc replaced)
-renaming_ends name folder text was course is steps before replaced of (NotRenamed left removed) = absurd (cc replaced)
-renaming_ends name folder text was course is steps before replaced of (Moved found removed) = absurd (cc replaced)
-
-writing_ends : (name folder text : List ℕ) (was : Made) (course : Course) (is : Made) (steps before : List DiskStep) → course ≡ Replaced → IsFolderOf name folder
-    → IsWriting name folder text was course is steps → EndsSo name text (before ++ steps)
-writing_ends name folder text was course is steps before replaced of (NotHeld making held) = absurd (cc replaced)
-writing_ends name folder text was course is steps before replaced of (NoRoom making held) = absurd (cc replaced)
-writing_ends name folder text was course is steps before replaced of (NotWritten making removed held) = absurd (cc replaced)
-writing_ends name folder text was course is steps before replaced of (WrittenBeside way after making renaming held renamed) =
-    subst (EndsSo name text) (sym (appended before making renaming)) (renaming_ends name folder text was way after renaming (before ++ making) replaced of renamed)
-
-beside_ends : (name text : List ℕ) (was : Made) (course : Course) (is : Made) (steps : List DiskStep) → course ≡ Replaced → IsBeside name text was course is steps → EndsSo name text steps
-beside_ends name text was course is steps replaced OutOfReach = absurd (cc replaced)
-beside_ends name text was course is steps replaced NoMemory = absurd (cc replaced)
-beside_ends name text was course is steps replaced (NoFolder folder of) = absurd (cc replaced)
-beside_ends name text was course is steps replaced (AtFolder folder way after writing of wrote) =
-    writing_ends name folder text was way after writing (_ ∷ _ ∷ []) replaced of wrote
+beside_ends name text was course is steps replaced (Unsynced before left folder whole) = absurd (cc replaced)
+beside_ends name text was course is steps replaced (NotRenamed same leave f) = absurd (cc replaced)
+beside_ends name text was course is steps replaced (Stopped same leave) = absurd (cc replaced)
 
 pub a_new_record_stays : ANewRecordStays
 a_new_record_stays name text was is history events list so left leaves =

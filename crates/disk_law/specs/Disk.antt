@@ -1,6 +1,6 @@
 -- A disk: names, files, what a program sees of them, and what a crash may leave.
 use Rattle.std.specs.Prelude.{◌≡◌, ◌⊎◌, ℕ, ◌+◌, ◌≤◌, List, [], ◌∷◌, ◌++◌, take, drop, length, Option, Some, None, ⊤}
-use Rattle.record_file.specs.DiskStep.{DiskStep, Did, Open, Rename, Remove, SyncFolder, Cut, SyncFile}
+use Rattle.record_file.specs.DiskStep.{DiskStep, Did, Open, Link, Rename, Remove, SyncFolder, Cut, SyncFile}
 use Rattle.record_file.specs.Folder.{IsFolderOf}
 use Rattle.record_file.specs.declared.disk.Access.TheVariants.{New}
 
@@ -53,6 +53,12 @@ made d name i = record {
   may_hold = λ j t. d.may_hold j t ⊎ ((j ≡ i) × (t ≡ []));
 }
 
+abbrev pub linked : Disk → List ℕ → List ℕ → Disk
+linked d from to = record d {
+  leads = λ n x. ((n ≡ to) × d.leads from x) ⊎ (((n ≡ to) → ⊥) × d.leads n x);
+  may_lead = λ n x. d.may_lead n x ⊎ ((n ≡ to) × d.leads from x);
+}
+
 -- each of the two names, on its own, may have changed on the disk or not: nothing is asked of a rename but that the second name always leads somewhere
 abbrev pub renamed : Disk → List ℕ → List ℕ → Disk
 renamed d from to = record d {
@@ -84,10 +90,11 @@ written torn d i at bytes = record d {
   may_hold = λ j t. d.may_hold j t ⊎ ((j ≡ i) × (u : List ℕ) × d.may_hold j u × torn at bytes u t);
 }
 
--- a disk after an event: a row for each call that changes it. What failed has changed nothing, nor has a look, an opening or a lock. Links and files
--- that are made where a link leads to have no row yet
+-- a disk after an event: a row for each call that changes it. What failed has changed nothing, nor has a look, an opening or a lock. A file that is made
+-- where a link leads to has no row yet
 abbrev pub after : Kind → Disk → Event → Disk
 after kind d (Asked i (Did (Open New name))) = made d name i
+after kind d (Asked i (Did (Link from to))) = linked d from to
 after kind d (Asked i (Did (Rename from to left))) = renamed d from to
 after kind d (Asked i (Did (Remove name))) = removed d name
 after kind d (Asked i (Did (SyncFolder folder))) = folder_synced d folder

@@ -1,10 +1,11 @@
 -- What calls of a load may leave of a record, wherever they are cut short by a crash.
-use Rattle.std.specs.Prelude.{◌≡◌, ◌⊎◌, ℕ, List, [], ◌∷◌, ◌++◌, length, Option, Some, None, ⊤}
-use Rattle.record_file.specs.Beginning.{Course, Replaced, IsBeside, new_name}
-use Rattle.record_file.specs.DiskStep.{DiskStep, Did, Look, Hold, Open, Rename, SyncFolder, Cut, SyncFile}
+use Rattle.std.specs.Prelude.{◌≡◌, ◌⊎◌, ℕ, false, List, [], ◌∷◌, ◌++◌, length, Option, Some, None, ⊤}
+use Rattle.record_file.specs.Beginning.{Course, Replaced, IsBeside, IsNotWrittenOver, IsWrittenOver, new_name}
+use Rattle.record_file.specs.DiskStep.{Did, Look, Hold, Open, Rename, SyncFolder}
 use Rattle.record_file.specs.Folder.{IsFolderOf}
 use Rattle.record_file.specs.declared.disk.Access.TheVariants.{New}
 use Rattle.record_file.specs.declared.made.Made.{Made}
+use Rattle.record_file.specs.declared.made.Made.TheVariants.{Here}
 use Rattle.record_file.specs.InPlace.{IsFrontOf, ChangesNoByte}
 use Rattle.disk_law.specs.Disk.{told, Disk, Event, Asked, Written, Synced, Kind, InOrder, Weakest, History, Leaves, disk_of, more}
 
@@ -98,25 +99,29 @@ AppendsLast =
 
 -- ---- in place
 
--- how far a text has come that is written over a file where it is: nothing was done, or it was written, synced, cut behind it, and synced again
-pub data IsWritingOver (i : ℕ) (text : List ℕ) : List Event → Type 0 where
-  Untouched : IsWritingOver i text []
-  IsOver : IsWritingOver i text (Written i 0 text ∷ [])
-  IsThere : IsWritingOver i text (Synced i ∷ Written i 0 text ∷ [])
-  IsCut : IsWritingOver i text (Asked i (Did (Cut (Some text) (length text))) ∷ Synced i ∷ Written i 0 text ∷ [])
-  IsEnded : IsWritingOver i text (Asked i (Did (SyncFile (Some text))) ∷ Asked i (Did (Cut (Some text) (length text))) ∷ Synced i ∷ Written i 0 text ∷ [])
+-- an event is so of a record that is written over this file: what is written is what its text has at that place, and what is made is another file
+abbrev pub IsSoOver : ℕ → List ℕ → Event → Type 0
+IsSoOver i text (Written j at bytes) = (j ≡ i) × (front : List ℕ) × (rest : List ℕ) × (text ≡ front ++ (bytes ++ rest)) × (at ≡ length front)
+IsSoOver i text (Asked j (Did (Open New n))) = (j ≡ i) → ⊥
+IsSoOver i text other = ⊤
 
--- a text between two, of which one is a front of the other
-pub record IsBetween (one other text : List ℕ) : Type 0 where
-  pub begins : IsFrontOf one text
-  pub begun : IsFrontOf text other
+abbrev pub AreSoOver : ℕ → List ℕ → List Event → Type 0
+AreSoOver i text [] = ⊤
+AreSoOver i text (event ∷ earlier) = AreSoOver i text earlier × IsSoOver i text event
 
--- wherever that ends, a crash leaves the old record, the new one, or a text between them
+-- a crash leaves of a name a text that begins with this, and is a front of the old one or of the new one; or nothing, where this load made the file
+abbrev pub IsOverOrNot : Made → List ℕ → List ℕ → List ℕ → Option (List ℕ) → Type 0
+IsOverOrNot made first old text None = made ≡ Here
+IsOverOrNot made first old text (Some now) = IsFrontOf first now × (IsFrontOf now old ⊎ IsFrontOf now text)
+
+-- behind any of the calls that write a record over a file to which its name leads, and of which a crash leaves so much at least, and no more than was read
 abbrev pub InPlaceKeeps : Type 0
 InPlaceKeeps =
-    (name old text : List ℕ) (history : History) (i : ℕ) (events : List Event) → history.kind ≡ InOrder → IsDurable (disk_of history) name i old
-    → ChangesNoByte text old → IsWritingOver i text events → (left : Option (List ℕ)) → Leaves (disk_of (more history events)) name left
-    → (now : List ℕ) × (left ≡ Some now) × (IsBetween text old now ⊎ IsBetween old text now)
+    (name first old text : List ℕ) (made : Made) (wrote : Option (List ℕ)) (history : History) (i : ℕ) (later earlier : List Event) → history.kind ≡ InOrder
+    → IsWrittenOver name made wrote text false (told (later ++ earlier)) ⊎ IsNotWrittenOver name made wrote text (told (later ++ earlier))
+    → AreSoOver i text (later ++ earlier) → ((x : Option ℕ) → (disk_of history).may_lead name x → x ≡ Some i)
+    → ((t : List ℕ) → (disk_of history).may_hold i t → IsFrontOf first t × IsFrontOf t old) → IsFrontOf first text → ChangesNoByte text old
+    → (left : Option (List ℕ)) → Leaves (disk_of (more history earlier)) name left → IsOverOrNot made first old text left
 
 -- ---- the folder of a record in place
 

@@ -1,3 +1,5 @@
 pub mod Disk
 pub mod Laws
+pub mod Lives
 pub mod Removing
+pub mod Shelf

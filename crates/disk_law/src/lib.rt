@@ -1,11 +1,13 @@
-//! Why a record survives a crash: a disk as a table, and what the calls that a record is begun by leave on it.
+//! Why a record and a saved tape survive a crash: a disk as a table, and what the calls leave on it by which they come there.
 //!
 //! `Disk` in specs has the table, one equation a call, and the crash. Each function here does nothing: its contract is a law,
-//! over the calls that the contracts of `record_file` tell. No crate stands on this one.
+//! over the calls that the contracts of `record_file` and `tape_shelf` tell. No crate stands on this one.
 #![tactic(auto)]
 
 ghost use Rattle.disk_law.specs.Laws.{AppendsLast, ANewRecordStays, ARecordIsKept, FoldersAreKept, InPlaceKeeps, SyncsAreNeeded, WhatIsSyncedIsOnDisk};
+ghost use Rattle.disk_law.specs.Lives.{AppendsAreStops, BeginningsAreStops};
 ghost use Rattle.disk_law.specs.Removing.{OnlyItsOwnFileGoes};
+ghost use Rattle.disk_law.specs.Shelf.{ATapeComesWhole, ATapeStays, BlocksLast};
 
 /// Behind any of the calls that begin a record beside the old one a crash leaves the old record or the new one, whole. This function does
 /// nothing: its contract is the law.
@@ -46,4 +48,30 @@ pub fn syncs_are_needed()
 /// A load takes FILE away only where it made it. This function does nothing: its contract is the law.
 pub fn only_its_own_file_goes()
     ensures { OnlyItsOwnFileGoes }
+{}
+
+/// Behind any of the calls that give a saved tape its name a crash leaves FILE whole or not at all. This function does nothing: its contract is the law.
+pub fn a_tape_comes_whole()
+    ensures { ATapeComesWhole }
+{}
+
+/// Behind all of them it leaves FILE whole. This function does nothing: its contract is the law.
+pub fn a_tape_stays()
+    ensures { ATapeStays }
+{}
+
+/// Each block that was added to a tape is found in FILE.part. This function does nothing: its contract is the law.
+pub fn blocks_last()
+    ensures { BlocksLast }
+{}
+
+/// Where a crash comes while a record is begun, what it leaves of FILE is what a stopped life leaves. This function does nothing: its contract
+/// is the law.
+pub fn beginnings_are_stops()
+    ensures { BeginningsAreStops }
+{}
+
+/// So it is where the crash comes later. This function does nothing: its contract is the law.
+pub fn appends_are_stops()
+    ensures { AppendsAreStops }
 {}

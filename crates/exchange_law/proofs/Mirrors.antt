@@ -1,5 +1,5 @@
 -- A station on which no stub runs does what its machine does.
-use Rattle.std.proofs.Common.{◌≡◌, ℕ, zero, suc, ◌+◌, ◌<◌, Bool, true, false, List, [], ◌∷◌, ◌++◌, length, Option, Some, None, unwrap_or, inl, inr, refl, arith, ap, sym, subst, ◌∙◌, append-nil}
+use Rattle.std.proofs.Common.{◌≡◌, ℕ, zero, suc, ◌+◌, ◌<◌, Bool, true, false, List, [], ◌∷◌, ◌++◌, length, Option, Some, None, inl, inr, refl, arith, ap, sym, subst, ◌∙◌, append-nil}
 use Rattle.std.specs.Prelude.{option_to_list}
 use Rattle.odt_machine.specs.declared.mode.Mode.{Mode}
 use Rattle.odt_machine.specs.declared.mode.Mode.TheVariants.{Prompt, Number, Opened, Typing, Running}
@@ -14,7 +14,7 @@ use Rattle.host_core.proofs.Frame.{silent}
 use Rattle.line_world.specs.declared.event.Event.TheVariants.{Hear, Quiet}
 use Rattle.line_world.specs.Scene.{over}
 use Rattle.line_world.specs.Wire.{Wire, heard, sent}
-use Rattle.line_world.specs.World.{host_hears, times_out}
+use Rattle.line_world.specs.World.{loading}
 use Rattle.line_world.specs.Invariant.{IsKept, OneWay, RunsWith}
 use Rattle.line_world.proofs.Events.{kept_event, kept_events}
 use Rattle.host_devices.specs.declared.item.Item.{Item}
@@ -22,6 +22,7 @@ use Rattle.host_devices.specs.Dialogue.{dialogue, said}
 use Rattle.honest_line.specs.Moves.{Gives as Gives', Moves as Moves', MovesOn as MovesOn', Passes as Crosses}
 use Rattle.honest_line.proofs.Passings.{passing_said}
 use Rattle.honest_line.proofs.Wires.{none_moves, one_first}
+use Rattle.honest_line.proofs.Leading.{hearing, waiting}
 use Rattle.honest_line.proofs.Runs.{Leads, dialogue_leads}
 use Rattle.exchange_law.specs.Station.{Program, Station, Stub, Meets, after_odt, begins}
 use Rattle.line_world.specs.Wire.{sent as sent_on}
@@ -39,17 +40,11 @@ kept_moves core w v moves k = let run : Leads (over core w) [] (over core v) = d
 kept_move : (core : Core) (w v : Wire) → Moves' w v → IsKept (over core w) → IsKept (over core v)
 kept_move core w v move k = kept_moves core w v (one_first w v v move (none_moves v)) k
 
-hearing : (core : Core) (x : Wire) (c : ℕ) (rest up : List ℕ) → up ≡ c ∷ rest → unwrap_or (host_hears (over core x) up) (over core x) ≡ over (move core (Got c)).next (sent (heard x rest) (option_to_list (move core (Got c)).key))
-hearing core x c rest up is = rw is refl
-
-waiting : (core : Core) (x : Wire) (down up : List ℕ) → down ≡ [] → up ≡ [] → unwrap_or (times_out (over core x) down up) (over core x) ≡ over (move core Silence).next (sent (heard x up) (option_to_list (move core Silence).key))
-waiting core x down up none empty = rw (none, empty) refl
-
 pub kept_gives : (core : Core) (what : Heard) (x v : Wire) → Gives' x what v → IsKept (over core x) → IsKept (over (move core what).next (sent v (option_to_list (move core what).key)))
 kept_gives core (Got c) x v (rest, is, now) k =
-    subst (λ z. IsKept (over (move core (Got c)).next (sent z (option_to_list (move core (Got c)).key)))) (sym now) (subst IsKept (hearing core x c rest x.up is) (kept_event (over core x) Hear k))
+    subst (λ z. IsKept (over (move core (Got c)).next (sent z (option_to_list (move core (Got c)).key)))) (sym now) (subst IsKept (hearing loading core x c rest x.up is) (kept_event (over core x) Hear k))
 kept_gives core Silence x v (none, empty, now) k =
-    subst (λ z. IsKept (over (move core Silence).next (sent z (option_to_list (move core Silence).key)))) (sym now) (subst IsKept (waiting core x x.down x.up none empty) (kept_event (over core x) Quiet k))
+    subst (λ z. IsKept (over (move core Silence).next (sent z (option_to_list (move core Silence).key)))) (sym now) (subst IsKept (waiting loading core x x.down x.up none empty) (kept_event (over core x) Quiet k))
 
 -- ---- what runs
 

@@ -102,7 +102,7 @@ under_way duplex image chunks before done Settle x k = none_under_way IsForStub 
 under_way duplex image chunks before done (Answer place) x k = each_weaker IsNibble IsForStub (λ c is. inl is) x.down k.stands.0.keys
 under_way duplex image chunks before done Leave x k = each_weaker IsNibble IsForStub (λ c is. inl is) x.down k.stands.keys
 under_way duplex image chunks before done (Ended Complete) x k = none_under_way IsForStub x.down k.stands.0
-under_way duplex image chunks before done (Ended Broken) x k = each_weaker IsZ IsForStub (λ c is. inr is) x.down k.stands.0
+under_way duplex image chunks before done (Ended Broken) x k = each_weaker IsZ IsForStub (λ c is. inr (inl is)) x.down k.stands.0
 
 runs_fit : (memory : List ℕ) (mode : Mode) → is_running mode ≡ true → ModeFits memory mode
 runs_fit memory Prompt e = absurd (cc)

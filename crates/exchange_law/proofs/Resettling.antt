@@ -1,4 +1,4 @@
--- A host that waits for silence or for the answer to `Z` while a stub is at work.
+-- A host that waits for silence or for the answer to the key that resynchronises while a stub is at work.
 use Rattle.std.proofs.Common.{◌≡◌, ℕ, zero, suc, ◌<◌, ◌≤◌, Bool, true, false, List, [], ◌∷◌, length, Option, Some, None, inl, inr, refl, arith, ap, sym, subst, ◌∙◌}
 use Rattle.std.proofs.lemmas.Bool.Decides.{nat_tests}
 use Rattle.std.specs.Prelude.{◌==◌, if◌then◌else◌}
@@ -60,7 +60,8 @@ is_other c (inl nibble) = key_by (is_digit c) (c == 13) (c == 47) (c == 71) (no_
 
     no_go : (c : ℕ) → is_nibble c ≡ true → (c == 71) ≡ false
     no_go c n = grind (arith, nat_tests)
-is_other c (inr is) = ap key_of is
+is_other c (inr (inl is)) = ap key_of is
+is_other c (inr (inr is)) = ap key_of is
 
 stub_key_refused : (m : Machine) (c : ℕ) → IsForStub c → is_running m.mode ≡ false → IsRefused m.memory (take_of m c)
 stub_key_refused m c for stopped = subst (λ key. IsRefused m.memory (row m.style m.memory m.mode key c)) (sym (is_other c for)) (other_refused m.style m.memory m.mode c stopped)

@@ -10,7 +10,7 @@ use Rattle.host_core.specs.declared.heard.Heard.{Heard}
 use Rattle.host_core.specs.declared.phase.End.TheVariants.{Started}
 use Rattle.host_core.specs.declared.phase.Phase.TheVariants.{Ended}
 use Rattle.host_core.specs.Console.{go}
-use Rattle.host_core.specs.Core.{Core, begun, start_of, word_nr}
+use Rattle.host_core.specs.Core.{Core, begun_by, start_of, word_nr}
 use Rattle.host_core.specs.Host.{IsHost}
 use Rattle.host_core.specs.Laws.{led}
 use Rattle.line_world.specs.Invariant.{IsKept}
@@ -46,7 +46,7 @@ IsLaterAt at = IsLater at.tape at.verified
 -- an ordinary host, of the tape's plan or of another, may begin over such a line: what it counts as verified stands there, and no stub may change it
 pub record MayRecover (at : LineBehind) (core : Core) : Type 0 where
   pub host : IsHost core
-  pub at_first : core ≡ begun core.plan core.verified false core.patience
+  pub at_first : core ≡ begun_by core.careful core.plan core.verified false core.patience
   pub stand : FirstStand core.plan.words core.verified at.found.machine.odt.memory
   pub beside : IsBeside at.tape at.verified core.plan core.verified
   pub line : IsUnsettled at.program (IsLaterAt at) at.found
@@ -94,7 +94,7 @@ pub record IsTrustedBehind (at : LineBehind) (core : Core) (keys : List ℕ) (le
   pub typed : core.going ≡ true → Contains keys go
   pub started : core.phase ≡ Ended Started → HasStarted at.program core left
   pub leaves : Leaves at.program at.tape at.verified core left
-  -- its losses pay, and one more: a stub that it finds running halts at the first `Z`, which nobody answers
+  -- its losses pay, and one more: a stub that it finds running halts at the key that resynchronises, which nobody answers
   pub paid : IsPaid core left.machine.odt.memory (left.lost + 1 - at.found.lost)
 
 -- an ordinary host may be trusted that begins over such a line, whatever the stub is in the middle of and whatever is under way

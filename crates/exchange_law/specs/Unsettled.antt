@@ -4,7 +4,7 @@ use Rattle.tape_image.specs.Memory.{byte_of}
 use Rattle.odt_machine.specs.Laws.{is_running}
 use Rattle.odt_machine.specs.Machine.{IsMachine}
 use Rattle.odt_machine.specs.declared.mode.Mode.{Mode}
-use Rattle.host_core.specs.Console.{resynchronise}
+use Rattle.host_core.specs.Console.{resynchronise, resynchronise_carefully}
 use Rattle.exchange_core.specs.declared.stretch.Stretch.{Stretch}
 use Rattle.exchange_core.specs.Chunk.{is_nibble}
 use Rattle.exchange_law.specs.Line.{Link}
@@ -25,9 +25,13 @@ abbrev pub MayFill : (ℕ → Type 0) → Mode → Option Stub → Type 0
 MayFill R mode None = is_running mode ≡ false
 MayFill R mode (Some stub) = (is_running mode ≡ true) × Each R stub.left
 
--- a character is one for a stub, or `Z`
+-- a key by which a host resynchronises, plain or careful
+abbrev pub IsResynchronising : ℕ → Type 0
+IsResynchronising c = (c ≡ resynchronise) ⊎ (c ≡ resynchronise_carefully)
+
+-- a character is one for a stub, or such a key
 abbrev pub IsForStub : ℕ → Type 0
-IsForStub c = (is_nibble c ≡ true) ⊎ (c ≡ resynchronise)
+IsForStub c = (is_nibble c ≡ true) ⊎ IsResynchronising c
 
 -- but for such bytes memory is what it was
 pub record Untouched (R : ℕ → Type 0) (before now : List ℕ) : Type 0 where

@@ -7,7 +7,7 @@ use Rattle.host_core.specs.declared.heard.Heard.{Heard}
 use Rattle.host_core.specs.declared.heard.Heard.TheVariants.{Got, Quiet as Silence}
 use Rattle.line_world.specs.declared.event.Event.{Event}
 use Rattle.line_world.specs.declared.event.Event.TheVariants.{Take, Hear, LoseDown, LoseUp, Quiet}
-use Rattle.line_world.specs.Scene.{World, over}
+use Rattle.line_world.specs.Scene.{World, over, over_when}
 use Rattle.line_world.specs.Wire.{Wire, with_answer, without_down, without_up, heard, sent}
 use Rattle.line_world.specs.Happening.{Kind, takes, host_hears, times_out, happens, after, typed_hearing, typed_timeout, typed_in, typed}
 use Rattle.honest_line.specs.Moves.{Moves, MovesTimes, MovesOn, Gives}
@@ -78,17 +78,22 @@ moves_lead kind core x y moves = times_lead kind core moves.0 x y moves.1
 -- ---- a thing heard is an event, in which its key is sent
 
 -- the line behind it
-abbrev behind : {H : Type 0} → Kind H → H → Heard → Wire → World H
+abbrev pub behind : {H : Type 0} → Kind H → H → Heard → Wire → World H
 behind kind core what x = over (kind.next core what) (sent x (option_to_list (kind.key core what)))
 
-hearing : {H : Type 0} (kind : Kind H) (core : H) (x : Wire) (c : ℕ) (rest up : List ℕ) → up ≡ c ∷ rest → unwrap_or (host_hears kind (over core x) up) (over core x) ≡ behind kind core (Got c) (heard x rest)
-hearing kind core x c rest up is = rw is refl
+-- a line that has changed nothing has still changed nothing
+unchanged : (begins : Bool) → (if begins then false else false) ≡ false
+unchanged true = refl
+unchanged false = refl
+
+pub hearing : {H : Type 0} (kind : Kind H) (core : H) (x : Wire) (c : ℕ) (rest up : List ℕ) → up ≡ c ∷ rest → unwrap_or (host_hears kind (over core x) up) (over core x) ≡ behind kind core (Got c) (heard x rest)
+hearing kind core x c rest up is = rw is (ap (λ b. over_when b (kind.next core (Got c)) (sent (heard x rest) (option_to_list (kind.key core (Got c))))) (unchanged (kind.begins core (Got c))))
 
 hearing_types : {H : Type 0} (kind : Kind H) (core : H) (x : Wire) (c : ℕ) (rest up : List ℕ) → up ≡ c ∷ rest → typed_hearing kind (over core x) up ≡ option_to_list (kind.key core (Got c))
 hearing_types kind core x c rest up is = rw is refl
 
-waiting : {H : Type 0} (kind : Kind H) (core : H) (x : Wire) (down up : List ℕ) → down ≡ [] → up ≡ [] → unwrap_or (times_out kind (over core x) down up) (over core x) ≡ behind kind core Silence (heard x up)
-waiting kind core x down up none empty = rw (none, empty) refl
+pub waiting : {H : Type 0} (kind : Kind H) (core : H) (x : Wire) (down up : List ℕ) → down ≡ [] → up ≡ [] → unwrap_or (times_out kind (over core x) down up) (over core x) ≡ behind kind core Silence (heard x up)
+waiting kind core x down up none empty = rw (none, empty) (ap (λ b. over_when b (kind.next core Silence) (sent (heard x []) (option_to_list (kind.key core Silence)))) (unchanged (kind.begins core Silence)))
 
 waiting_types : {H : Type 0} (kind : Kind H) (core : H) (x : Wire) (down up : List ℕ) → down ≡ [] → up ≡ [] → typed_timeout kind (over core x) down up ≡ option_to_list (kind.key core Silence)
 waiting_types kind core x down up none empty = rw (none, empty) refl

@@ -15,7 +15,7 @@ use Rattle.line_world.specs.World.{after, typed}
 use Rattle.line_world.specs.Invariant.{IsKept}
 use Rattle.line_world.specs.Promises.{EndsAtGo, IsTame, StartsOnce}
 use Rattle.line_world.specs.Safe.{IsSafe}
-use Rattle.line_world.proofs.Opening.{opening_kept}
+use Rattle.line_world.proofs.Opening.{opening_by_kept}
 use Rattle.line_world.proofs.Events.{kept_events, safe_events}
 use Rattle.line_world.proofs.Starts.{starts_events}
 use Rattle.line_world.proofs.Tame.{tame_of}
@@ -33,7 +33,7 @@ use Rattle.honest_line.proofs.Runs.{Leads, dialogue_leads}
 pub begin_kept : (core : Core) (machine : Machine) (waiting : List ℕ) → IsHost core → MayBegin core machine → length waiting ≤ 32 → IsKept (over core (resting machine waiting 0))
 begin_kept core machine waiting host may few =
     subst (λ c. IsKept (over c (resting machine waiting 0))) (sym may.begun)
-    (opening_kept machine core.plan core.verified core.patience waiting may.console (subst IsHost may.begun host) few may.stopped
+    (opening_by_kept machine core.careful core.plan core.verified core.patience waiting may.console (subst IsHost may.begun host) few may.stopped
     (λ i below. (may.verified.lies i below, merged-Stands (word_nr core.plan.words i) _ (may.verified.stands i below))))
 
 -- ---- the run

@@ -4,7 +4,8 @@ use Rattle.odt_machine.specs.Machine.{Machine, IsMachine}
 use Rattle.odt_machine.specs.Laws.{is_running}
 use Rattle.host_core.specs.declared.heard.Heard.{Heard}
 use Rattle.host_core.specs.Console.{go}
-use Rattle.host_core.specs.Core.{Core, begun}
+use Rattle.host_core.specs.Core.{Core, begun_by}
+use Rattle.host_core.specs.Foreign.{foreign_count}
 use Rattle.host_core.specs.Host.{IsHost}
 use Rattle.host_core.specs.Laws.{led}
 use Rattle.line_world.specs.Safe.{FirstStand, IsSafe}
@@ -16,7 +17,7 @@ use Rattle.honest_line.specs.Honest.{IsHonest}
 
 -- a life may begin over this machine: the host is at its beginning and has no mark, no program runs, and the words that count as verified are there and stand
 pub record MayBegin (core : Core) (machine : Machine) : Type 0 where
-  pub begun : core ≡ begun core.plan core.verified false core.patience
+  pub begun : core ≡ begun_by core.careful core.plan core.verified false core.patience
   pub console : IsMachine machine
   pub stopped : is_running machine.mode ≡ false
   pub verified : FirstStand core.plan.words core.verified machine.memory
@@ -36,6 +37,12 @@ abbrev pub IsTrustworthy : Core → Core → List Item → ℕ → Type 0
 IsTrustworthy old new items more =
     (machine machine' : Machine) (lost : ℕ) → MayBegin old machine → IsHonest machine items lost machine' →
     IsTrusted machine.memory new machine'.memory (keys_of items) (lost + more)
+
+-- a host that heard an honest line has heard no character that no loss explains
+abbrev pub NothingForeignIsHeard : Type 0
+NothingForeignIsHeard =
+    (core : Core) (things : List Heard) (machine machine' : Machine) (lost : ℕ) → IsHost core → MayBegin core machine →
+    IsHonest machine (dialogue core things) lost machine' → foreign_count core things ≡ 0
 
 -- a host that heard an honest line may be trusted
 abbrev pub DialoguesAreTrustworthy : Type 0

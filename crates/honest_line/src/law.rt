@@ -1,5 +1,5 @@
 ghost use Rattle.honest_line.specs.Honest.{MovesJoin, MovedIsHonest};
-ghost use Rattle.honest_line.specs.Trust.{DialoguesAreTrustworthy, UnsaidAreTrustworthy};
+ghost use Rattle.honest_line.specs.Trust.{DialoguesAreTrustworthy, NothingForeignIsHeard, UnsaidAreTrustworthy};
 
 /// Moves join: a list that passes over a line, and another from where the first ends, are one list,
 /// with the losses of both. This function does nothing: its contract is the law.
@@ -23,4 +23,10 @@ pub fn dialogues_are_trustworthy()
 /// function does nothing: its contract is the law.
 pub fn unsaid_are_trustworthy()
     ensures { UnsaidAreTrustworthy }
+{}
+
+/// Over an honest line a host hears no character that no loss explains: where it has heard one, the line
+/// changed it or made it up. This function does nothing: its contract is the law.
+pub fn foreign_is_never_lost()
+    ensures { NothingForeignIsHeard }
 {}

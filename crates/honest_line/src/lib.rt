@@ -12,7 +12,10 @@ mod lent_line;
 mod loss;
 mod memory_line;
 
-pub use law::{dialogues_are_trustworthy, moved_is_honest, moves_join, unsaid_are_trustworthy};
+pub use law::{
+    dialogues_are_trustworthy, foreign_is_never_lost, moved_is_honest, moves_join,
+    unsaid_are_trustworthy,
+};
 pub use lent_line::{LentLine, Opening};
 pub use loss::Loss;
 pub use memory_line::MemoryLine;

@@ -14,23 +14,23 @@ use Rattle.tape_image.proofs.Halves.{Stands-unchanged}
 use Rattle.host_core.specs.declared.phase.Phase.{Phase}
 use Rattle.host_core.specs.declared.phase.Phase.TheVariants.{Settle, Sync, Address, Slash, Before, Value, Deposit, Return, Start, Go, Ended}
 use Rattle.host_core.specs.declared.phase.Visit.{Visit}
-use Rattle.host_core.specs.declared.phase.Visit.TheVariants.{Look, Check}
+use Rattle.host_core.specs.declared.phase.Visit.TheVariants.{Look}
 use Rattle.host_core.specs.declared.phase.Reason.{Reason}
-use Rattle.host_core.specs.declared.phase.Reason.TheVariants.{Store, Close}
+use Rattle.host_core.specs.declared.phase.Reason.TheVariants.{Store, Reopen, Missing, Close}
 use Rattle.host_core.specs.declared.phase.End.TheVariants.{Loaded, GaveUp}
 use Rattle.host_core.specs.declared.heard.Heard.{Heard}
 use Rattle.host_core.specs.declared.heard.Heard.TheVariants.{Got, Quiet}
 use Rattle.host_core.specs.declared.turn.Turn.{Turn}
-use Rattle.host_core.specs.declared.turn.Turn.TheVariants.{Listen, Key, Verified, ReadBack, Next, Mark, Stop, Stray, Timeout}
-use Rattle.host_core.specs.Console.{resynchronise, space}
-use Rattle.host_core.specs.Core.{Core, begun, first_phase, word_under_way, start_of}
+use Rattle.host_core.specs.declared.turn.Turn.TheVariants.{Listen, Key, Verified, Revisit, Next, Mark, Stop, Stray, Timeout}
+use Rattle.host_core.specs.Console.{resynchronise_of, space}
+use Rattle.host_core.specs.Core.{Core, begun_by, first_phase, word_under_way, start_of}
 use Rattle.host_core.specs.Host.{IsHost, Basis, PhaseFits, basis_of, value_room}
 use Rattle.host_core.specs.Laws.{led, HasRead, VerifiesOnlyRead}
-use Rattle.host_core.specs.PhaseTable.{move, listens, sends, taken, turn_of, hears, waits, differs, returned, after_words}
+use Rattle.host_core.specs.PhaseTable.{move, listens, sends, taken, turn_of, hears, waits, read, returned, after_words}
 use Rattle.host_core.proofs.Frame.{on_test, on_move}
 use Rattle.host_core.proofs.Lives.{led_kept}
 use Rattle.host_core.proofs.Turns.{kept, room_le, room_step, digit_below_eight}
-use Rattle.host_core.proofs.Walk.{sync_walk, address_walk, slash_walk, before_walk, value_walk, deposit_walk, return_walk, start_walk, go_walk}
+use Rattle.host_core.proofs.Walk.{sync_walk, address_walk, slash_walk, before_walk, value_walk, read_walk, deposit_walk, return_walk, start_walk, go_walk}
 
 -- the first digits of a word's octal text, which make the number `value`
 record IsReading (text : List ℕ) (number place : ℕ) : Type 0 where
@@ -99,47 +99,48 @@ whole word visit value place c heard low high blank same h = (
   Stands-unchanged word value same,
 )
 
-differs_tells : (word : WordValue) (visit : Visit) (value : ℕ) (heard : List Heard) → Tells word heard (differs word visit value)
-differs_tells word Look value heard = tt
-differs_tells word Check value heard = tt
+read_tells : (careful : Bool) (word : WordValue) (visit : Visit) (value : ℕ) (heard : List Heard) → (merged word value ≡ value → HasRead word heard) → Tells word heard (read careful word visit value)
+read_tells careful word visit value heard done = read_walk (Tells word heard) careful word visit value tt done (λ _ _. tt) (λ _ _. tt) (λ _ _. tt) (λ _ _. tt) (λ _ _. tt) tt
 
 returned_tells : (word : WordValue) (reason : Reason) (heard : List Heard) → Tells word heard (returned reason)
-returned_tells word Store heard = tt
+returned_tells word (Store deposit value) heard = tt
+returned_tells word (Reopen first) heard = tt
+returned_tells word (Missing address) heard = tt
 returned_tells word Close heard = tt
 
-hears_tells : (word : WordValue) (start : ℕ) (phase : Phase) (c : ℕ) (b : Basis) (heard : List Heard) → PhaseFits phase b → HeardFits phase heard → Tells word (heard ++ Got c ∷ []) (hears word start phase c)
-hears_tells word start Settle c b heard f h = tt
-hears_tells word start (Sync place) c b heard f h = sync_walk (Tells word (heard ++ Got c ∷ [])) place c tt (λ _ _. tt) tt
-hears_tells word start (Address visit place) c b heard f h = address_walk (Tells word (heard ++ Got c ∷ [])) word.address visit place c tt (λ _. tt) tt
-hears_tells word start (Slash visit) c b heard f h = slash_walk (Tells word (heard ++ Got c ∷ [])) visit c tt tt
-hears_tells word start (Before visit) c b heard f h =
-    before_walk (Tells word (heard ++ Got c ∷ [])) word visit c tt (no_digits visit (heard ++ Got c ∷ [])) tt (λ low high. first_digit visit heard c low high)
-hears_tells word start (Value visit value place) c b heard f h =
-    value_walk (Tells word (heard ++ Got c ∷ [])) word visit value place c tt (λ _ low high. first_digit visit heard c low high)
+hears_tells : (careful : Bool) (word : WordValue) (start : ℕ) (phase : Phase) (c : ℕ) (b : Basis) (heard : List Heard) → PhaseFits phase b → HeardFits phase heard → Tells word (heard ++ Got c ∷ []) (hears careful word start phase c)
+hears_tells careful word start Settle c b heard f h = tt
+hears_tells careful word start (Sync place) c b heard f h = sync_walk (Tells word (heard ++ Got c ∷ [])) careful place c tt (λ _ _. tt) tt
+hears_tells careful word start (Address visit place) c b heard f h = address_walk (Tells word (heard ++ Got c ∷ [])) word.address visit place c tt (λ _. tt) tt
+hears_tells careful word start (Slash visit) c b heard f h = slash_walk (Tells word (heard ++ Got c ∷ [])) visit c tt tt
+hears_tells careful word start (Before visit) c b heard f h =
+    before_walk (Tells word (heard ++ Got c ∷ [])) careful word visit c tt (no_digits visit (heard ++ Got c ∷ [])) (λ _. tt) (λ _. tt) (λ low high. first_digit visit heard c low high)
+hears_tells careful word start (Value visit value place) c b heard f h =
+    value_walk (Tells word (heard ++ Got c ∷ [])) careful word visit value place c tt (λ _ low high. first_digit visit heard c low high)
     (λ some less digit. next_digit visit value place c heard some less digit f.2 h)
-    (λ all blank same. whole word visit value place c heard all f.1 blank same h) (λ _. differs_tells word visit value (heard ++ Got c ∷ []))
-hears_tells word start (Deposit value place) c b heard f h = deposit_walk (Tells word (heard ++ Got c ∷ [])) value place c tt (λ _. tt) tt
-hears_tells word start (Return reason place) c b heard f h = return_walk (Tells word (heard ++ Got c ∷ [])) reason place c tt (λ _ _. tt) (returned_tells word reason (heard ++ Got c ∷ []))
-hears_tells word start (Start place) c b heard f h = start_walk (Tells word (heard ++ Got c ∷ [])) start place c tt (λ _. tt) (λ _. tt)
-hears_tells word start Go c b heard f h = go_walk (Tells word (heard ++ Got c ∷ [])) c tt tt
-hears_tells word start (Ended end) c b heard f h = tt
+    (λ all blank. read_tells careful word visit value (heard ++ Got c ∷ []) (λ same. whole word visit value place c heard all f.1 blank same h))
+hears_tells careful word start (Deposit deposit value place) c b heard f h = deposit_walk (Tells word (heard ++ Got c ∷ [])) deposit value place c tt (λ _. tt) tt
+hears_tells careful word start (Return reason place) c b heard f h = return_walk (Tells word (heard ++ Got c ∷ [])) reason place c tt (λ _ _. tt) (returned_tells word reason (heard ++ Got c ∷ []))
+hears_tells careful word start (Start place) c b heard f h = start_walk (Tells word (heard ++ Got c ∷ [])) start place c tt (λ _. tt) (λ _. tt)
+hears_tells careful word start Go c b heard f h = go_walk (Tells word (heard ++ Got c ∷ [])) c tt tt
+hears_tells careful word start (Ended end) c b heard f h = tt
 
-waits_tells : (word : WordValue) (phase : Phase) (heard : List Heard) → Tells word heard (waits phase)
-waits_tells word Settle heard = tt
-waits_tells word (Sync place) heard = tt
-waits_tells word (Address visit place) heard = tt
-waits_tells word (Slash visit) heard = tt
-waits_tells word (Before visit) heard = tt
-waits_tells word (Value visit value place) heard = tt
-waits_tells word (Deposit value place) heard = tt
-waits_tells word (Return reason place) heard = tt
-waits_tells word (Start place) heard = tt
-waits_tells word Go heard = tt
-waits_tells word (Ended end) heard = tt
+waits_tells : (careful : Bool) (word : WordValue) (phase : Phase) (heard : List Heard) → Tells word heard (waits careful phase)
+waits_tells careful word Settle heard = tt
+waits_tells careful word (Sync place) heard = tt
+waits_tells careful word (Address visit place) heard = tt
+waits_tells careful word (Slash visit) heard = tt
+waits_tells careful word (Before visit) heard = tt
+waits_tells careful word (Value visit value place) heard = tt
+waits_tells careful word (Deposit deposit value place) heard = tt
+waits_tells careful word (Return reason place) heard = tt
+waits_tells careful word (Start place) heard = tt
+waits_tells careful word Go heard = tt
+waits_tells careful word (Ended end) heard = tt
 
 turn_tells : (core : Core) (last : Heard) (heard : List Heard) → IsHost core → HeardFits core.phase heard → Tells (word_under_way core) (heard ++ last ∷ []) (turn_of core last)
-turn_tells core (Got c) heard h f = hears_tells (word_under_way core) (start_of core) core.phase c (basis_of core) heard h.fits f
-turn_tells core Quiet heard h f = waits_tells (word_under_way core) core.phase (heard ++ Quiet ∷ [])
+turn_tells core (Got c) heard h f = hears_tells core.careful (word_under_way core) (start_of core) core.phase c (basis_of core) heard h.fits f
+turn_tells core Quiet heard h f = waits_tells core.careful (word_under_way core) core.phase (heard ++ Quiet ∷ [])
 
 after_words_heard : (core : Core) (start : Option ℕ) (heard : List Heard) → HeardFits (after_words core start).next.phase heard
 after_words_heard core (Some start) heard = tt
@@ -149,7 +150,7 @@ taken_heard : (core : Core) (turn : Turn) (heard : List Heard) → Tells (word_u
 taken_heard core (Listen phase) heard t = t
 taken_heard core (Key key phase) heard t = t
 taken_heard core Verified heard t = tt
-taken_heard core ReadBack heard t = tt
+taken_heard core (Revisit visit) heard t = tt
 taken_heard core Next heard t =
     on_move (λ m. HeardFits m.next.phase heard) (nat_lt core.verified (length core.plan.words)) (sends core (digit_of (word_under_way core).address 1) (Address Look 1)) (after_words core core.plan.start)
     (λ _. tt) (λ _. after_words_heard core core.plan.start heard)
@@ -158,7 +159,7 @@ taken_heard core (Stop end) heard t = tt
 taken_heard core Stray heard t =
     on_move (λ m. HeardFits m.next.phase heard) (nat_lt core.spent core.patience) (listens (record core { spent = core.spent + 1 }) Settle) (listens core (Ended GaveUp)) (λ _. tt) (λ _. tt)
 taken_heard core Timeout heard t =
-    on_move (λ m. HeardFits m.next.phase heard) (nat_lt core.spent core.patience) (sends (record core { spent = core.spent + 1 }) resynchronise (Sync 0)) (listens core (Ended GaveUp)) (λ _. tt) (λ _. tt)
+    on_move (λ m. HeardFits m.next.phase heard) (nat_lt core.spent core.patience) (sends (record core { spent = core.spent + 1 }) (resynchronise_of core.careful) (Sync 0)) (listens core (Ended GaveUp)) (λ _. tt) (λ _. tt)
 
 led_heard : (core : Core) (more before : List Heard) → IsHost core → HeardFits core.phase before → HeardFits (led core more).phase (before ++ more)
 led_heard core [] before h f = subst (HeardFits core.phase) (sym (append-nil before)) f
@@ -174,7 +175,7 @@ taken_verified : (core : Core) (turn : Turn) (heard : List Heard) → Tells (wor
 taken_verified core (Listen phase) heard t other = absurd (other refl)
 taken_verified core (Key key phase) heard t other = absurd (other refl)
 taken_verified core Verified heard t other = t
-taken_verified core ReadBack heard t other = absurd (other refl)
+taken_verified core (Revisit visit) heard t other = absurd (other refl)
 taken_verified core Next heard t other =
     absurd
     (other
@@ -189,14 +190,14 @@ taken_verified core Stray heard t other =
 taken_verified core Timeout heard t other =
     absurd
     (other
-    (on_move (λ m. m.next.verified ≡ core.verified) (nat_lt core.spent core.patience) (sends (record core { spent = core.spent + 1 }) resynchronise (Sync 0)) (listens core (Ended GaveUp)) (λ _. refl) (λ _. refl)))
+    (on_move (λ m. m.next.verified ≡ core.verified) (nat_lt core.spent core.patience) (sends (record core { spent = core.spent + 1 }) (resynchronise_of core.careful) (Sync 0)) (listens core (Ended GaveUp)) (λ _. refl) (λ _. refl)))
 
 first_heard : (plan : PlanValue) (verified : ℕ) (going : Bool) → HeardFits (first_phase plan verified going) []
 first_heard plan verified true = tt
 first_heard plan verified false = on_test (λ v. HeardFits (if v then Ended Loaded else Settle) []) (verified == length plan.words && is_none plan.start) (λ _. tt) (λ _. tt)
 
-pub verifies_only_read : (plan : PlanValue) (verified : ℕ) (going : Bool) (patience : ℕ) → IsHost (begun plan verified going patience) → VerifiesOnlyRead (begun plan verified going patience)
-verifies_only_read plan verified going patience h heard last other =
-    let core : Core = begun plan verified going patience in
+pub verifies_only_read : (careful : Bool) (plan : PlanValue) (verified : ℕ) (going : Bool) (patience : ℕ) → IsHost (begun_by careful plan verified going patience) → VerifiesOnlyRead (begun_by careful plan verified going patience)
+verifies_only_read careful plan verified going patience h heard last other =
+    let core : Core = begun_by careful plan verified going patience in
     let now : Core = led core heard in
     taken_verified now (turn_of now last) (heard ++ last ∷ []) (turn_tells now last heard (led_kept core heard h) (led_heard core heard [] h (first_heard plan verified going))) other

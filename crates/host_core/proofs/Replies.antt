@@ -9,7 +9,7 @@ use Rattle.host_core.specs.declared.answers.Echo.{Echo}
 use Rattle.host_core.specs.declared.answers.Echo.TheVariants.{More, Whole, NoEcho}
 use Rattle.host_core.specs.declared.answers.Reading.{Reading}
 use Rattle.host_core.specs.declared.answers.Reading.TheVariants.{Digits, Number, NoMemory, NoReading}
-use Rattle.host_core.specs.Answers.{resynchronise_reply, return_reply, digit_echo, first_digit, reading_start, reading_rest}
+use Rattle.host_core.specs.Answers.{refusal_reply, resynchronise_reply, return_reply, digit_echo, first_digit, reading_start, reading_rest}
 use Rattle.host_core.specs.Console.{prompt, space}
 use Rattle.host_core.proofs.Frame.{on_test}
 
@@ -17,14 +17,17 @@ use Rattle.host_core.proofs.Frame.{on_test}
 pub either : {A : Type 0} (P : A → Type 0) (test : Bool) (x y : A) → (test ≡ true → P x) → (test ≡ false → P y) → P (if test then x else y)
 either P test x y is isnt = on_test (λ v. P (if v then x else y)) test is isnt
 
-pub resynchronise_walk : (P : Reply → Type 0) (place c : ℕ) → P Wrong → ((k : ℕ) → k ≤ 5 → P (On k)) → ((c == prompt) ≡ true → P Over) → P (resynchronise_reply place c)
-resynchronise_walk P place c wrong on over =
-    either P (place == 0) _ _ (λ _. either P (c == 90) _ _ (λ _. on 1 (omega arith)) (λ _. either P (c == 63) _ _ (λ _. on 2 (omega arith)) (λ _. wrong)))
+pub refusal_walk : (P : Reply → Type 0) (key place c : ℕ) → P Wrong → ((k : ℕ) → k ≤ 5 → P (On k)) → ((c == prompt) ≡ true → P Over) → P (refusal_reply key place c)
+refusal_walk P key place c wrong on over =
+    either P (place == 0) _ _ (λ _. either P (c == key) _ _ (λ _. on 1 (omega arith)) (λ _. either P (c == 63) _ _ (λ _. on 2 (omega arith)) (λ _. wrong)))
     (λ _. either P (place == 1) _ _ (λ _. either P (c == 63) _ _ (λ _. on 2 (omega arith)) (λ _. wrong))
     (λ _. either P (place == 2) _ _ (λ _. either P (c == 13) _ _ (λ _. on 3 (omega arith)) (λ _. wrong))
     (λ _. either P (place == 3) _ _ (λ _. either P (c == 13) _ _ (λ _. on 4 (omega arith)) (λ _. either P (c == 10) _ _ (λ _. on 5 (omega arith)) (λ _. wrong)))
     (λ _. either P (place == 4) _ _ (λ _. either P (c == 10) _ _ (λ _. on 5 (omega arith)) (λ _. wrong))
     (λ _. either P (c == 64) _ _ over (λ _. wrong))))))
+
+pub resynchronise_walk : (P : Reply → Type 0) (place c : ℕ) → P Wrong → ((k : ℕ) → k ≤ 5 → P (On k)) → ((c == prompt) ≡ true → P Over) → P (resynchronise_reply place c)
+resynchronise_walk P place c wrong on over = refusal_walk P 90 place c wrong on over
 
 pub return_walk : (P : Reply → Type 0) (place c : ℕ) → P Wrong → ((k : ℕ) → k ≤ 3 → P (On k)) → ((c == prompt) ≡ true → P Over) → P (return_reply place c)
 return_walk P place c wrong on over =

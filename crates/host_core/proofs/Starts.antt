@@ -9,23 +9,25 @@ use Rattle.tape_image.specs.Plan.{PlanValue}
 use Rattle.tape_image.specs.Word.{WordValue, merged}
 use Rattle.host_core.specs.declared.phase.Phase.{Phase}
 use Rattle.host_core.specs.declared.phase.Phase.TheVariants.{Settle, Sync, Address, Slash, Before, Value, Deposit, Return, Start, Go, Ended}
+use Rattle.host_core.specs.declared.phase.Try.{Try}
+use Rattle.host_core.specs.declared.phase.Try.TheVariants.{Only, First, Second}
 use Rattle.host_core.specs.declared.phase.Visit.{Visit}
-use Rattle.host_core.specs.declared.phase.Visit.TheVariants.{Look, Check}
+use Rattle.host_core.specs.declared.phase.Visit.TheVariants.{Look}
 use Rattle.host_core.specs.declared.phase.Reason.{Reason}
-use Rattle.host_core.specs.declared.phase.Reason.TheVariants.{Store, Close}
+use Rattle.host_core.specs.declared.phase.Reason.TheVariants.{Store, Reopen, Missing, Close}
 use Rattle.host_core.specs.declared.phase.End.TheVariants.{Loaded, GaveUp}
 use Rattle.host_core.specs.declared.heard.Heard.{Heard}
 use Rattle.host_core.specs.declared.heard.Heard.TheVariants.{Got, Quiet}
 use Rattle.host_core.specs.declared.turn.Turn.{Turn}
-use Rattle.host_core.specs.declared.turn.Turn.TheVariants.{Listen, Key, Verified, ReadBack, Next, Mark, Stop, Stray, Timeout}
-use Rattle.host_core.specs.Console.{resynchronise, carriage_return, go}
-use Rattle.host_core.specs.Core.{Core, begun, first_phase, word_under_way, start_of}
+use Rattle.host_core.specs.declared.turn.Turn.TheVariants.{Listen, Key, Verified, Revisit, Next, Mark, Stop, Stray, Timeout}
+use Rattle.host_core.specs.Console.{resynchronise_of, carriage_return, go}
+use Rattle.host_core.specs.Core.{Core, begun_by, first_phase, word_under_way, start_of}
 use Rattle.host_core.specs.Host.{IsHost, IsPlace, Basis, PhaseFits, basis_of}
 use Rattle.host_core.specs.Bound.{used_in}
 use Rattle.host_core.specs.Laws.{led, replay, EndsWithStart, StartsOnlyWhole}
-use Rattle.host_core.specs.PhaseTable.{Move, move, listens, sends, taken, turn_of, hears, waits, differs, returned, start_hears, after_words}
+use Rattle.host_core.specs.PhaseTable.{Move, move, listens, sends, taken, turn_of, hears, waits, mends, read, returned, start_hears, after_words}
 use Rattle.host_core.proofs.Frame.{on_test, on_move, IsMoved, moved, StaysStill, silent}
-use Rattle.host_core.proofs.Walk.{sync_walk, address_walk, slash_walk, before_walk, value_walk, deposit_walk, return_walk, start_walk, go_walk}
+use Rattle.host_core.proofs.Walk.{sync_walk, address_walk, slash_walk, before_walk, value_walk, read_walk, deposit_walk, return_walk, start_walk, go_walk}
 use Rattle.host_core.proofs.Turns.{TurnFits, turn_fits, kept}
 use Rattle.host_core.proofs.Lives.{led_plan}
 
@@ -44,12 +46,22 @@ Types phase start _ = Unit {0}
 no_digit : (w k : ℕ) → go ≡ digit_of w k → ⊥
 no_digit w k e = omega arith
 
-differs_types : (p : Phase) (start : ℕ) (word : WordValue) (visit : Visit) (value : ℕ) → Types p start (differs word visit value)
-differs_types p start word Look value = (no_digit (merged word value) 1, λ _ _. tt)
-differs_types p start word Check value = tt
+no_resynchronise : (careful : Bool) → go ≡ resynchronise_of careful → ⊥
+no_resynchronise true e = omega arith
+no_resynchronise false e = omega arith
+
+mends_types : (p : Phase) (start : ℕ) (deposit : Try) (value : ℕ) → Types p start (mends deposit value)
+mends_types p start deposit value = (no_digit value 1, λ _ _. tt)
+
+read_types : (p : Phase) (start : ℕ) (careful : Bool) (word : WordValue) (visit : Visit) (value : ℕ) → Types p start (read careful word visit value)
+read_types p start careful word visit value =
+    read_walk (Types p start) careful word visit value tt (λ _. tt) (λ _ _. ((λ e. omega arith), λ _ _. tt)) (λ _ _. mends_types p start Only (merged word value))
+    (λ _ _. mends_types p start First (merged word value)) (λ _ _. mends_types p start First (merged word value)) (λ stored _. mends_types p start (Second value) stored) tt
 
 returned_types : (p : Phase) (start : ℕ) (reason : Reason) → Types p start (returned reason)
-returned_types p start Store = tt
+returned_types p start (Store deposit value) = tt
+returned_types p start (Reopen first) = tt
+returned_types p start (Missing address) = tt
 returned_types p start Close = tt
 
 -- one digit more of the start address
@@ -71,35 +83,35 @@ start_types start place c p =
     start_walk (Types (Start place) start) start place c tt (λ less. (no_digit start (place + 1), typed_more start place p.from less))
     (λ all typed t. (t.0, let six : place ≡ 6 = omega (arith, p.to) in t.1 ∙ ap (λ k. t.0 ++ take k (octal_text start)) six))
 
-hears_types : (word : WordValue) (start : ℕ) (phase : Phase) (c : ℕ) (b : Basis) → PhaseFits phase b → Types phase start (hears word start phase c)
-hears_types word start Settle c b f = λ _ _. tt
-hears_types word start (Sync place) c b f = sync_walk (Types (Sync place) start) place c tt (λ _ _ _ _. tt) tt
-hears_types word start (Address visit place) c b f =
+hears_types : (careful : Bool) (word : WordValue) (start : ℕ) (phase : Phase) (c : ℕ) (b : Basis) → PhaseFits phase b → Types phase start (hears careful word start phase c)
+hears_types careful word start Settle c b f = λ _ _. tt
+hears_types careful word start (Sync place) c b f = sync_walk (Types (Sync place) start) careful place c tt (λ _ _ _ _. tt) tt
+hears_types careful word start (Address visit place) c b f =
     address_walk (Types (Address visit place) start) word.address visit place c tt (λ _. (no_digit word.address (place + 1), λ _ _. tt)) ((λ e. omega arith), λ _ _. tt)
-hears_types word start (Slash visit) c b f = slash_walk (Types (Slash visit) start) visit c tt (λ _ _. tt)
-hears_types word start (Before visit) c b f = before_walk (Types (Before visit) start) word visit c tt (λ _ _. tt) tt (λ _ _ _ _. tt)
-hears_types word start (Value visit value place) c b f =
-    value_walk (Types (Value visit value place) start) word visit value place c tt (λ _ _ _ _ _. tt) (λ _ _ _ _ _. tt) (λ _ _ _. tt) (λ _. differs_types (Value visit value place) start word visit value)
-hears_types word start (Deposit value place) c b f =
-    deposit_walk (Types (Deposit value place) start) value place c tt (λ _. (no_digit value (place + 1), λ _ _. tt)) ((λ e. omega arith), λ _ _. tt)
-hears_types word start (Return reason place) c b f =
+hears_types careful word start (Slash visit) c b f = slash_walk (Types (Slash visit) start) visit c tt (λ _ _. tt)
+hears_types careful word start (Before visit) c b f = before_walk (Types (Before visit) start) careful word visit c tt (λ _ _. tt) (λ _ _ _. tt) (λ _. tt) (λ _ _ _ _. tt)
+hears_types careful word start (Value visit value place) c b f =
+    value_walk (Types (Value visit value place) start) careful word visit value place c tt (λ _ _ _ _ _. tt) (λ _ _ _ _ _. tt) (λ _ _. read_types (Value visit value place) start careful word visit value)
+hears_types careful word start (Deposit deposit value place) c b f =
+    deposit_walk (Types (Deposit deposit value place) start) deposit value place c tt (λ _. (no_digit value (place + 1), λ _ _. tt)) ((λ e. omega arith), λ _ _. tt)
+hears_types careful word start (Return reason place) c b f =
     return_walk (Types (Return reason place) start) reason place c tt (λ _ _ _ _. tt) (returned_types (Return reason place) start reason)
-hears_types word start (Start place) c b f = start_types start place c f.1
-hears_types word start Go c b f = go_walk (Types Go start) c tt tt
-hears_types word start (Ended end) c b f = λ _ _. tt
+hears_types careful word start (Start place) c b f = start_types start place c f.1
+hears_types careful word start Go c b f = go_walk (Types Go start) c tt tt
+hears_types careful word start (Ended end) c b f = λ _ _. tt
 
-waits_types : (start : ℕ) (phase : Phase) → Types phase start (waits phase)
-waits_types start Settle = ((λ e. omega arith), λ _ _. tt)
-waits_types start (Sync place) = tt
-waits_types start (Address visit place) = tt
-waits_types start (Slash visit) = tt
-waits_types start (Before visit) = tt
-waits_types start (Value visit value place) = tt
-waits_types start (Deposit value place) = tt
-waits_types start (Return reason place) = tt
-waits_types start (Start place) = tt
-waits_types start Go = tt
-waits_types start (Ended end) = λ _ _. tt
+waits_types : (careful : Bool) (start : ℕ) (phase : Phase) → Types phase start (waits careful phase)
+waits_types careful start Settle = (no_resynchronise careful, λ _ _. tt)
+waits_types careful start (Sync place) = tt
+waits_types careful start (Address visit place) = tt
+waits_types careful start (Slash visit) = tt
+waits_types careful start (Before visit) = tt
+waits_types careful start (Value visit value place) = tt
+waits_types careful start (Deposit deposit value place) = tt
+waits_types careful start (Return reason place) = tt
+waits_types careful start (Start place) = tt
+waits_types careful start Go = tt
+waits_types careful start (Ended end) = λ _ _. tt
 
 -- what a life has typed: no `G` yet, or the whole start address and `G` with every word verified
 abbrev IsTyped : Core → List ℕ → Type 0
@@ -122,12 +134,12 @@ after_words_typed core (Some start) typed e none =
     inl (no_more typed (digit_of start 1) none (no_digit start 1), (typed, ap (λ s. typed ++ digit_of (unwrap_or s 0) 1 ∷ []) (sym e)))
 after_words_typed core None typed e none = not_typed (listens core (Ended Loaded)).next typed (inl (none, tt))
 
-taken_typed : (core : Core) (turn : Turn) (typed : List ℕ) → TurnFits turn (basis_of core) (used_in core.phase) → Types core.phase (start_of core) turn → (Contains typed go → ⊥) → TypedFits core.phase (start_of core) typed →
+taken_typed : (core : Core) (turn : Turn) (typed : List ℕ) → TurnFits turn (basis_of core) (used_in core.careful core.phase) → Types core.phase (start_of core) turn → (Contains typed go → ⊥) → TypedFits core.phase (start_of core) typed →
     IsTyped (taken core turn).next (typed ++ option_to_list (taken core turn).key)
 taken_typed core (Listen phase) typed f t none past = not_typed (listens core phase).next typed (inl (none, t typed past))
 taken_typed core (Key key phase) typed f t none past = inl (no_more typed key none t.0, t.1 typed past)
 taken_typed core Verified typed f t none past = inl (no_more typed carriage_return none (λ e. omega arith), tt)
-taken_typed core ReadBack typed f t none past = inl (no_more typed (digit_of (word_under_way core).address 1) none (no_digit (word_under_way core).address 1), tt)
+taken_typed core (Revisit visit) typed f t none past = inl (no_more typed (digit_of (word_under_way core).address 1) none (no_digit (word_under_way core).address 1), tt)
 taken_typed core Next typed f t none past =
     on_move (λ m. IsTyped m.next (typed ++ option_to_list m.key)) (nat_lt core.verified (length core.plan.words)) (sends core (digit_of (word_under_way core).address 1) (Address Look 1)) (after_words core core.plan.start)
     (λ _. inl (no_more typed (digit_of (word_under_way core).address 1) none (no_digit (word_under_way core).address 1), tt))
@@ -141,8 +153,8 @@ taken_typed core Stray typed f t none past =
     (λ _. not_typed (listens (record core { spent = core.spent + 1 }) Settle).next typed (inl (none, tt)))
     (λ _. not_typed (listens core (Ended GaveUp)).next typed (inl (none, tt)))
 taken_typed core Timeout typed f t none past =
-    on_move (λ m. IsTyped m.next (typed ++ option_to_list m.key)) (nat_lt core.spent core.patience) (sends (record core { spent = core.spent + 1 }) resynchronise (Sync 0)) (listens core (Ended GaveUp))
-    (λ _. inl (no_more typed resynchronise none (λ e. omega arith), tt))
+    on_move (λ m. IsTyped m.next (typed ++ option_to_list m.key)) (nat_lt core.spent core.patience) (sends (record core { spent = core.spent + 1 }) (resynchronise_of core.careful) (Sync 0)) (listens core (Ended GaveUp))
+    (λ _. inl (no_more typed (resynchronise_of core.careful) none (no_resynchronise core.careful), tt))
     (λ _. not_typed (listens core (Ended GaveUp)).next typed (inl (none, tt)))
 
 stays_whole : (core : Core) (m : Move) (typed : List ℕ) → StaysStill core m → IsMoved core m → EndsWithStart (start_of core) typed → core.verified ≡ length core.plan.words → core.going ≡ true → IsTyped m.next (typed ++ option_to_list m.key)
@@ -154,8 +166,8 @@ stays_whole core m typed s mv ends all e =
     )
 
 turn_types : (core : Core) (heard : Heard) → IsHost core → Types core.phase (start_of core) (turn_of core heard)
-turn_types core (Got c) h = hears_types (word_under_way core) (start_of core) core.phase c (basis_of core) h.fits
-turn_types core Quiet h = waits_types (start_of core) core.phase
+turn_types core (Got c) h = hears_types core.careful (word_under_way core) (start_of core) core.phase c (basis_of core) h.fits
+turn_types core Quiet h = waits_types core.careful (start_of core) core.phase
 
 move_typed : (core : Core) (heard : Heard) (typed : List ℕ) → IsHost core → IsTyped core typed → IsTyped (move core heard).next (typed ++ option_to_list (move core heard).key)
 move_typed core heard typed h (inl t) = taken_typed core (turn_of core heard) typed (turn_fits core heard h) (turn_types core heard h) t.0 t.1
@@ -179,7 +191,7 @@ whole_start core heard (inl t) c = absurd (t.0 c)
 whole_start core heard (inr t) c =
     (subst (λ plan. EndsWithStart (unwrap_or plan.start 0) (replay core heard)) (led_plan core heard) t.0, t.1 ∙ ap (λ plan. length plan.words) (led_plan core heard))
 
-pub starts_only_whole : (plan : PlanValue) (verified : ℕ) (going : Bool) (patience : ℕ) → IsHost (begun plan verified going patience) → StartsOnlyWhole (begun plan verified going patience)
-starts_only_whole plan verified going patience h heard c =
-    let core : Core = begun plan verified going patience in
+pub starts_only_whole : (careful : Bool) (plan : PlanValue) (verified : ℕ) (going : Bool) (patience : ℕ) → IsHost (begun_by careful plan verified going patience) → StartsOnlyWhole (begun_by careful plan verified going patience)
+starts_only_whole careful plan verified going patience h heard c =
+    let core : Core = begun_by careful plan verified going patience in
     whole_start core heard (led_typed core heard [] h (inl (nothing_yet, first_typed plan verified going (start_of core)))) c

@@ -11,15 +11,19 @@ use Rattle.host_core.specs.declared.answers.Echo.TheVariants.{More, Whole, NoEch
 use Rattle.host_core.specs.declared.answers.Reading.{Reading}
 use Rattle.host_core.specs.declared.answers.Reading.TheVariants.{Digits, Number, NoMemory, NoReading}
 
--- the answer to `Z`, with or without its echo, with one CR or two, up to the prompt
-abbrev pub resynchronise_reply : ℕ → ℕ → Reply
-resynchronise_reply place c =
-    if place == 0 then (if c == resynchronise then On 1 else (if c == question_mark then On 2 else Wrong))
+-- the answer to a key that is no command, with or without its echo, with one CR or two, up to the prompt
+abbrev pub refusal_reply : ℕ → ℕ → ℕ → Reply
+refusal_reply key place c =
+    if place == 0 then (if c == key then On 1 else (if c == question_mark then On 2 else Wrong))
     else (if place == 1 then (if c == question_mark then On 2 else Wrong)
     else (if place == 2 then (if c == carriage_return then On 3 else Wrong)
     else (if place == 3 then (if c == carriage_return then On 4 else (if c == line_feed then On 5 else Wrong))
     else (if place == 4 then (if c == line_feed then On 5 else Wrong)
     else (if c == prompt then Over else Wrong)))))
+
+-- the answer to `Z`
+abbrev pub resynchronise_reply : ℕ → ℕ → Reply
+resynchronise_reply place c = refusal_reply resynchronise place c
 
 -- the answer to CR, one CR or two, up to the prompt
 abbrev pub return_reply : ℕ → ℕ → Reply

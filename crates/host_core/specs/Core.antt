@@ -1,16 +1,19 @@
 -- The host core as one value, and how a life begins (this project's choice).
-use Rattle.std.specs.Prelude.{◌≡◌, ℕ, Bool, false, ◌==◌, ◌&&◌, if◌then◌else◌, min, List, length, get_or, Option, Some, None, unwrap_or}
+use Rattle.std.specs.Prelude.{◌≡◌, ℕ, Bool, true, false, ◌==◌, ◌&&◌, if◌then◌else◌, min, List, length, get_or}
+use Rattle.std.specs.Prelude.{Option, Some, None, unwrap_or}
 use Rattle.std.specs.Option.{is_none}
 use Rattle.tape_image.specs.Word.{WordValue}
 use Rattle.tape_image.specs.Plan.{PlanValue}
 use Rattle.host_core.specs.declared.phase.Phase.{Phase}
-use Rattle.host_core.specs.declared.phase.Phase.TheVariants.{Settle, Ended}
+use Rattle.host_core.specs.declared.phase.Phase.TheVariants.{Settle, Sync, Return, Ended}
+use Rattle.host_core.specs.declared.phase.Reason.TheVariants.{Close}
 use Rattle.host_core.specs.declared.phase.End.{End}
 use Rattle.host_core.specs.declared.phase.End.TheVariants.{Loaded, MaybeStarted}
 
--- what is loaded, how many of its words are verified, whether the start was typed (the mark), how
--- many mishaps a life survives and how many it has had, the characters it has sent, and its phase
+-- whether the host is careful, as one on a line that changes characters has to be; what is loaded, how many of its words are verified, whether
+-- the start was typed (the mark), how many mishaps a life survives and how many it has had, the characters it has sent, and its phase
 pub record Core : Type 0 where
+  pub careful : Bool
   pub plan : PlanValue
   pub verified : ℕ
   pub going : Bool
@@ -48,8 +51,9 @@ abbrev pub plain_patience : ℕ
 plain_patience = 8
 
 -- a core at the beginning of a life
-abbrev pub begun : PlanValue → ℕ → Bool → ℕ → Core
-begun plan verified going patience = record {
+abbrev pub begun_by : Bool → PlanValue → ℕ → Bool → ℕ → Core
+begun_by careful plan verified going patience = record {
+  careful = careful;
   plan = plan;
   verified = verified;
   going = going;
@@ -59,15 +63,25 @@ begun plan verified going patience = record {
   phase = first_phase plan verified going;
 }
 
--- a new life that keeps the plan, the patience, the mark and at most the first `kept` verified words
+-- a plain one: so is each host that is not said to be careful
+abbrev pub begun : PlanValue → ℕ → Bool → ℕ → Core
+begun plan verified going patience = begun_by false plan verified going patience
+
+-- a new life that keeps the care, the plan, the patience, the mark and at most the first `kept` verified words
 abbrev pub restarted : Core → ℕ → Core
-restarted core kept = begun core.plan (min kept core.verified) core.going core.patience
+restarted core kept = begun_by core.careful core.plan (min kept core.verified) core.going core.patience
 
 -- a core that has done nothing: no word verified, no mark, at the beginning of its life
 abbrev pub IsFresh : Core → Type 0
-IsFresh core = core ≡ begun core.plan 0 false core.patience
+IsFresh core = core ≡ begun_by core.careful core.plan 0 false core.patience
 
 -- the end of the life, where it has ended
 abbrev pub ended : Phase → Option End
 ended (Ended end) = Some end
 ended _ = None
+
+-- an attempt at a word begins with the key that resynchronises, or with the CR that closes a verified word
+abbrev pub begins_attempt : Phase → Bool
+begins_attempt (Sync place) = true
+begins_attempt (Return Close place) = true
+begins_attempt phase = false

@@ -4,7 +4,11 @@ use Rattle.std.specs.Prelude.{◌≡◌, ℕ, ◌^◌, ◌<◌, ◌≤◌, Bool,
 use Rattle.tape_image.specs.Plan.{PlanValue, IsPlan}
 use Rattle.host_core.specs.declared.phase.Phase.{Phase}
 use Rattle.host_core.specs.declared.phase.Phase.TheVariants.{Settle, Sync, Address, Slash, Before, Value, Deposit, Return, Start, Go, Ended}
-use Rattle.host_core.specs.declared.phase.Reason.TheVariants.{Store, Close}
+use Rattle.host_core.specs.declared.phase.Try.{Try}
+use Rattle.host_core.specs.declared.phase.Try.TheVariants.{Only, First, Second}
+use Rattle.host_core.specs.declared.phase.Visit.{Visit}
+use Rattle.host_core.specs.declared.phase.Visit.TheVariants.{Look, Again, Check}
+use Rattle.host_core.specs.declared.phase.Reason.TheVariants.{Store, Reopen, Missing, Close}
 use Rattle.host_core.specs.declared.phase.End.{End}
 use Rattle.host_core.specs.declared.phase.End.TheVariants.{Loaded, Started, Uncertain, MaybeStarted, GaveUp, NoWord, WontHold}
 use Rattle.host_core.specs.Core.{Core, word_nr}
@@ -23,6 +27,7 @@ value_room place =
 
 -- of the host alone: what its phases and ends are judged by, which is all of a core but the phase and the characters sent
 pub record Basis : Type 0 where
+  pub careful : Bool
   pub plan : PlanValue
   pub verified : ℕ
   pub going : Bool
@@ -32,6 +37,7 @@ pub record Basis : Type 0 where
 -- a core without its phase and the characters that it has sent
 abbrev pub basis_of : Core → Basis
 basis_of core = record {
+  careful = core.careful;
   plan = core.plan;
   verified = core.verified;
   going = core.going;
@@ -62,16 +68,30 @@ EndFits GaveUp b = b.spent ≡ b.patience
 EndFits (NoWord address) b = IsItsAddress address b
 EndFits (WontHold address) b = IsItsAddress address b
 
+-- a plain host deposits once, a careful one at most twice
+abbrev pub TryFits : Try → Bool → Type 0
+TryFits Only careful = careful ≡ false
+TryFits First careful = careful ≡ true
+TryFits (Second before) careful = careful ≡ true
+
+-- what was deposited is a word, and only a careful host looks again
+abbrev pub VisitFits : Visit → Bool → Type 0
+VisitFits Look careful = ⊤
+VisitFits (Again first) careful = careful ≡ true
+VisitFits (Check deposit value) careful = TryFits deposit careful × (value < 65536)
+
 -- what a phase says
 abbrev pub PhaseFits : Phase → Basis → Type 0
 PhaseFits Settle b = ⊤
 PhaseFits (Sync place) b = place ≤ 5
-PhaseFits (Address visit place) b = HasWord b × IsPlace place
-PhaseFits (Slash visit) b = HasWord b
-PhaseFits (Before visit) b = HasWord b
-PhaseFits (Value visit value place) b = HasWord b × (place ≤ 6) × (value < value_room place)
-PhaseFits (Deposit value place) b = HasWord b × IsPlace place × (value < 65536)
-PhaseFits (Return Store place) b = HasWord b × (place ≤ 3)
+PhaseFits (Address visit place) b = HasWord b × IsPlace place × VisitFits visit b.careful
+PhaseFits (Slash visit) b = HasWord b × VisitFits visit b.careful
+PhaseFits (Before visit) b = HasWord b × VisitFits visit b.careful
+PhaseFits (Value visit value place) b = HasWord b × (place ≤ 6) × (value < value_room place) × VisitFits visit b.careful
+PhaseFits (Deposit deposit value place) b = HasWord b × IsPlace place × (value < 65536) × TryFits deposit b.careful
+PhaseFits (Return (Store deposit value) place) b = HasWord b × (place ≤ 3) × (value < 65536) × TryFits deposit b.careful
+PhaseFits (Return (Reopen first) place) b = HasWord b × (place ≤ 3) × (b.careful ≡ true)
+PhaseFits (Return (Missing address) place) b = IsItsAddress address b × (place ≤ 3) × (b.careful ≡ true)
 PhaseFits (Return Close place) b = place ≤ 3
 PhaseFits (Start place) b = IsReady b.plan b.verified × IsPlace place
 PhaseFits Go b = IsReady b.plan b.verified × (b.going ≡ true)

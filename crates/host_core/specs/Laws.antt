@@ -22,7 +22,7 @@ replay core (heard ∷ more) = option_to_list (move core heard).key ++ replay (m
 
 -- whatever is heard, this life sends no more characters than the bound, those that it has sent included
 abbrev pub KeepsBound : Core → Type 0
-KeepsBound core = (heard : List Heard) → core.sent + length (replay core heard) ≤ character_bound (length core.plan.words) core.patience
+KeepsBound core = (heard : List Heard) → core.sent + length (replay core heard) ≤ character_bound core.careful (length core.plan.words) core.patience
 
 -- whatever is heard, nothing is sent
 abbrev pub IsSilent : Core → Type 0

@@ -4,7 +4,7 @@
 ghost use Rattle.std.specs.Prelude.{◌≡◌, ◌<◌};
 ghost use Rattle.octal.specs.Octal.{digit_of};
 ghost use Rattle.host_core.specs.Answers.{digit_echo, first_digit, reading_rest, reading_start};
-ghost use Rattle.host_core.specs.Answers.{resynchronise_reply, return_reply};
+ghost use Rattle.host_core.specs.Answers.{refusal_reply, resynchronise_reply, return_reply};
 ghost use Rattle.host_core.specs.Host.{IsPlace, value_room};
 
 use crate::console::{CARRIAGE_RETURN, LINE_FEED, PROMPT, QUESTION_MARK, RESYNCHRONISE, SPACE};
@@ -13,7 +13,7 @@ use octal::oct6;
 // How many octal digits the host types of every number.
 const DIGITS: u8 = 6;
 
-/// How far a character brings the answer to `Z` or to CR.
+/// How far a character brings the answer to CR or to a key that is no command.
 #[derive(Clone, Copy)]
 pub enum Reply {
     /// The answer goes on at this place.
@@ -55,12 +55,19 @@ pub enum Reading {
     NoReading,
 }
 
-/// The answer to `Z`, from place 0 to 5: its echo or none, `?`, one CR or two, LF, and the prompt.
+/// The answer to `Z`, from place 0 to 5.
 pub fn resynchronise_reply(place: u8, c: u8) -> Reply
     ensures { result ≡ resynchronise_reply place c }
 {
+    refusal_reply(RESYNCHRONISE, place, c)
+}
+
+/// The answer to a key that is no command, from place 0 to 5: its echo or none, `?`, one CR or two, LF, and the prompt.
+pub fn refusal_reply(key: u8, place: u8, c: u8) -> Reply
+    ensures { result ≡ refusal_reply key place c }
+{
     match (place, c) {
-        (0, RESYNCHRONISE) => Reply::On(1),
+        (0, _) if c == key => Reply::On(1),
         (0 | 1, QUESTION_MARK) => Reply::On(2),
         (2, CARRIAGE_RETURN) => Reply::On(3),
         (3, CARRIAGE_RETURN) => Reply::On(4),

@@ -1,5 +1,5 @@
-ghost use Rattle.std.specs.Prelude.{◌≡◌, ℕ, ◌+◌, ◌^◌, ◌<◌, true, Some, None};
-ghost use Rattle.host_core.specs.Core.{begun};
+ghost use Rattle.std.specs.Prelude.{◌≡◌, ℕ, ◌+◌, ◌^◌, ◌<◌, Bool, true, Some, None};
+ghost use Rattle.host_core.specs.Core.{begun_by};
 ghost use Rattle.host_core.specs.Life.{core_of};
 
 use crate::phase::{End, Phase};
@@ -25,7 +25,8 @@ pub(crate) struct LifeStep {
 impl LifeState {
     /// The beginning of a life: after the mark nothing is typed; with all words verified and no start nothing is left to do.
     pub(crate) fn begun(plan: &Plan, progress: Progress) -> LifeState
-        ensures { (patience : ℕ) → core_of plan.now patience result ≡ begun plan.now progress.verified progress.going patience }
+        ensures { (careful : Bool) (patience : ℕ) →
+            core_of careful plan.now patience result ≡ begun_by careful plan.now progress.verified progress.going patience }
     {
         let phase = if progress.going {
             Phase::Ended(End::MaybeStarted)

@@ -1,21 +1,44 @@
 use octal::Octal;
 use std::fmt;
 
+/// Which deposit of a value it is. A careful host makes a second one before it says that memory won't hold the value,
+/// since a changed character can undo the first.
+#[derive(Clone, Copy)]
+pub enum Try {
+    /// The one deposit of a plain host.
+    Only,
+
+    /// The first deposit of a careful host.
+    First,
+
+    /// The second deposit of a careful host: the check behind the first has read this.
+    Second(u16),
+}
+
 /// Why the word under way is opened.
 #[derive(Clone, Copy)]
 pub enum Visit {
     /// To see what memory holds before anything is stored.
     Look,
 
-    /// To see that the deposit reached memory.
-    Check,
+    /// To see whether memory holds what the look has read, as a careful host does.
+    Again(u16),
+
+    /// To see that the deposit of this value reached memory.
+    Check(Try, u16),
 }
 
 /// Why a CR was typed.
 #[derive(Clone, Copy)]
 pub enum Reason {
-    /// It stores the digits before it.
-    Store,
+    /// It stores the digits before it, of this value.
+    Store(Try, u16),
+
+    /// It closes a word that is to be looked at again, since this was read.
+    Reopen(u16),
+
+    /// None was: behind a `?` in place of the reading at this address a careful host awaits what follows a refusal.
+    Missing(u16),
 
     /// It closes a word that stands already.
     Close,
@@ -93,13 +116,13 @@ impl fmt::Display for End {
 }
 
 /// What the host waits for. Places count the digits of a number from 1; in `Value` and in the
-/// answers to `Z` and CR they count from 0.
+/// answers to CR and to the key that resynchronises they count from 0.
 #[derive(Clone, Copy)]
 pub enum Phase {
     /// The line becomes quiet.
     Settle,
 
-    /// The answer to `Z`, from place 0 to 5.
+    /// The answer to the key that resynchronises, from place 0 to 5.
     Sync(u8),
 
     /// The echo of a digit of the word's address, place 1 to 6.
@@ -115,9 +138,9 @@ pub enum Phase {
     Value(Visit, u16, u8),
 
     /// The echo of a digit of the number that is stored, place 1 to 6.
-    Deposit(u16, u8),
+    Deposit(Try, u16, u8),
 
-    /// The answer to CR, from place 0 to 3.
+    /// The answer to CR, or what follows a `?`, from place 0 to 3.
     Return(Reason, u8),
 
     /// The echo of a digit of the start address, place 1 to 6.

@@ -2,16 +2,28 @@
 
 ghost use Rattle.std.specs.Prelude.{◌≡◌};
 ghost use Rattle.host_core.specs.Host.{IsPlace};
-ghost use Rattle.host_core.specs.PhaseTable.{address_hears, deposit_hears, echoed, go_hears, read, reads, returns};
-ghost use Rattle.host_core.specs.PhaseTable.{slash_hears, start_hears, synced, waits};
+ghost use Rattle.host_core.specs.Console.{resynchronise_of};
+ghost use Rattle.host_core.specs.PhaseTable.{address_hears, checked, deposit_hears, differs, echoed, go_hears, looked, looked_again, looked_carefully};
+ghost use Rattle.host_core.specs.PhaseTable.{looked_once, mends, read, reads, returns, slash_hears, start_hears, synced, waits};
 
 use crate::answers::{Echo, Reading, Reply, digit, digit_echo};
-use crate::console::{CARRIAGE_RETURN, GO, RESYNCHRONISE, SLASH};
-use crate::phase::{End, Phase, Reason, Visit};
+use crate::console::{CARRIAGE_RETURN, GO, RESYNCHRONISE, RESYNCHRONISE_CAREFULLY, SLASH};
+use crate::phase::{End, Phase, Reason, Try, Visit};
 use crate::turn::Turn;
 use tape_image::{Word, merge};
 
-/// Behind the answer to `Z` comes the next word.
+/// The key by which a host resynchronises.
+pub(crate) fn resynchronise(careful: bool) -> u8
+    ensures { result ≡ resynchronise_of careful }
+{
+    if careful {
+        RESYNCHRONISE_CAREFULLY
+    } else {
+        RESYNCHRONISE
+    }
+}
+
+/// Behind the answer to the key that resynchronises comes the next word.
 pub(crate) fn synced(reply: Reply) -> Turn
     ensures { result ≡ synced reply }
 {
@@ -53,49 +65,138 @@ pub(crate) fn slash(visit: Visit, c: u8) -> Turn
     }
 }
 
-/// A reading of the word on a visit: it goes on, it is whole, or there is no memory.
-pub(crate) fn reads(word: Word, visit: Visit, reading: Reading) -> Turn
-    ensures { result ≡ reads word visit reading }
+/// A reading of the word on a visit: it goes on, it is whole, or there is no memory. A changed character alone can make the
+/// `?` of that, so a careful host awaits the rest of the refusal.
+pub(crate) fn reads(careful: bool, word: Word, visit: Visit, reading: Reading) -> Turn
+    ensures { result ≡ reads careful word visit reading }
 {
     match reading {
         Reading::Digits(value, count) => Turn::Listen(Phase::Value(visit, value, count)),
-        Reading::Number(value) => whole_reading(word, visit, value),
+        Reading::Number(value) => whole_reading(careful, word, visit, value),
+        Reading::NoMemory if careful => {
+            Turn::Listen(Phase::Return(Reason::Missing(word.address()), 0))
+        }
         Reading::NoMemory => Turn::Stop(End::NoWord(word.address())),
         Reading::NoReading => Turn::Stray,
     }
 }
 
 // Six digits came, so nothing of the reading was lost.
-fn whole_reading(word: Word, visit: Visit, value: u16) -> Turn
-    ensures { result ≡ read word visit value }
+fn whole_reading(careful: bool, word: Word, visit: Visit, value: u16) -> Turn
+    ensures { result ≡ read careful word visit value }
+{
+    match visit {
+        Visit::Look => looked(careful, word, value),
+        Visit::Again(first) => looked_again(word, first, value),
+        Visit::Check(deposit, stored) => checked(word, deposit, stored, value),
+    }
+}
+
+// The first look.
+fn looked(careful: bool, word: Word, value: u16) -> Turn
+    ensures { result ≡ looked careful word value }
+{
+    if careful {
+        looked_carefully(word, value)
+    } else {
+        looked_once(word, value)
+    }
+}
+
+// A plain host takes what it read for true.
+fn looked_once(word: Word, value: u16) -> Turn
+    ensures { result ≡ looked_once word value }
 {
     let stored = merge(word, value);
     if stored == value {
-        return Turn::Verified;
+        Turn::Verified
+    } else {
+        mends(Try::Only, stored)
     }
-    match visit {
-        Visit::Look => Turn::Key(digit(stored, 1), Phase::Deposit(stored, 1)),
-        Visit::Check => Turn::Stop(End::WontHold(word.address())),
+}
+
+// A careful host reads the word again: only where the tape gives the whole word, and another one seems to stand there,
+// does nothing hang on what was read.
+fn looked_carefully(word: Word, value: u16) -> Turn
+    ensures { result ≡ looked_carefully word value }
+{
+    let stored = merge(word, value);
+    if word.mask() == 0o177777 && stored != value {
+        mends(Try::First, stored)
+    } else {
+        Turn::Key(CARRIAGE_RETURN, Phase::Return(Reason::Reopen(value), 0))
     }
+}
+
+// The second look has to read the same.
+fn looked_again(word: Word, first: u16, value: u16) -> Turn
+    ensures { result ≡ looked_again word first value }
+{
+    let stored = merge(word, value);
+    if value != first {
+        Turn::Stray
+    } else if stored == value {
+        Turn::Verified
+    } else {
+        mends(Try::First, stored)
+    }
+}
+
+// The check after a deposit.
+fn checked(word: Word, deposit: Try, stored: u16, value: u16) -> Turn
+    ensures { result ≡ checked word deposit stored value }
+{
+    if merge(word, value) == value {
+        Turn::Verified
+    } else {
+        differs(word, deposit, stored, value)
+    }
+}
+
+// A check that differs: memory won't hold the value, or a careful host deposits it once more. It says so only where the
+// second check reads as the first.
+fn differs(word: Word, deposit: Try, stored: u16, value: u16) -> Turn
+    ensures { result ≡ differs word deposit stored value }
+{
+    match deposit {
+        Try::First => mends(Try::Second(value), stored),
+        Try::Second(before) if value != before => Turn::Stray,
+        Try::Only | Try::Second(_) => Turn::Stop(End::WontHold(word.address())),
+    }
+}
+
+// The value is deposited.
+fn mends(deposit: Try, value: u16) -> Turn
+    ensures { result ≡ mends deposit value }
+{
+    Turn::Key(digit(value, 1), Phase::Deposit(deposit, value, 1))
 }
 
 /// The echo of each digit of the number that is stored, then CR is typed.
-pub(crate) fn deposit(value: u16, place: u8, c: u8) -> Turn
+pub(crate) fn deposit(deposit: Try, value: u16, place: u8, c: u8) -> Turn
     requires { IsPlace place }
-    ensures { result ≡ deposit_hears value place c }
+    ensures { result ≡ deposit_hears deposit value place c }
 {
-    let stores = Turn::Key(CARRIAGE_RETURN, Phase::Return(Reason::Store, 0));
+    let stores = Turn::Key(
+        CARRIAGE_RETURN,
+        Phase::Return(Reason::Store(deposit, value), 0),
+    );
     let echo = digit_echo(value, place, c);
-    echoed(echo, Phase::Deposit(value, place + 1), stores)
+    echoed(echo, Phase::Deposit(deposit, value, place + 1), stores)
 }
 
-/// The answer to CR: behind a deposit the word is read back, behind a verified word comes the next.
+/// The answer to CR: behind a deposit the word is read back, behind a look it is looked at again, behind a verified word
+/// comes the next. Behind a whole refusal no memory answers at the address.
 pub(crate) fn after_return(reason: Reason, reply: Reply) -> Turn
     ensures { result ≡ returns reason reply }
 {
     match (reply, reason) {
         (Reply::On(place), _) => Turn::Listen(Phase::Return(reason, place)),
-        (Reply::Over, Reason::Store) => Turn::ReadBack,
+        (Reply::Over, Reason::Store(deposit, value)) => {
+            Turn::Revisit(Visit::Check(deposit, value))
+        }
+        (Reply::Over, Reason::Reopen(first)) => Turn::Revisit(Visit::Again(first)),
+        (Reply::Over, Reason::Missing(address)) => Turn::Stop(End::NoWord(address)),
         (Reply::Over, Reason::Close) => Turn::Next,
         (Reply::Wrong, _) => Turn::Stray,
     }
@@ -121,11 +222,11 @@ pub(crate) fn go(c: u8) -> Turn
 }
 
 /// Nothing came for the quiet time.
-pub(crate) fn quiet(phase: Phase) -> Turn
-    ensures { result ≡ waits phase }
+pub(crate) fn quiet(careful: bool, phase: Phase) -> Turn
+    ensures { result ≡ waits careful phase }
 {
     match phase {
-        Phase::Settle => Turn::Key(RESYNCHRONISE, Phase::Sync(0)),
+        Phase::Settle => Turn::Key(resynchronise(careful), Phase::Sync(0)),
         Phase::Go => Turn::Stop(End::Uncertain),
         Phase::Ended(_) => Turn::Listen(phase),
         _ => Turn::Timeout,

@@ -53,7 +53,7 @@ pub record IsDone (words : List (List ℕ)) (before after : Moment) (ended : Sta
   pub wanted : Wanted
   pub asked : IsAskedBy words wanted
   pub between : Held
-  pub tried : IsTried wanted.request before (record { asked = after.asked; held = between }) ended
+  pub tried : IsTried wanted.request before (record after { held = between }) ended
   pub logged : IsLoggedIf wanted ended between after.held
 
 -- what the words ask for was tried; or the words were explained, by help only where they ask for it, and nothing was asked of the system

@@ -2,6 +2,7 @@
 //! becomes the exit status. What words ask for stands in `command_line`, all that is done in `requests` and below.
 #![tactic(auto)]
 
+mod followed;
 mod misplaced;
 mod program;
 
@@ -21,6 +22,7 @@ fn main(rt: HostRuntime) -> ExitCode {
     let alloc = rt.alloc();
     let witness = Witness::new();
     let input = rt.stdin();
+    let is_shown = rt.stdout().is_terminal();
     let is_typed = input.is_terminal();
     let mut streams = Streams {
         input: WatchedFile::new(input, &witness),
@@ -42,12 +44,20 @@ fn main(rt: HostRuntime) -> ExitCode {
     let terminal = screen.is_terminal().then_some(&screen);
     let system = WatchedSystem::watching(&rt, &witness);
     let (_, code) = program::program(&rt, system, alloc, &words, &mut streams, terminal, &witness);
+    if is_shown && terminal.is_some() && streams.out.is_mid_line() {
+        end_line(&rt);
+    }
     ExitCode::from(code)
 }
 
 // Says to whoever typed the program's name alone what it waits for. What can't be said is not told.
 fn say_what_is_read<R: Eprint>(rt: &R) {
     let _ = rt.eprint(&"ldaodt: reading a tape from standard input ('ldaodt --help' says more)\n");
+}
+
+// Ends the line in which a machine fell silent, so that a shell's prompt does not stand in it.
+fn end_line<R: Eprint>(rt: &R) {
+    let _ = rt.eprint(&"\n");
 }
 
 // Fills the descriptors 0 to 2 where the program was started without them, so that no file that it

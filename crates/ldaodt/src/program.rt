@@ -12,6 +12,7 @@ ghost use Rattle.requests.specs.Moment.{moment};
 ghost use Rattle.requests.specs.Attempt.{IsAttempted};
 ghost use Rattle.ldaodt.specs.Answer.{IsAnswered, IsLoggedIf};
 
+use crate::followed::say_followed;
 use crate::misplaced::misplaced;
 use command_line::{Wanted, explain, parse};
 use endings::{FaultOutput, Output, Status, Streams, print_failure};
@@ -41,11 +42,12 @@ pub(crate) fn program<K: Kinds, R: Read, W: Output, E: FaultOutput, T: Print>(
     requires { FitsInMemory R.row }
     // With no words, the tape on the input is checked.
     ensures checked { words.now ≡ [] → (status : Status)
-        × IsAttempted (Request.Tape (TapeRequest.Print PrintRequest.CheckInput)) (moment system streams.old ⇒ moment result.0 streams.new) status
+        × IsAttempted (Request.Tape (TapeRequest.Print PrintRequest.CheckInput)) (moment K.Disk.holds system streams.old ⇒ moment K.Disk.holds result.0 streams.new) status
         × (result.1 ≡ status_code status) }
     // Whatever the words are, what they ask for is tried, and told to a log where that is wanted, or they are explained.
     ensures answered { (status : Status)
-        × IsAnswered (map string_bytes words.now) (moment system streams.old) (moment result.0 streams.new) status × (result.1 ≡ status_code status) }
+        × IsAnswered (map string_bytes words.now) (moment K.Disk.holds system streams.old) (moment K.Disk.holds result.0 streams.new) status
+        × (result.1 ≡ status_code status) }
 {
     match parse(alloc, words) {
         Ok(wanted) => {
@@ -53,7 +55,12 @@ pub(crate) fn program<K: Kinds, R: Read, W: Output, E: FaultOutput, T: Print>(
             // A name that can't be what its place asks for is told, and nothing is done.
             let (system, status) = match misplaced(rt, request) {
                 Some(failure) => (system, print_failure(alloc, failure, &mut streams.err)),
-                None => attempt(system, alloc, request, streams, terminal, witness),
+                None => {
+                    if let Some(terminal) = terminal {
+                        say_followed(rt, alloc, terminal, request);
+                    }
+                    attempt(system, alloc, request, streams, terminal, witness)
+                }
             };
             log_if_wanted(alloc, &system, &wanted, status, streams);
             (system, status.code())

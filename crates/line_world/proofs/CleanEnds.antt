@@ -24,7 +24,8 @@ use Rattle.host_core.specs.PhaseTable.{Move, move, taken, turn_of, hears, waits,
 use Rattle.host_core.proofs.Turns.{kept}
 use Rattle.host_core.proofs.Frame.{on_test, on_move}
 use Rattle.line_world.specs.declared.event.Event.{Event}
-use Rattle.line_world.specs.Scene.{Scene}
+use Rattle.host_core.specs.Console.{resynchronise_of}
+use Rattle.line_world.specs.Scene.{Scene, Toll, toll_of}
 use Rattle.line_world.specs.World.{happens, after, first_of, IsCleanRun}
 use Rattle.line_world.specs.Site.{site, site_of, IsThere, ground}
 use Rattle.line_world.specs.Invariant.{IsKept, InPhase, EndIsPaid}
@@ -61,17 +62,17 @@ mark_goes core Stray e =
     on_move MarkGoes (ltb core.spent core.patience) (listens (record core { spent = core.spent + 1 }) Settle) (listens core (Ended GaveUp))
     (λ _ f. absurd (not_both core.going e f)) (λ _ f. absurd (not_both core.going e f))
 mark_goes core Timeout e =
-    on_move MarkGoes (ltb core.spent core.patience) (sends (record core { spent = core.spent + 1 }) 90 (Sync 0)) (listens core (Ended GaveUp))
+    on_move MarkGoes (ltb core.spent core.patience) (sends (record core { spent = core.spent + 1 }) (resynchronise_of core.careful) (Sync 0)) (listens core (Ended GaveUp))
     (λ _ f. absurd (not_both core.going e f)) (λ _ f. absurd (not_both core.going e f))
 mark_goes core turn e = λ f. absurd (not_both core.going e f)
 
 -- under the mark only the echo of `G` is awaited, or the life is over
-marked_hears : (core : Core) (word : WordValue) (start : ℕ) (phase : Phase) (c : ℕ) → IsPastMark phase → NoMaybe phase → NoMaybe (taken core (hears word start phase c)).next.phase
+marked_hears : (core : Core) (word : WordValue) (start : ℕ) (phase : Phase) (c : ℕ) → IsPastMark phase → NoMaybe phase → NoMaybe (taken core (hears core.careful word start phase c)).next.phase
 marked_hears core word start Go c past none = on_test (λ v. NoMaybe (taken core (if v then Stop Started else Stop Uncertain)).next.phase) (c == 71) (λ _ e. cc) (λ _ e. cc)
 marked_hears core word start (Ended end) c past none = none
 marked_hears core word start phase c past none = absurd past
 
-marked_waits : (core : Core) (phase : Phase) → IsPastMark phase → NoMaybe phase → NoMaybe (taken core (waits phase)).next.phase
+marked_waits : (core : Core) (phase : Phase) → IsPastMark phase → NoMaybe phase → NoMaybe (taken core (waits core.careful phase)).next.phase
 marked_waits core Go past none = λ e. cc
 marked_waits core (Ended end) past none = none
 marked_waits core phase past none = absurd past
@@ -101,7 +102,7 @@ record StaysClean (w next : Scene) : Type 0 where
   pub lost : next.lost ≡ w.lost
   pub phase : NoMaybe next.core.phase
 
-clean_event : (m : Machine) (core : Core) (down up : List ℕ) (lost : ℕ) → IsHost core → NoMaybe core.phase → StaysClean (scene m core down up lost) (happens (scene m core down up lost) (first_of down up))
+clean_event : (m : Machine) (core : Core) (down up : List ℕ) (lost : Toll) → IsHost core → NoMaybe core.phase → StaysClean (scene m core down up lost) (happens (scene m core down up lost) (first_of down up))
 clean_event m core (c ∷ down) up lost h none = record { lost = refl; phase = none }
 clean_event m core [] (c ∷ up) lost h none = record { lost = refl; phase = no_maybe core (Got c) h none }
 clean_event m core [] [] lost h none = record { lost = refl; phase = no_maybe core Silence h none }
@@ -109,7 +110,7 @@ clean_event m core [] [] lost h none = record { lost = refl; phase = no_maybe co
 clean_events : (w : Scene) (events : List Event) → IsKept w → NoMaybe w.core.phase → IsCleanRun w events → StaysClean w (after w events)
 clean_events w [] k none run = record { lost = refl; phase = none }
 clean_events w (event ∷ events) k none run =
-    let first : StaysClean w (happens w event) = subst (λ (e : Event). StaysClean w (happens w e)) (sym run.1) (clean_event w.machine w.core w.down w.up w.lost k.host none) in
+    let first : StaysClean w (happens w event) = subst (λ (e : Event). StaysClean w (happens w e)) (sym run.1) (clean_event w.machine w.core w.down w.up (toll_of w) k.host none) in
     let rest = clean_events (happens w event) events (kept_event w event k) first.phase run.2 in
     record { lost = rest.lost ∙ first.lost; phase = rest.phase }
 
@@ -139,7 +140,7 @@ ending w events end o k run is =
       steps = steps_events w events k;
       lost = clean.lost ∙ o.none_lost;
       fits = subst (λ (p : Phase). PhaseFits p (basis_of now.core)) over at_end.host.fits;
-      paid = (subst (λ (p : Phase). InPhase p (ground now) (site now) now.down now.up now.core.patience now.core.spent now.lost) over at_end.phase).1;
+      paid = (subst (λ (p : Phase). InPhase p (ground now) (site now) now.down now.up now.core.patience now.core.spent (toll_of now)) over at_end.phase).1;
       mark = subst (λ (p : Phase). MarkFits now.core.going now.core.plan.start p) over at_end.host.mark;
       other = λ e. clean.phase (over ∙ ap Ended e);
     }
@@ -246,7 +247,7 @@ clean_missing w events end o k run is i inside past before =
 
 -- with the keys of the whole load, how a load on such a line ends
 pub clean_ends : (w : Scene) (events : List Event) (keys : List ℕ) (end : End) → IsAtOpening w → IsKept w → IsCleanRun w events → ended (after w events).core.phase ≡ Some end →
-    (((i : ℕ) → i < length w.core.plan.words → LiesIn w i) → keys ≡ clean_text w.core.plan.words w.machine.memory w.core.plan.start) → LoadsClean w (after w events) keys end
+    (((i : ℕ) → i < length w.core.plan.words → LiesIn w i) → keys ≡ clean_text w.core.careful w.core.plan.words w.machine.memory w.core.plan.start) → LoadsClean w (after w events) keys end
 clean_ends w events keys end o k run is keys_are = record {
   whole = λ lies. let all = clean_whole w events end o k run is lies in record { end_is = all.end_is; overlay = all.overlay; keys_are = keys_are lies; spent = all.spent };
   missing = clean_missing w events end o k run is;

@@ -1,5 +1,5 @@
 -- Every event keeps the invariant, and does to memory what is safe.
-use Rattle.std.proofs.Common.{◌≡◌, ℕ, ◌/◌, ◌<◌, ◌≤◌, Bool, true, false, ltb, Some, None, List, [], ◌∷◌, length, unwrap_or, inl, inr, refl, arith, ap, sym, subst, ◌∙◌}
+use Rattle.std.proofs.Common.{◌≡◌, ℕ, ◌/◌, ◌<◌, ◌≤◌, Bool, true, false, ltb, not, ◌&&◌, Some, None, List, [], ◌∷◌, length, unwrap_or, inl, inr, refl, arith, ap, sym, subst, ◌∙◌}
 use Rattle.std.specs.Prelude.{if◌then◌else◌, slice_index}
 use Rattle.std.proofs.lemmas.Bool.Decides.{nat_tests}
 use Rattle.tape_image.specs.Word.{Stands}
@@ -14,9 +14,11 @@ use Rattle.host_core.specs.Core.{Core, word_nr, no_word}
 use Rattle.host_core.proofs.Turns.{kept}
 use Rattle.host_core.proofs.Frame.{moved}
 use Rattle.line_world.specs.declared.event.Event.{Event}
-use Rattle.line_world.specs.declared.event.Event.TheVariants.{Take, Hear, LoseDown, LoseUp, Quiet, Restart}
-use Rattle.line_world.specs.Scene.{Scene}
+use Rattle.line_world.specs.declared.event.Event.TheVariants.{Take, Hear, LoseDown, LoseUp, ChangeDown, ChangeUp, Quiet, Restart}
+use Rattle.line_world.specs.Scene.{Toll}
+use Rattle.line_world.specs.Scene.{Scene, toll_of}
 use Rattle.line_world.specs.World.{takes, host_hears, times_out, happens, after}
+use Rattle.line_world.specs.Wire.{may_change}
 use Rattle.line_world.specs.Site.{site_of, IsThere, ground}
 use Rattle.line_world.specs.Invariant.{IsKept}
 use Rattle.line_world.specs.Safe.{OnlyImage, IsLoaded, IsSafe}
@@ -27,19 +29,20 @@ use Rattle.line_world.proofs.NewLives.{kept_restart}
 use Rattle.line_world.proofs.Taking.{kept_take, key_takes}
 use Rattle.line_world.proofs.Machines.{machine_taken}
 use Rattle.line_world.proofs.Stores.{bytes_after, rest_default}
-use Rattle.line_world.proofs.Hearing.{kept_hear}
+use Rattle.line_world.proofs.Heard.{kept_hear}
+use Rattle.line_world.proofs.Changes.{kept_change_down, kept_change_up}
 
 -- ---- the invariant
 
-takes_kept : (m : Machine) (core : Core) (down up : List ℕ) (lost : ℕ) → IsKept (scene m core down up lost) → IsKept (unwrap_or (takes (scene m core down up lost) down) (scene m core down up lost))
+takes_kept : (m : Machine) (core : Core) (down up : List ℕ) (lost : Toll) → IsKept (scene m core down up lost) → IsKept (unwrap_or (takes (scene m core down up lost) down) (scene m core down up lost))
 takes_kept m core [] up lost k = k
 takes_kept m core (c ∷ down) up lost k = kept_take m core c down up lost (machine_taken m core c down up lost k) k
 
-hears_kept : (m : Machine) (core : Core) (down up : List ℕ) (lost : ℕ) → IsKept (scene m core down up lost) → IsKept (unwrap_or (host_hears (scene m core down up lost) up) (scene m core down up lost))
+hears_kept : (m : Machine) (core : Core) (down up : List ℕ) (lost : Toll) → IsKept (scene m core down up lost) → IsKept (unwrap_or (host_hears (scene m core down up lost) up) (scene m core down up lost))
 hears_kept m core down [] lost k = k
 hears_kept m core down (c ∷ up) lost k = kept_hear m core c down up lost (kept core (Got c) k.host) k
 
-silence_kept : (m : Machine) (core : Core) (down up : List ℕ) (lost : ℕ) → IsKept (scene m core down up lost) → IsKept (unwrap_or (times_out (scene m core down up lost) down up) (scene m core down up lost))
+silence_kept : (m : Machine) (core : Core) (down up : List ℕ) (lost : Toll) → IsKept (scene m core down up lost) → IsKept (unwrap_or (times_out (scene m core down up lost) down up) (scene m core down up lost))
 silence_kept m core [] [] lost k = kept_silence m core lost (kept core Silence k.host) k
 silence_kept m core (c ∷ down) up lost k = k
 silence_kept m core [] (c ∷ up) lost k = k
@@ -53,12 +56,14 @@ lost_if P w next true here there = there refl
 lost_if P w next false here there = here
 
 pub kept_event : (w : Scene) (event : Event) → IsKept w → IsKept (happens w event)
-kept_event w Take k = takes_kept w.machine w.core w.down w.up w.lost k
-kept_event w Hear k = hears_kept w.machine w.core w.down w.up w.lost k
-kept_event w (LoseDown n) k = lost_if IsKept w _ (ltb n (length w.down)) k (λ e. kept_lose_down w.machine w.core w.down w.up w.lost n (under n _ e) k)
-kept_event w (LoseUp n) k = lost_if IsKept w _ (ltb n (length w.up)) k (λ e. kept_lose_up w.machine w.core w.down w.up w.lost n (under n _ e) k)
-kept_event w Quiet k = silence_kept w.machine w.core w.down w.up w.lost k
-kept_event w (Restart kept) k = kept_restart w.machine w.core w.down w.up w.lost kept k
+kept_event w Take k = takes_kept w.machine w.core w.down w.up (toll_of w) k
+kept_event w Hear k = hears_kept w.machine w.core w.down w.up (toll_of w) k
+kept_event w (LoseDown n) k = lost_if IsKept w _ (ltb n (length w.down)) k (λ e. kept_lose_down w.machine w.core w.down w.up (toll_of w) n (under n _ e) k)
+kept_event w (LoseUp n) k = lost_if IsKept w _ (ltb n (length w.up)) k (λ e. kept_lose_up w.machine w.core w.down w.up (toll_of w) n (under n _ e) k)
+kept_event w (ChangeDown n c) k = lost_if IsKept w _ (w.core.careful && (ltb n (length w.down) && may_change w.changed (slice_index w.down n) c)) k (λ e. kept_change_down w.machine w.core w.down w.up (toll_of w) n c e k)
+kept_event w (ChangeUp n c) k = lost_if IsKept w _ (w.core.careful && (ltb n (length w.up) && not w.changed)) k (λ e. kept_change_up w.machine w.core w.down w.up (toll_of w) n c e k)
+kept_event w Quiet k = silence_kept w.machine w.core w.down w.up (toll_of w) k
+kept_event w (Restart kept) k = kept_restart w.machine w.core w.down w.up (toll_of w) kept k
 
 pub kept_events : (w : Scene) (events : List Event) → IsKept w → IsKept (after w events)
 kept_events w [] k = k
@@ -77,28 +82,30 @@ same_bytes image memory = record { size = refl; bytes = λ b below. inl refl }
 stays : (w : Scene) → Steps w w
 stays w = record { plan = refl; bytes = same_bytes w.core.plan.image w.machine.memory }
 
-takes_steps : (m : Machine) (core : Core) (down up : List ℕ) (lost : ℕ) → IsKept (scene m core down up lost) → Steps (scene m core down up lost) (unwrap_or (takes (scene m core down up lost) down) (scene m core down up lost))
+takes_steps : (m : Machine) (core : Core) (down up : List ℕ) (lost : Toll) → IsKept (scene m core down up lost) → Steps (scene m core down up lost) (unwrap_or (takes (scene m core down up lost) down) (scene m core down up lost))
 takes_steps m core [] up lost k = stays (scene m core [] up lost)
 takes_steps m core (c ∷ down) up lost k = record {
   plan = refl;
   bytes = bytes_after (ground (scene m core (c ∷ down) up lost)) (take_of m c).memory k.host.image (key_takes m core c down up lost k).memory;
 }
 
-hears_steps : (m : Machine) (core : Core) (down up : List ℕ) (lost : ℕ) → Steps (scene m core down up lost) (unwrap_or (host_hears (scene m core down up lost) up) (scene m core down up lost))
+hears_steps : (m : Machine) (core : Core) (down up : List ℕ) (lost : Toll) → Steps (scene m core down up lost) (unwrap_or (host_hears (scene m core down up lost) up) (scene m core down up lost))
 hears_steps m core down [] lost = stays (scene m core down [] lost)
 hears_steps m core down (c ∷ up) lost = record { plan = (moved core (Got c)).plan; bytes = same_bytes core.plan.image m.memory }
 
-silence_steps : (m : Machine) (core : Core) (down up : List ℕ) (lost : ℕ) → Steps (scene m core down up lost) (unwrap_or (times_out (scene m core down up lost) down up) (scene m core down up lost))
+silence_steps : (m : Machine) (core : Core) (down up : List ℕ) (lost : Toll) → Steps (scene m core down up lost) (unwrap_or (times_out (scene m core down up lost) down up) (scene m core down up lost))
 silence_steps m core [] [] lost = record { plan = (moved core Silence).plan; bytes = same_bytes core.plan.image m.memory }
 silence_steps m core (c ∷ down) up lost = stays (scene m core (c ∷ down) up lost)
 silence_steps m core [] (c ∷ up) lost = stays (scene m core [] (c ∷ up) lost)
 
 pub steps_event : (w : Scene) (event : Event) → IsKept w → Steps w (happens w event)
-steps_event w Take k = takes_steps w.machine w.core w.down w.up w.lost k
-steps_event w Hear k = hears_steps w.machine w.core w.down w.up w.lost
+steps_event w Take k = takes_steps w.machine w.core w.down w.up (toll_of w) k
+steps_event w Hear k = hears_steps w.machine w.core w.down w.up (toll_of w)
 steps_event w (LoseDown n) k = lost_if (Steps w) w _ (ltb n (length w.down)) (stays w) (λ e. record { plan = refl; bytes = same_bytes w.core.plan.image w.machine.memory })
 steps_event w (LoseUp n) k = lost_if (Steps w) w _ (ltb n (length w.up)) (stays w) (λ e. record { plan = refl; bytes = same_bytes w.core.plan.image w.machine.memory })
-steps_event w Quiet k = silence_steps w.machine w.core w.down w.up w.lost
+steps_event w (ChangeDown n c) k = lost_if (Steps w) w _ (w.core.careful && (ltb n (length w.down) && may_change w.changed (slice_index w.down n) c)) (stays w) (λ e. record { plan = refl; bytes = same_bytes w.core.plan.image w.machine.memory })
+steps_event w (ChangeUp n c) k = lost_if (Steps w) w _ (w.core.careful && (ltb n (length w.up) && not w.changed)) (stays w) (λ e. record { plan = refl; bytes = same_bytes w.core.plan.image w.machine.memory })
+steps_event w Quiet k = silence_steps w.machine w.core w.down w.up (toll_of w)
 steps_event w (Restart kept) k = record { plan = refl; bytes = same_bytes w.core.plan.image w.machine.memory }
 
 -- first one thing, then another

@@ -13,6 +13,7 @@ use Rattle.odt_machine.specs.Key.{key_of}
 use Rattle.odt_machine.specs.Machine.{Machine, IsMachine, IsWide, ModeFits, is_word}
 use Rattle.odt_machine.specs.KeyTable.{Taken, row, take_of, after_key}
 use Rattle.host_core.specs.Core.{Core, word_nr}
+use Rattle.line_world.specs.Scene.{Toll}
 use Rattle.line_world.specs.Site.{wanted, ground, site_in}
 use Rattle.line_world.specs.Invariant.{IsKept}
 use Rattle.line_world.proofs.Frame.{scene}
@@ -66,7 +67,7 @@ wide_set xs i v wide small j = elim (same_or j i) [
     below n i = grind arith
 
 -- the machine after the key under way
-pub machine_taken : (m : Machine) (core : Core) (c : ℕ) (down up : List ℕ) (lost : ℕ) → IsKept (scene m core (c ∷ down) up lost) → IsMachine (after_key m c)
+pub machine_taken : (m : Machine) (core : Core) (c : ℕ) (down up : List ℕ) (lost : Toll) → IsKept (scene m core (c ∷ down) up lost) → IsMachine (after_key m c)
 machine_taken m core c down up lost k =
     let g = ground (scene m core (c ∷ down) up lost) in
     let takes : Takes g (take_of m c) = key_takes m core c down up lost k in
@@ -77,7 +78,7 @@ machine_taken m core c down up lost k =
       mode = mode_elsewhere m.memory (take_of m c).memory (take_of m c).mode size (row_mode m.style m.memory m.mode (key_of c) c k.machine.mode);
     }
   where
-    wide_stores : (m : Machine) (core : Core) (down up : List ℕ) (lost : ℕ) (memory : List ℕ) → IsKept (scene m core down up lost) → Stores (ground (scene m core down up lost)) memory → IsWide memory
+    wide_stores : (m : Machine) (core : Core) (down up : List ℕ) (lost : Toll) (memory : List ℕ) → IsKept (scene m core down up lost) → Stores (ground (scene m core down up lost)) memory → IsWide memory
     wide_stores m core down up lost memory k (inl same) = subst IsWide (sym same) k.machine.wide
     wide_stores m core down up lost memory k (inr (i, below, lies, same)) =
         let w = word_nr core.plan.words i in

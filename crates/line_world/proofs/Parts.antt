@@ -8,7 +8,7 @@ use Rattle.line_world.specs.Pending.{IsRemnant}
 pub differ : (a b : ℕ) → eqb a b ≡ false → a ≢ b
 differ a b e same = grind (arith, nat_tests)
 
-part_peel : (c : ℕ) (u rest : List ℕ) → IsRemnant (c ∷ u) rest → IsRemnant u rest
+pub part_peel : (c : ℕ) (u rest : List ℕ) → IsRemnant (c ∷ u) rest → IsRemnant u rest
 part_peel c [] rest h = tt
 part_peel c (x ∷ u) [] h = absurd h
 part_peel c (x ∷ u) (y ∷ rest) (inl h) = inr h.1

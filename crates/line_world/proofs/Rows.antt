@@ -10,9 +10,10 @@ use Rattle.odt_machine.specs.Key.{key_of}
 use Rattle.odt_machine.specs.Machine.{is_word, stored}
 use Rattle.odt_machine.specs.Answer.{prompt_text, word_text, refused_text}
 use Rattle.odt_machine.specs.KeyTable.{Taken, row}
-use Rattle.host_core.specs.declared.phase.Reason.TheVariants.{Store, Close}
+use Rattle.host_core.specs.declared.phase.Reason.TheVariants.{Store, Reopen, Missing, Close}
 use Rattle.host_core.specs.declared.phase.Phase.{Phase}
 use Rattle.host_core.specs.declared.phase.Phase.TheVariants.{Settle, Sync, Address, Slash, Before, Value, Deposit, Return, Start, Go, Ended}
+use Rattle.host_core.specs.Console.{resynchronise_of}
 use Rattle.host_core.specs.Core.{Core}
 use Rattle.host_core.specs.Host.{PhaseFits, IsPlace, basis_of}
 use Rattle.line_world.specs.Site.{Site, held_number, wanted, number_mode, typing_mode, opened_mode, reading, refusal_from, prompt_from}
@@ -70,13 +71,19 @@ slash_row s memory v false text = refl
 row_slash : (t : Site) → row t.style t.memory (number_mode t.word.address 6) (key_of 47) 47 ≡ record { mode = opened_mode t; memory = t.memory; answer = 47 ∷ reading t }
 row_slash t = slash_row t.style t.memory t.word.address (is_word t.memory t.word.address) (word_text t.style (held_number t))
 
--- `Z` in any mode but Running
-pub row_resync : (s : Style) (memory : List ℕ) (mode : Mode) → IsStopped mode → row s memory mode (key_of 90) 90 ≡ record { mode = Prompt; memory = memory; answer = refusal_from s 0 }
-row_resync s memory Prompt h = refl
-row_resync s memory (Number v n) h = refl
-row_resync s memory (Opened a) h = refl
-row_resync s memory (Typing a v n) h = refl
-row_resync s memory (Running p) h = absurd h
+-- the key that resynchronises in any mode but Running
+pub row_resync : (careful : Bool) (s : Style) (memory : List ℕ) (mode : Mode) → IsStopped mode →
+    row s memory mode (key_of (resynchronise_of careful)) (resynchronise_of careful) ≡ record { mode = Prompt; memory = memory; answer = refusal_from careful s 0 }
+row_resync true s memory Prompt h = refl
+row_resync true s memory (Number v n) h = refl
+row_resync true s memory (Opened a) h = refl
+row_resync true s memory (Typing a v n) h = refl
+row_resync true s memory (Running p) h = absurd h
+row_resync false s memory Prompt h = refl
+row_resync false s memory (Number v n) h = refl
+row_resync false s memory (Opened a) h = refl
+row_resync false s memory (Typing a v n) h = refl
+row_resync false s memory (Running p) h = absurd h
 
 -- CR on an open word
 row_close : (s : Style) (memory : List ℕ) (mode : Mode) → IsOpened mode → row s memory mode (key_of 13) 13 ≡ record { mode = Prompt; memory = memory; answer = prompt_from s.two_returns 0 }
@@ -92,7 +99,7 @@ row_go s memory v n even = rw even refl
 
 -- memory after the key
 abbrev memory_after : Phase → Site → List ℕ
-memory_after (Return Store k) t = stored t.memory t.word.address (wanted t)
+memory_after (Return (Store deposit x) k) t = stored t.memory t.word.address (wanted t)
 memory_after phase t = t.memory
 
 -- what the key that a phase waits for makes of the machine
@@ -101,13 +108,15 @@ taken_in phase t = record { mode = after_of phase t; memory = memory_after phase
 
 pub row_live : (phase : Phase) (core : Core) (t : Site) (mode : Mode) (c : ℕ) → IsSite t → PhaseFits phase (basis_of core) → Fits phase t mode c → row t.style t.memory mode (key_of c) c ≡ taken_in phase t
 row_live Settle core t mode c site fits key = absurd key
-row_live (Sync k) core t mode c site fits key = rw (key.0, key.1) (row_resync t.style t.memory mode key.2)
+row_live (Sync k) core t mode c site fits key = rw (key.0, key.1) (row_resync t.careful t.style t.memory mode key.2)
 row_live (Address visit k) core t mode c site fits key = rw (key.0, key.1) (row_number t.style t.memory t.word.address site.low k fits.1)
 row_live (Slash visit) core t mode c site fits key = rw (key.0, key.1) (row_slash t)
 row_live (Before visit) core t mode c site fits key = absurd key
 row_live (Value visit v j) core t mode c site fits key = absurd key
-row_live (Deposit x k) core t mode c site fits key = rw (key.0, key.1) (row_typing t.style t.memory t.word.address x fits.2 k fits.1)
-row_live (Return Store k) core t mode c site fits key = rw (key.0, key.1, key.2) refl
+row_live (Deposit deposit x k) core t mode c site fits key = rw (key.0, key.1) (row_typing t.style t.memory t.word.address x fits.2 k fits.1)
+row_live (Return (Store deposit x) k) core t mode c site fits key = rw (key.0, key.1, key.2) refl
+row_live (Return (Reopen r) k) core t mode c site fits key = rw (key.0, key.1) (row_close t.style t.memory mode key.2)
+row_live (Return (Missing a) k) core t mode c site fits key = absurd key
 row_live (Return Close k) core t mode c site fits key = rw (key.0, key.1) (row_close t.style t.memory mode key.2)
 row_live (Start k) core t mode c site fits key = rw (key.0, key.1) (row_number t.style t.memory t.start site.start_low k fits.1)
 row_live Go core t mode c site fits key = rw (key.0, key.1) (row_go t.style t.memory t.start 6 site.start_even)

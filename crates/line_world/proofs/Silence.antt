@@ -13,7 +13,9 @@ use Rattle.host_core.specs.Host.{IsHost, MarkFits, IsPastMark}
 use Rattle.host_core.specs.PhaseTable.{move, waits}
 use Rattle.line_world.proofs.Stepped.{stepped}
 use Rattle.line_world.specs.Site.{Site, site, held_number, reading, refusal_from, prompt_from, last_digits}
-use Rattle.line_world.specs.Pending.{IsStopped, BrokenIsPaid}
+use Rattle.line_world.specs.Scene.{Toll}
+use Rattle.line_world.specs.Pending.{IsStopped, BrokenIsPaid, rest_of}
+use Rattle.line_world.specs.Struck.{Attempt}
 use Rattle.line_world.specs.Invariant.{IsKept, RunsWith}
 use Rattle.line_world.proofs.Frame.{scene, TurnFits, PhaseHolds, kept_turn}
 
@@ -29,8 +31,8 @@ filled_if false xs ys f g = g
 filled_prompt : (two : Bool) (k : ℕ) → IsFilled (prompt_from two k)
 filled_prompt two k = filled_if (eqb k 0) _ _ (filled_if two _ _ tt tt) (filled_if (eqb k 1) _ _ (filled_if two _ _ tt tt) (filled_if (eqb k 2) _ _ tt tt))
 
-filled_refusal : (s : Style) (k : ℕ) → IsFilled (refusal_from s k)
-filled_refusal s k = filled_if (eqb k 0) _ _ (filled_if s.echo_illegal _ _ tt tt) (filled_if (eqb k 1) _ _ tt (filled_prompt s.two_returns (k - 2)))
+filled_refusal : (careful : Bool) (s : Style) (k : ℕ) → IsFilled (refusal_from careful s k)
+filled_refusal careful s k = filled_if (eqb k 0) _ _ (filled_if s.echo_illegal _ _ tt tt) (filled_if (eqb k 1) _ _ tt (filled_prompt s.two_returns (k - 2)))
 
 filled_digits : (w n : ℕ) → IsFilled (last_digits w n)
 filled_digits w zero = tt
@@ -55,18 +57,23 @@ stopped going (Running p) runs unmarked = unmarked runs
 pub past_mark : (core : Core) → MarkFits core.going core.plan.start core.phase → core.going ≡ true → IsPastMark core.phase
 past_mark core mark going = (subst (λ b. MarkFits b core.plan.start core.phase) going mark).1
 
-pub fits_silence : (m : Machine) (core : Core) (lost : ℕ) (phase : Phase) → PhaseHolds phase m core [] [] lost → RunsWith core.going m.mode → (core.going ≡ true → IsPastMark phase) → TurnFits m core [] lost (waits phase)
+-- where nothing is under way in an attempt, a loss or a change was there that no mishap has paid for
+due : (hurt : Bool) (phase : Phase) (t : Site) (mode : Mode) (spent lost : ℕ) → IsFilled (rest_of phase t) → Attempt hurt phase t mode [] [] spent lost → spent < lost
+due false phase t mode spent lost filled h = broken (rest_of phase t) spent lost filled h.paid
+due true phase t mode spent lost filled h = h.0
+
+pub fits_silence : (m : Machine) (core : Core) (lost : Toll) (phase : Phase) → PhaseHolds phase m core [] [] lost → RunsWith core.going m.mode → (core.going ≡ true → IsPastMark phase) → TurnFits m core [] lost (waits core.careful phase)
 fits_silence m core lost Settle h runs past = (refl, record { key = (refl, refl, stopped core.going m.mode runs past); rest = tt; paid = tt; facts = tt })
-fits_silence m core lost (Sync k) h runs past = (refl, broken _ core.spent lost (filled_refusal m.style k) h.paid, stopped core.going m.mode runs past)
-fits_silence m core lost (Address visit k) h runs past = (refl, broken _ core.spent lost tt h.paid, stopped core.going m.mode runs past)
-fits_silence m core lost (Slash visit) h runs past = (refl, broken _ core.spent lost tt h.paid, stopped core.going m.mode runs past)
-fits_silence m core lost (Before visit) h runs past = (refl, broken _ core.spent lost (filled_reading (site (scene m core [] [] lost))) h.paid, stopped core.going m.mode runs past)
-fits_silence m core lost (Value visit v j) h runs past = (refl, broken _ core.spent lost (filled_digits _ (6 - j)) h.paid, stopped core.going m.mode runs past)
-fits_silence m core lost (Deposit x k) h runs past = (refl, broken _ core.spent lost tt h.paid, stopped core.going m.mode runs past)
-fits_silence m core lost (Return why k) h runs past = (refl, broken _ core.spent lost (filled_prompt m.style.two_returns k) h.paid, stopped core.going m.mode runs past)
-fits_silence m core lost (Start k) h runs past = (refl, broken _ core.spent lost tt h.paid, stopped core.going m.mode runs past)
-fits_silence m core lost Go h runs past = broken _ core.spent lost tt h.paid
+fits_silence m core lost (Sync k) h runs past = (refl, due lost.hurt (Sync k) _ m.mode core.spent lost.count (filled_refusal core.careful m.style k) h, stopped core.going m.mode runs past)
+fits_silence m core lost (Address visit k) h runs past = (refl, due lost.hurt (Address visit k) _ m.mode core.spent lost.count (tt) h, stopped core.going m.mode runs past)
+fits_silence m core lost (Slash visit) h runs past = (refl, due lost.hurt (Slash visit) _ m.mode core.spent lost.count (tt) h, stopped core.going m.mode runs past)
+fits_silence m core lost (Before visit) h runs past = (refl, due lost.hurt (Before visit) _ m.mode core.spent lost.count (filled_reading (site (scene m core [] [] lost))) h, stopped core.going m.mode runs past)
+fits_silence m core lost (Value visit v j) h runs past = (refl, due lost.hurt (Value visit v j) _ m.mode core.spent lost.count (filled_digits _ (6 - j)) h, stopped core.going m.mode runs past)
+fits_silence m core lost (Deposit deposit x k) h runs past = (refl, due lost.hurt (Deposit deposit x k) _ m.mode core.spent lost.count (tt) h, stopped core.going m.mode runs past)
+fits_silence m core lost (Return why k) h runs past = (refl, due lost.hurt (Return why k) _ m.mode core.spent lost.count (filled_prompt m.style.two_returns k) h, stopped core.going m.mode runs past)
+fits_silence m core lost (Start k) h runs past = (refl, due lost.hurt (Start k) _ m.mode core.spent lost.count (tt) h, stopped core.going m.mode runs past)
+fits_silence m core lost Go h runs past = due lost.hurt Go _ m.mode core.spent lost.count tt h
 fits_silence m core lost (Ended end) h runs past = h
 
-pub kept_silence : (m : Machine) (core : Core) (lost : ℕ) → IsHost (move core Quiet).next → IsKept (scene m core [] [] lost) → IsKept (stepped (scene m core [] [] lost) [] (move core Quiet))
-kept_silence m core lost host k = kept_turn m core [] [] lost (waits core.phase) k (omega arith) host (fits_silence m core lost core.phase k.phase k.running (past_mark core k.host.mark))
+pub kept_silence : (m : Machine) (core : Core) (lost : Toll) → IsHost (move core Quiet).next → IsKept (scene m core [] [] lost) → IsKept (stepped (scene m core [] [] lost) [] (move core Quiet))
+kept_silence m core lost host k = kept_turn m core [] [] lost (waits core.careful core.phase) k (omega arith) host (fits_silence m core lost core.phase k.phase k.running (past_mark core k.host.mark))

@@ -6,6 +6,7 @@ use Rattle.tape_image.specs.Word.{WordValue, IsWord}
 use Rattle.tape_image.specs.Plan.{PlanValue, IsPlan}
 use Rattle.odt_machine.specs.Machine.{Machine}
 use Rattle.host_core.specs.Core.{Core, word_nr, no_word}
+use Rattle.line_world.specs.Scene.{Toll}
 use Rattle.line_world.specs.Site.{site_of}
 use Rattle.line_world.proofs.Frame.{scene}
 use Rattle.line_world.proofs.Rows.{IsSite}
@@ -38,7 +39,7 @@ start_even p is = (start_fits p.start is.start_even).0
 start_low : (p : PlanValue) → IsPlan p → unwrap_or p.start 0 < 65536
 start_low p is = (start_fits p.start is.start_even).1
 
-pub plan_site : (m : Machine) (core : Core) (down up : List ℕ) (lost i : ℕ) → IsPlan core.plan → IsSite (site_of (scene m core down up lost) i)
+pub plan_site : (m : Machine) (core : Core) (down up : List ℕ) (lost : Toll) (i : ℕ) → IsPlan core.plan → IsSite (site_of (scene m core down up lost) i)
 plan_site m core down up lost i is =
     let n = word_numbers core.plan i is in
     record { low = n.low; even = n.even; value = n.value; start_low = start_low core.plan is; start_even = start_even core.plan is }

@@ -1,6 +1,6 @@
 -- `G` is typed at most once, and exactly where the mark is set.
-use Rattle.std.proofs.Common.{◌≡◌, ℕ, zero, suc, ◌+◌, ◌⊎◌, Bool, true, false, ltb, Some, None, Option, List, [], ◌∷◌, ◌++◌, length, unwrap_or, inl, inr, refl, arith, ap, sym, ◌∙◌}
-use Rattle.std.specs.Prelude.{option_to_list, Contains}
+use Rattle.std.proofs.Common.{◌≡◌, ℕ, zero, suc, ◌+◌, ◌⊎◌, Bool, true, false, ltb, not, ◌&&◌, Some, None, Option, List, [], ◌∷◌, ◌++◌, length, unwrap_or, inl, inr, refl, arith, ap, sym, subst, ◌∙◌}
+use Rattle.std.specs.Prelude.{option_to_list, Contains, slice_index}
 use Rattle.std.proofs.lemmas.Bool.Decides.{nat_tests}
 use Rattle.octal.specs.Octal.{digit_of, is_digit}
 use Rattle.odt_machine.specs.Machine.{Machine}
@@ -10,18 +10,21 @@ use Rattle.host_core.specs.declared.phase.Visit.TheVariants.{Look}
 use Rattle.host_core.specs.declared.phase.End.TheVariants.{GaveUp}
 use Rattle.host_core.specs.declared.phase.Phase.TheVariants.{Settle, Sync, Address, Ended}
 use Rattle.host_core.specs.declared.turn.Turn.{Turn}
-use Rattle.host_core.specs.declared.turn.Turn.TheVariants.{Listen, Key, Verified, ReadBack, Next, Mark, Stop, Stray, Timeout}
+use Rattle.host_core.specs.declared.turn.Turn.TheVariants.{Listen, Key, Verified, Revisit, Next, Mark, Stop, Stray, Timeout}
+use Rattle.host_core.specs.Console.{resynchronise_of}
 use Rattle.host_core.specs.Core.{Core, word_under_way, restarted}
 use Rattle.host_core.specs.PhaseTable.{Move, move, taken, turn_of, sends, listens, after_words}
 use Rattle.host_core.proofs.Turns.{kept}
 use Rattle.host_core.proofs.Frame.{moved, silent, on_move}
 use Rattle.line_world.specs.declared.event.Event.{Event}
-use Rattle.line_world.specs.declared.event.Event.TheVariants.{Take, Hear, LoseDown, LoseUp, Quiet, Restart}
-use Rattle.line_world.specs.Scene.{Scene}
+use Rattle.line_world.specs.declared.event.Event.TheVariants.{Take, Hear, LoseDown, LoseUp, ChangeDown, ChangeUp, Quiet, Restart}
+use Rattle.line_world.specs.Scene.{Toll}
+use Rattle.line_world.specs.Scene.{Scene, toll_of}
 use Rattle.line_world.specs.World.{takes, host_hears, times_out, happens, after, typed_hearing, typed_timeout, typed_in, typed}
-use Rattle.line_world.proofs.Stepped.{stepped}
+use Rattle.line_world.specs.Wire.{is_harmless, may_change}
+use Rattle.line_world.proofs.Stepped.{onward, stepped}
 use Rattle.line_world.specs.Site.{Ground, ground}
-use Rattle.line_world.specs.Lawful.{LawfulBefore, LawfulKey}
+use Rattle.line_world.specs.Lawful.{LawfulBefore, LawfulKey, LawfulOr}
 use Rattle.line_world.specs.Invariant.{IsKept}
 use Rattle.line_world.specs.Promises.{EndsAtGo, StartsOnce}
 use Rattle.line_world.proofs.Frame.{scene}
@@ -29,7 +32,7 @@ use Rattle.line_world.proofs.Parts.{differ}
 use Rattle.line_world.proofs.Keys.{lawful}
 use Rattle.line_world.proofs.Events.{kept_event, lost_if}
 use Rattle.line_world.proofs.Silence.{kept_silence}
-use Rattle.line_world.proofs.Hearing.{kept_hear}
+use Rattle.line_world.proofs.Heard.{kept_hear}
 
 -- ---- lists with `G`
 
@@ -105,7 +108,7 @@ mark_sends : (core : Core) (turn : Turn) → core.going ≡ false → (taken cor
 mark_sends core (Listen phase) e f = absurd (not_both core.going e f)
 mark_sends core (Key key phase) e f = absurd (not_both core.going e f)
 mark_sends core Verified e f = absurd (not_both core.going e f)
-mark_sends core ReadBack e f = absurd (not_both core.going e f)
+mark_sends core (Revisit visit) e f = absurd (not_both core.going e f)
 mark_sends core Next e f = absurd (not_both core.going e (next_same core f))
   where
     words_same : (core : Core) (start : Option ℕ) → (after_words core start).next.going ≡ core.going
@@ -117,9 +120,13 @@ mark_sends core Next e f = absurd (not_both core.going e (next_same core f))
 mark_sends core Mark e f = refl
 mark_sends core (Stop end) e f = absurd (not_both core.going e f)
 mark_sends core Stray e f = absurd (not_both core.going e (sym (on_move (λ m. m.next.going ≡ core.going) (ltb core.spent core.patience) (listens (record core { spent = core.spent + 1 }) Settle) (listens core (Ended GaveUp)) (λ _. refl) (λ _. refl)) ∙ f))
-mark_sends core Timeout e f = absurd (not_both core.going e (sym (on_move (λ m. m.next.going ≡ core.going) (ltb core.spent core.patience) (sends (record core { spent = core.spent + 1 }) 90 (Sync 0)) (listens core (Ended GaveUp)) (λ _. refl) (λ _. refl)) ∙ f))
+mark_sends core Timeout e f = absurd (not_both core.going e (sym (on_move (λ m. m.next.going ≡ core.going) (ltb core.spent core.patience) (sends (record core { spent = core.spent + 1 }) (resynchronise_of core.careful) (Sync 0)) (listens core (Ended GaveUp)) (λ _. refl) (λ _. refl)) ∙ f))
 
 -- a lawful `G` has the mark
+no_key : (careful : Bool) → resynchronise_of careful ≡ 71 → ⊥
+no_key true e = omega arith
+no_key false e = omega arith
+
 before_no_go : (g : Ground) (c : ℕ) → c ≡ 71 → LawfulBefore g c → ⊥
 before_no_go g c is (inl (digit, takes)) = no_digit c is digit
   where
@@ -127,18 +134,26 @@ before_no_go g c is (inl (digit, takes)) = no_digit c is digit
     no_digit c is digit = grind (arith, nat_tests)
 before_no_go g c is (inr (inl (same, takes))) = differ 47 71 refl (sym same ∙ is)
 before_no_go g c is (inr (inr (inl (same, takes)))) = differ 13 71 refl (sym same ∙ is)
-before_no_go g c is (inr (inr (inr (same, takes)))) = differ 90 71 refl (sym same ∙ is)
+before_no_go g c is (inr (inr (inr (same, takes)))) = no_key g.careful (sym same ∙ is)
 
-go_marked : (going : Bool) (g : Ground) (c : ℕ) → c ≡ 71 → LawfulKey going g c → going ≡ true
-go_marked true g c is key = refl
-go_marked false g c is key = absurd (before_no_go g c is key)
+key_marked : (going : Bool) (g : Ground) (c : ℕ) → c ≡ 71 → LawfulKey going g c → going ≡ true
+key_marked true g c is key = refl
+key_marked false g c is key = absurd (before_no_go g c is key)
+
+go_marked : (careful : Bool) (g : Ground) (c : ℕ) → c ≡ 71 → LawfulOr careful g c → g.going ≡ true
+go_marked false g c is key = key_marked g.going g c is key
+go_marked true g c is (inl key) = key_marked g.going g c is key
+go_marked true g c is (inr h) = absurd (no_harm c is h)
+  where
+    no_harm : (c : ℕ) → c ≡ 71 → is_harmless c ≡ true → ⊥
+    no_harm c is h = let e : is_harmless 71 ≡ true = subst (λ x. is_harmless x ≡ true) is h in cc
 
 sent_marked : (m : Machine) (w : Scene) (up : List ℕ) (x : Move) → w.down ≡ [] → IsKept (stepped w up x) → x.key ≡ Some 71 → x.next.going ≡ true
-sent_marked m w up x none k sent = by_down w.machine x.next (w.down ++ option_to_list x.key) up w.lost k (rw (none, sent) refl)
+sent_marked m w up x none k sent = by_down w.machine x.next (w.down ++ option_to_list x.key) up (onward x.key x.next.phase (toll_of w)) k (rw (none, sent) refl)
   where
-    by_down : (m : Machine) (core : Core) (down up : List ℕ) (lost : ℕ) → IsKept (scene m core down up lost) → down ≡ 71 ∷ [] → core.going ≡ true
+    by_down : (m : Machine) (core : Core) (down up : List ℕ) (lost : Toll) → IsKept (scene m core down up lost) → down ≡ 71 ∷ [] → core.going ≡ true
     by_down m core [] up lost k e = absurd (cc)
-    by_down m core (c ∷ down) up lost k e = go_marked core.going (ground (scene m core (c ∷ down) up lost)) c (cc) (lawful m core c down up lost k)
+    by_down m core (c ∷ down) up lost k e = go_marked core.careful (ground (scene m core (c ∷ down) up lost)) c (cc) (lawful m core c down up lost k)
 
 key_list : (before after : Core) (key : Option ℕ) → (before.going ≡ true → key ≡ None) → (key ≡ Some 71 → after.going ≡ true) → (before.going ≡ false → after.going ≡ true → key ≡ Some 71) → (before.going ≡ true → after.going ≡ true) → StartsOnce before after (option_to_list key)
 key_list before after None silent sent marks stays = record {
@@ -165,7 +180,7 @@ key_list before after (Some c) silent sent marks stays = record {
     here : (c : ℕ) → Some c ≡ Some 71 → Contains (c ∷ []) 71
     here c e = (zero, omega arith, (cc))
 
-starts_move : (m : Machine) (core : Core) (heard : Heard) (old up : List ℕ) (lost : ℕ) → IsKept (scene m core [] old lost) → IsKept (stepped (scene m core [] old lost) up (move core heard)) → StartsOnce core (move core heard).next (option_to_list (move core heard).key)
+starts_move : (m : Machine) (core : Core) (heard : Heard) (old up : List ℕ) (lost : Toll) → IsKept (scene m core [] old lost) → IsKept (stepped (scene m core [] old lost) up (move core heard)) → StartsOnce core (move core heard).next (option_to_list (move core heard).key)
 starts_move m core heard old up lost k next =
     key_list core (move core heard).next (move core heard).key
     (λ e. (silent core heard k.host e).key)
@@ -173,12 +188,12 @@ starts_move m core heard old up lost k next =
     (mark_sends core (turn_of core heard))
     (moved core heard).going
 
-hearing_starts : (m : Machine) (core : Core) (down up : List ℕ) (lost : ℕ) → IsKept (scene m core down up lost) → StartsOnce core (unwrap_or (host_hears (scene m core down up lost) up) (scene m core down up lost)).core (typed_hearing (scene m core down up lost) up)
+hearing_starts : (m : Machine) (core : Core) (down up : List ℕ) (lost : Toll) → IsKept (scene m core down up lost) → StartsOnce core (unwrap_or (host_hears (scene m core down up lost) up) (scene m core down up lost)).core (typed_hearing (scene m core down up lost) up)
 hearing_starts m core down [] lost k = nothing_typed core
 hearing_starts m core (d ∷ down) (c ∷ up) lost k = let none = k.one_way.1 in absurd (cc)
 hearing_starts m core [] (c ∷ up) lost k = starts_move m core (Got c) (c ∷ up) up lost k (kept_hear m core c [] up lost (kept core (Got c) k.host) k)
 
-timeout_starts : (m : Machine) (core : Core) (down up : List ℕ) (lost : ℕ) → IsKept (scene m core down up lost) → StartsOnce core (unwrap_or (times_out (scene m core down up lost) down up) (scene m core down up lost)).core (typed_timeout (scene m core down up lost) down up)
+timeout_starts : (m : Machine) (core : Core) (down up : List ℕ) (lost : Toll) → IsKept (scene m core down up lost) → StartsOnce core (unwrap_or (times_out (scene m core down up lost) down up) (scene m core down up lost)).core (typed_timeout (scene m core down up lost) down up)
 timeout_starts m core [] [] lost k = starts_move m core Silence [] [] lost k (kept_silence m core lost (kept core Silence k.host) k)
 timeout_starts m core (c ∷ down) up lost k = nothing_typed core
 timeout_starts m core [] (c ∷ up) lost k = nothing_typed core
@@ -189,10 +204,12 @@ taking_starts w (c ∷ down) = nothing_typed w.core
 
 pub starts_event : (w : Scene) (event : Event) → IsKept w → StartsOnce w.core (happens w event).core (typed_in w event)
 starts_event w Take k = taking_starts w w.down
-starts_event w Hear k = hearing_starts w.machine w.core w.down w.up w.lost k
+starts_event w Hear k = hearing_starts w.machine w.core w.down w.up (toll_of w) k
 starts_event w (LoseDown n) k = lost_if (λ x. StartsOnce w.core x.core []) w _ (ltb n (length w.down)) (nothing_typed w.core) (λ e. nothing_typed w.core)
 starts_event w (LoseUp n) k = lost_if (λ x. StartsOnce w.core x.core []) w _ (ltb n (length w.up)) (nothing_typed w.core) (λ e. nothing_typed w.core)
-starts_event w Quiet k = timeout_starts w.machine w.core w.down w.up w.lost k
+starts_event w (ChangeDown n c) k = lost_if (λ x. StartsOnce w.core x.core []) w _ (w.core.careful && (ltb n (length w.down) && may_change w.changed (slice_index w.down n) c)) (nothing_typed w.core) (λ e. nothing_typed w.core)
+starts_event w (ChangeUp n c) k = lost_if (λ x. StartsOnce w.core x.core []) w _ (w.core.careful && (ltb n (length w.up) && not w.changed)) (nothing_typed w.core) (λ e. nothing_typed w.core)
+starts_event w Quiet k = timeout_starts w.machine w.core w.down w.up (toll_of w) k
 starts_event w (Restart kept) k = mark_kept w.core (restarted w.core kept) refl
 
 pub starts_events : (w : Scene) (events : List Event) → IsKept w → StartsOnce w.core (after w events).core (typed w events)

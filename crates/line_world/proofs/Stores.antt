@@ -23,6 +23,10 @@ with_memory t memory = record t { memory = memory }
 pub lies_same : (memory other : List ℕ) (a : ℕ) → length other ≡ length memory → is_word memory a ≡ true → is_word other a ≡ true
 lies_same memory other a same h = rw same h
 
+-- a word that is stored is held
+pub stored_held : (t : Site) → Lies t → held_number (with_memory t (stored t.memory t.word.address (wanted t))) ≡ wanted t
+stored_held t lies = get_or-set_same t.memory (t.word.address / 2) (wanted t) 0 (lies_below t.memory t.word.address lies)
+
 -- a word that is stored stands
 pub stored_stands : (t : Site) → Lies t → IsThere (with_memory t (stored t.memory t.word.address (wanted t)))
 stored_stands t lies =

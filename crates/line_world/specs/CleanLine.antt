@@ -1,5 +1,5 @@
 -- A line that loses nothing loads everything.
-use Rattle.std.specs.Prelude.{ℕ, ◌≡◌, ◌<◌, List, [], length, Option, Some, None}
+use Rattle.std.specs.Prelude.{ℕ, ◌≡◌, ◌<◌, false, List, [], length, Option, Some, None}
 use Rattle.tape_image.specs.Overlay.{IsOverlay}
 use Rattle.host_core.specs.declared.phase.End.{End}
 use Rattle.host_core.specs.declared.phase.End.TheVariants.{Loaded, Started, NoWord}
@@ -8,11 +8,12 @@ use Rattle.line_world.specs.Scene.{Scene}
 use Rattle.line_world.specs.Safe.{WordLies}
 use Rattle.line_world.specs.CleanText.{clean_text}
 
--- the world as it was opened: the host has done nothing yet, no key is under way, nothing is lost
+-- the world as it was opened: the host has done nothing yet, no key is under way, nothing is lost or changed
 pub record IsAtOpening (w : Scene) : Type 0 where
   pub fresh : IsFresh w.core
   pub none_down : w.down ≡ []
   pub none_lost : w.lost ≡ 0
+  pub none_changed : w.changed ≡ false
 
 -- the plan's word numbered i lies in the world's memory
 abbrev pub LiesIn : Scene → ℕ → Type 0
@@ -27,7 +28,7 @@ full_end (Some start) = Started
 pub record LoadsAll (before now : Scene) (keys : List ℕ) (end : End) : Type 0 where
   pub end_is : end ≡ full_end before.core.plan.start
   pub overlay : IsOverlay before.machine.memory before.core.plan.image now.machine.memory
-  pub keys_are : keys ≡ clean_text before.core.plan.words before.machine.memory before.core.plan.start
+  pub keys_are : keys ≡ clean_text before.core.careful before.core.plan.words before.machine.memory before.core.plan.start
   pub spent : now.core.spent ≡ 0
 
 -- the load stopped at the word numbered i, with all words before it verified

@@ -1,27 +1,33 @@
 -- The events of a world, the world after them, and the keys that the host types on the way: for a host of any kind.
-use Rattle.std.specs.Prelude.{ℕ, nat_lt, if◌then◌else◌, List, [], ◌∷◌, ◌++◌, length, Option, Some, None, unwrap_or, option_to_list}
+use Rattle.std.specs.Prelude.{ℕ, ◌&&◌, not, Bool, true, false, nat_lt, if◌then◌else◌, List, [], ◌∷◌, ◌++◌, length, slice_index}
+use Rattle.std.specs.Prelude.{Option, Some, None, unwrap_or, option_to_list}
 use Rattle.odt_machine.specs.KeyTable.{take_of}
 use Rattle.host_core.specs.declared.heard.Heard.{Heard}
 use Rattle.host_core.specs.declared.heard.Heard.TheVariants.{Got, Quiet as Silence}
 use Rattle.line_world.specs.declared.event.Event.{Event}
-use Rattle.line_world.specs.declared.event.Event.TheVariants.{Take, Hear, LoseDown, LoseUp, Quiet, Restart}
-use Rattle.line_world.specs.Scene.{World, wire_of, over}
-use Rattle.line_world.specs.Wire.{with_answer, without_down, without_up, heard, sent, forgiven}
+use Rattle.line_world.specs.declared.event.Event.TheVariants.{Take, Hear, LoseDown, LoseUp, ChangeDown, ChangeUp, Quiet, Restart}
+use Rattle.line_world.specs.Scene.{World, wire_of, over, over_when}
+use Rattle.line_world.specs.Wire.{with_answer, without_down, without_up, changed_down, changed_up, may_change, heard, sent, forgiven}
 
--- a kind of host: what one becomes on a thing heard, the character that it sends then, and how a new life of it begins
+-- a kind of host: what one becomes on a thing heard, the character that it sends then, and whether a new attempt at a word begins with it; how a new
+-- life of it begins; and whether it is careful: only then may the line change characters
 pub record Kind (H : Type 0) : Type 0 where
   pub next : H → Heard → H
   pub key : H → Heard → Option ℕ
+  pub begins : H → Heard → Bool
   pub restarted : H → ℕ → H
+  pub careful : H → Bool
 
 -- the world after the host heard something, of which `rest` is left under way: what it sends stands at the end of `down`
 abbrev pub hearing : {H : Type 0} → Kind H → World H → List ℕ → Heard → World H
-hearing kind w rest what = over (kind.next w.core what) (sent (heard (wire_of w) rest) (option_to_list (kind.key w.core what)))
+hearing kind w rest what =
+    over_when (if kind.begins w.core what then false else w.changed) (kind.next w.core what)
+    (sent (heard (wire_of w) rest) (option_to_list (kind.key w.core what)))
 
 -- Take, where a key is under way
 abbrev pub takes : {H : Type 0} → World H → List ℕ → Option (World H)
 takes w [] = None
-takes w (c ∷ rest) = Some (over w.core (with_answer (wire_of w) rest (take_of w.machine c)))
+takes w (c ∷ rest) = Some (over_when w.changed w.core (with_answer (wire_of w) rest (take_of w.machine c)))
 
 -- Hear, where an answer character is under way
 abbrev pub host_hears : {H : Type 0} → Kind H → World H → List ℕ → Option (World H)
@@ -37,8 +43,13 @@ times_out kind w down up = None
 abbrev pub occurs : {H : Type 0} → Kind H → World H → Event → Option (World H)
 occurs kind w Take = takes w w.down
 occurs kind w Hear = host_hears kind w w.up
-occurs kind w (LoseDown k) = if nat_lt k (length w.down) then Some (over w.core (without_down (wire_of w) k)) else None
-occurs kind w (LoseUp k) = if nat_lt k (length w.up) then Some (over w.core (without_up (wire_of w) k)) else None
+occurs kind w (LoseDown k) = if nat_lt k (length w.down) then Some (over_when w.changed w.core (without_down (wire_of w) k)) else None
+occurs kind w (LoseUp k) = if nat_lt k (length w.up) then Some (over_when w.changed w.core (without_up (wire_of w) k)) else None
+occurs kind w (ChangeDown k c) =
+    if kind.careful w.core && (nat_lt k (length w.down) && may_change w.changed (slice_index w.down k) c)
+    then Some (over_when true w.core (changed_down (wire_of w) k c)) else None
+occurs kind w (ChangeUp k c) =
+    if kind.careful w.core && (nat_lt k (length w.up) && not w.changed) then Some (over_when true w.core (changed_up (wire_of w) k c)) else None
 occurs kind w Quiet = times_out kind w w.down w.up
 occurs kind w (Restart kept) = Some (over (kind.restarted w.core kept) (forgiven (wire_of w)))
 

@@ -4,6 +4,7 @@ pub mod Happening
 pub mod World
 pub mod Site
 pub mod Pending
+pub mod Struck
 pub mod Lawful
 pub mod Invariant
 pub mod Safe
@@ -13,3 +14,4 @@ pub mod Setup
 pub mod Opening
 pub mod CleanLine
 pub mod Runs
+pub mod OneBit

@@ -8,9 +8,9 @@ use Rattle.line_world.specs.declared.setup.Setup.TheVariants.{TooMuchWaiting, Ru
 use Rattle.line_world.specs.Wire.{most_waiting}
 use Rattle.line_world.specs.Scene.{Scene}
 
--- the world at its opening: these answers wait, no key is under way, nothing is lost
+-- the world at its opening: these answers wait, no key is under way, nothing is lost or changed
 abbrev pub opened : Machine → Core → List ℕ → Scene
-opened machine core waiting = record { machine = machine; core = core; down = []; up = waiting; lost = 0 }
+opened machine core waiting = record { machine = machine; core = core; down = []; up = waiting; lost = 0; changed = false }
 
 -- a world may begin: no more characters wait than may, no program runs, and the host has done nothing yet
 pub record IsAccepted (machine : Machine) (core : Core) (waiting : List ℕ) : Type 0 where

@@ -1,8 +1,9 @@
 -- A line, whatever stands at its end, and what happens to it by itself: one definition for each world, and for a line whose host is elsewhere.
-use Rattle.std.specs.Prelude.{◌≡◌, ℕ, zero, suc, ◌+◌, ◌<◌, ◌⊎◌, List, ◌++◌, length}
+use Rattle.std.specs.Prelude.{◌≡◌, ℕ, zero, suc, ◌+◌, ◌<◌, ◌⊎◌, ◌==◌, ◌&&◌, not, Bool, List, ◌++◌, length, slice_set}
 use Rattle.std.specs.List.{remove}
 use Rattle.odt_machine.specs.Machine.{Machine}
 use Rattle.odt_machine.specs.KeyTable.{Taken}
+use Rattle.host_core.specs.Console.{carriage_return, slash, go}
 
 -- what stands at its end (`machine`), the characters under way to it (`down`) and from it (`up`), and how many the line has lost
 pub record Line (M : Type 0) : Type 0 where
@@ -18,6 +19,22 @@ without_down x k = record x { down = remove x.down k; lost = x.lost + 1 }
 -- after the character at place k on its way from it was lost
 abbrev pub without_up : {M : Type 0} → Line M → ℕ → Line M
 without_up x k = record x { up = remove x.up k; lost = x.lost + 1 }
+
+-- after the character at place k on its way to the machine was changed into c
+abbrev pub changed_down : {M : Type 0} → Line M → ℕ → ℕ → Line M
+changed_down x k c = record x { down = slice_set x.down k c; lost = x.lost + 1 }
+
+-- after the character at place k on its way from it was changed into c
+abbrev pub changed_up : {M : Type 0} → Line M → ℕ → ℕ → Line M
+changed_up x k c = record x { up = slice_set x.up k c; lost = x.lost + 1 }
+
+-- a key that stores nothing, opens nothing and starts nothing
+abbrev pub is_harmless : ℕ → Bool
+is_harmless c = not (c == carriage_return) && (not (c == slash) && not (c == go))
+
+-- a key may be changed into another one that is harmless, where no character was changed in this attempt
+abbrev pub may_change : Bool → ℕ → ℕ → Bool
+may_change changed old c = not changed && (is_harmless c && not (c == old))
 
 -- after the first of `up` was heard, of which `rest` is left
 abbrev pub heard : {M : Type 0} → Line M → List ℕ → Line M

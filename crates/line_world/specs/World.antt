@@ -1,18 +1,32 @@
 -- The world of the loading host, and the events of a line that loses nothing.
 use Rattle.std.specs.Prelude.{◌≡◌, ℕ, ◌+◌, ◌-◌, ◌*◌, Bool, false, if◌then◌else◌, ◌||◌, List, [], ◌∷◌, length}
-use Rattle.std.specs.Prelude.{Option, None, is_some, IsSome}
-use Rattle.host_core.specs.Core.{Core, ended, restarted}
+use Rattle.std.specs.Prelude.{Option, Some, None, is_some, IsSome}
+use Rattle.host_core.specs.Core.{Core, begins_attempt, ended, restarted}
 use Rattle.host_core.specs.Bound.{character_bound}
 use Rattle.host_core.specs.PhaseTable.{move}
+use Rattle.host_core.specs.Foreign.{is_foreign}
+use Rattle.host_core.specs.declared.heard.Heard.TheVariants.{Got}
+use Rattle.host_core.specs.declared.phase.Phase.{Phase}
 use Rattle.line_world.specs.declared.event.Event.{Event}
 use Rattle.line_world.specs.declared.event.Event.TheVariants.{Take, Hear, Quiet}
 use Rattle.line_world.specs.Scene.{Scene}
 use Rattle.line_world.specs.Happening.{Kind, takes as any_takes, host_hears as any_hears, times_out as any_timeout, occurs as any_occurs, happens as any_happens, after as any_after}
 use Rattle.line_world.specs.Happening.{typed_hearing as any_typed_hearing, typed_timeout as any_typed_timeout, typed_in as any_typed_in, typed as any_typed}
 
+-- an attempt begins where a key is sent, into a phase with which one begins
+abbrev pub renewing : Option ℕ → Phase → Bool
+renewing None phase = false
+renewing (Some key) phase = begins_attempt phase
+
 -- the loading host
 abbrev pub loading : Kind Core
-loading = record { next = λ core what. (move core what).next; key = λ core what. (move core what).key; restarted = restarted }
+loading = record {
+  next = λ core what. (move core what).next;
+  key = λ core what. (move core what).key;
+  begins = λ core what. renewing (move core what).key (move core what).next.phase;
+  restarted = restarted;
+  careful = λ core. core.careful;
+}
 
 -- each of the world's events and what comes of it, with this host
 abbrev pub takes : Scene → List ℕ → Option Scene
@@ -60,6 +74,11 @@ abbrev pub had_timeout : Scene → List Event → Bool
 had_timeout w [] = false
 had_timeout w (event ∷ events) = is_timeout w event || had_timeout (happens w event) events
 
+-- no loss explains the next character that the host hears
+abbrev pub hears_foreign : Core → List ℕ → Bool
+hears_foreign core [] = false
+hears_foreign core (c ∷ up) = is_foreign core (Got c)
+
 -- the first possible of Take, Hear and Quiet
 abbrev pub first_of : List ℕ → List ℕ → Event
 first_of (c ∷ down) up = Take
@@ -79,5 +98,5 @@ IsCleanRun w (event ∷ events) = (ended w.core.phase ≡ None) × (event ≡ fi
 -- have characters, which are at most nine, and one that may still be sent counts more than one under way
 abbrev pub work_left : Scene → ℕ
 work_left w =
-    12 * (character_bound (length w.core.plan.words) w.core.patience - w.core.sent) + 11 * length w.down + length w.up
+    12 * (character_bound w.core.careful (length w.core.plan.words) w.core.patience - w.core.sent) + 11 * length w.down + length w.up
     + (if is_some (ended w.core.phase) then 0 else 1)

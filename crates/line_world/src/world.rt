@@ -1,10 +1,11 @@
-ghost use Rattle.std.specs.Prelude.{◌≡◌, ℕ, ◌<◌, ◌≤◌, true, List, length, is_some, [], option_to_list, None, IfOk, IfErr, OnOk};
+ghost use Rattle.std.specs.Prelude.{◌≡◌, ℕ, ◌<◌, ◌≤◌, true, false, if◌then◌else◌, List, length, is_some, [], option_to_list, None, IfOk, IfErr, OnOk};
 ghost use Rattle.std.specs.Bool.{OnFalse};
 ghost use Rattle.host_core.specs.Core.{ended};
 ghost use Rattle.host_core.specs.Host.{IsHost};
 ghost use Rattle.odt_machine.specs.Answer.{longest_answer};
 ghost use Rattle.odt_machine.specs.Machine.{IsMachine};
-ghost use Rattle.line_world.specs.World.{occurs, happens, after, possible_count, typed_in, typed, is_timeout, had_timeout, first_event, work_left};
+ghost use Rattle.line_world.specs.World.{occurs, happens, after, possible_count, typed_in, typed, is_timeout, had_timeout, first_event, hears_foreign, renewing, work_left};
+ghost use Rattle.line_world.specs.Wire.{is_harmless, may_change};
 ghost use Rattle.line_world.specs.Invariant.{IsKept};
 ghost use Rattle.line_world.specs.Safe.{IsSafe};
 ghost use Rattle.line_world.specs.Promises.{IsTame, StartsOnce};
@@ -14,6 +15,7 @@ ghost use Rattle.line_world.specs.Runs.{RunsClean, RunsTo};
 use crate::event::Event;
 use crate::setup::Setup;
 use arrayvec::ArrayVec;
+use host_core::console::{CARRIAGE_RETURN, GO, SLASH};
 use host_core::{End, Heard, HostCore};
 use odt_machine::{Mode, Odt};
 use std::marker::Model;
@@ -29,6 +31,7 @@ pub struct World {
     down: ArrayVec<u8, 1>,
     up: ArrayVec<u8, MOST_WAITING>,
     lost: u64,
+    changed: bool,
 }
 
 impl Model for World {
@@ -41,9 +44,9 @@ impl Model for World {
 
     ghost coded = { Prim.hlevel (codes, plan_code) };
 
-    ghost view = { λ w. record { machine = w.odt; core = w.core; down = w.down.items; up = w.up.items; lost = w.lost } };
+    ghost view = { λ w. record { machine = w.odt; core = w.core; down = w.down.items; up = w.up.items; lost = w.lost; changed = w.changed } };
 
-    ghost invariant = { λ w. IsKept (record { machine = w.odt; core = w.core; down = w.down.items; up = w.up.items; lost = w.lost }) };
+    ghost invariant = { λ w. IsKept (record { machine = w.odt; core = w.core; down = w.down.items; up = w.up.items; lost = w.lost; changed = w.changed }) };
 }
 
 impl World {
@@ -75,6 +78,7 @@ impl World {
             down: ArrayVec::new(),
             up,
             lost: 0,
+            changed: false,
         })
     }
 
@@ -112,6 +116,8 @@ impl World {
             Event::Hear => self.hear(),
             Event::LoseDown(place) => self.lose_down(place),
             Event::LoseUp(place) => self.lose_up(place),
+            Event::ChangeDown(place, key) => self.change_down(place, key),
+            Event::ChangeUp(place, character) => self.change_up(place, character),
             Event::Quiet => self.time_out(),
             Event::Restart(kept) => self.restart(kept),
         }
@@ -138,6 +144,7 @@ impl World {
             return false;
         };
         let key = self.core.step(Heard::Got(character));
+        self.changed = still_changed(self.changed, &self.core, key);
         send(&mut self.down, key);
         true
     }
@@ -164,6 +171,37 @@ impl World {
         true
     }
 
+    fn change_down(&mut self, place: u8, key: u8) -> bool
+        ensures possible { result ≡ is_some (occurs self.old (Event.ChangeDown place key)) }
+        ensures world { self.new ≡ happens self.old (Event.ChangeDown place key) }
+    {
+        let place = usize::from(place);
+        if !self.core.is_careful()
+            || place >= self.down.len()
+            || !may_change(self.changed, self.down[place], key)
+        {
+            return false;
+        }
+        self.down[place] = key;
+        self.lost += 1;
+        self.changed = true;
+        true
+    }
+
+    fn change_up(&mut self, place: u8, character: u8) -> bool
+        ensures possible { result ≡ is_some (occurs self.old (Event.ChangeUp place character)) }
+        ensures world { self.new ≡ happens self.old (Event.ChangeUp place character) }
+    {
+        let place = usize::from(place);
+        if !self.core.is_careful() || place >= self.up.len() || self.changed {
+            return false;
+        }
+        self.up[place] = character;
+        self.lost += 1;
+        self.changed = true;
+        true
+    }
+
     fn time_out(&mut self) -> bool
         ensures possible { result ≡ is_some (occurs self.old Event.Quiet) }
         ensures world { self.new ≡ happens self.old Event.Quiet }
@@ -172,6 +210,7 @@ impl World {
             return false;
         }
         let key = self.core.step(Heard::Quiet);
+        self.changed = still_changed(self.changed, &self.core, key);
         send(&mut self.down, key);
         true
     }
@@ -182,6 +221,7 @@ impl World {
     {
         self.core.restart(kept);
         self.lost = 0;
+        self.changed = false;
         true
     }
 
@@ -250,6 +290,18 @@ impl World {
         }
     }
 
+    /// Whether no loss explains the next character that the host hears. It never is so where the line
+    /// has changed none in this attempt.
+    pub fn hears_foreign(&self) -> bool
+        ensures value { result ≡ hears_foreign self.now.core self.now.up }
+        ensures honest { self.now.changed ≡ false → result ≡ false }
+    {
+        match self.up.first() {
+            Some(character) => self.core.is_foreign(Heard::Got(*character)),
+            None => false,
+        }
+    }
+
     /// The machine.
     pub fn odt(&self) -> &Odt
         ensures value { result.now ≡ self.now.machine }
@@ -284,13 +336,37 @@ impl World {
         self.up.as_slice()
     }
 
-    /// How many characters the line has lost in this life of the host.
+    /// How many characters the line has lost or changed in this life of the host.
     pub fn lost(&self) -> u64
         ensures value { result ≡ self.now.lost }
         ensures tame { IsTame self.now }
     {
         self.lost
     }
+}
+
+// Whether a character was changed in the attempt, once the host has sent this key or none: a key may begin an attempt.
+fn still_changed(changed: bool, core: &HostCore, key: Option<u8>) -> bool
+    ensures { result ≡ (if renewing key core.now.phase then false else changed) }
+{
+    match key {
+        Some(_) if core.begins_attempt() => false,
+        _ => changed,
+    }
+}
+
+// Whether the line may change this key into that.
+fn may_change(changed: bool, old: u8, key: u8) -> bool
+    ensures { result ≡ may_change changed old key }
+{
+    !changed && is_harmless(key) && key != old
+}
+
+// A key that stores nothing, opens nothing and starts nothing.
+fn is_harmless(key: u8) -> bool
+    ensures { result ≡ is_harmless key }
+{
+    key != CARRIAGE_RETURN && key != SLASH && key != GO
 }
 
 // A key that the host sends goes down the line, where no other is under way.

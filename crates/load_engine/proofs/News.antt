@@ -9,8 +9,8 @@ use Rattle.host_core.specs.declared.phase.Phase.TheVariants.{Settle, Sync, Addre
 use Rattle.host_core.specs.declared.phase.Visit.TheVariants.{Look}
 use Rattle.host_core.specs.declared.phase.End.TheVariants.{GaveUp}
 use Rattle.host_core.specs.declared.turn.Turn.{Turn}
-use Rattle.host_core.specs.declared.turn.Turn.TheVariants.{Listen, Key, Verified, ReadBack, Next, Mark, Stop, Stray, Timeout}
-use Rattle.host_core.specs.Console.{resynchronise, go}
+use Rattle.host_core.specs.declared.turn.Turn.TheVariants.{Listen, Key, Verified, Revisit, Next, Mark, Stop, Stray, Timeout}
+use Rattle.host_core.specs.Console.{resynchronise_of, go}
 use Rattle.octal.specs.Octal.{digit_of}
 use Rattle.host_core.specs.Core.{Core, word_under_way}
 use Rattle.host_core.specs.Host.{IsHost}
@@ -39,7 +39,7 @@ taken_grows : (core : Core) (turn : Turn) → core.verified ≤ (taken core turn
 taken_grows core (Listen phase) = omega arith
 taken_grows core (Key key phase) = omega arith
 taken_grows core Verified = omega arith
-taken_grows core ReadBack = omega arith
+taken_grows core (Revisit visit) = omega arith
 taken_grows core Next =
     on_move (λ m. core.verified ≤ m.next.verified) (nat_lt core.verified (length core.plan.words)) (sends core (digit_of (word_under_way core).address 1) (Address Look 1)) (after_words core core.plan.start)
     (λ _. omega arith) (λ _. after_words_grows core core.plan.start)
@@ -48,7 +48,7 @@ taken_grows core (Stop end) = omega arith
 taken_grows core Stray =
     on_move (λ m. core.verified ≤ m.next.verified) (nat_lt core.spent core.patience) (listens (record core { spent = core.spent + 1 }) Settle) (listens core (Ended GaveUp)) (λ _. omega arith) (λ _. omega arith)
 taken_grows core Timeout =
-    on_move (λ m. core.verified ≤ m.next.verified) (nat_lt core.spent core.patience) (sends (record core { spent = core.spent + 1 }) resynchronise (Sync 0)) (listens core (Ended GaveUp)) (λ _. omega arith) (λ _. omega arith)
+    on_move (λ m. core.verified ≤ m.next.verified) (nat_lt core.spent core.patience) (sends (record core { spent = core.spent + 1 }) (resynchronise_of core.careful) (Sync 0)) (listens core (Ended GaveUp)) (λ _. omega arith) (λ _. omega arith)
 
 pub move_forward : (core : Core) (heard : Heard) → IsHost core → IsForward core (move core heard).next
 move_forward core heard h = record {

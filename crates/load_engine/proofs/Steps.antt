@@ -7,8 +7,8 @@ use Rattle.host_core.specs.declared.phase.Phase.TheVariants.{Settle, Sync, Addre
 use Rattle.host_core.specs.declared.phase.Visit.TheVariants.{Look}
 use Rattle.host_core.specs.declared.phase.End.TheVariants.{GaveUp}
 use Rattle.host_core.specs.declared.turn.Turn.{Turn}
-use Rattle.host_core.specs.declared.turn.Turn.TheVariants.{Listen, Key, Verified, ReadBack, Next, Mark, Stop, Stray, Timeout}
-use Rattle.host_core.specs.Console.{resynchronise, carriage_return, go}
+use Rattle.host_core.specs.declared.turn.Turn.TheVariants.{Listen, Key, Verified, Revisit, Next, Mark, Stop, Stray, Timeout}
+use Rattle.host_core.specs.Console.{resynchronise_of, carriage_return, go}
 use Rattle.octal.specs.Octal.{digit_of}
 use Rattle.host_core.specs.Core.{Core, word_under_way}
 use Rattle.host_core.specs.Host.{IsHost}
@@ -53,7 +53,7 @@ taken_kind : (core : Core) (turn : Turn) → Kind core (taken core turn)
 taken_kind core (Listen phase) = inl record { same = refl; same_mark = refl }
 taken_kind core (Key key phase) = inl record { same = refl; same_mark = refl }
 taken_kind core Verified = inr (inl record { one = refl; same_mark = refl; sends = refl })
-taken_kind core ReadBack = inl record { same = refl; same_mark = refl }
+taken_kind core (Revisit visit) = inl record { same = refl; same_mark = refl }
 taken_kind core Next =
     on_move (Kind core) (nat_lt core.verified (length core.plan.words)) (sends core (digit_of (word_under_way core).address 1) (Address Look 1)) (after_words core core.plan.start)
     (λ _. inl record { same = refl; same_mark = refl }) (λ _. after_words_kind core core.plan.start)
@@ -63,7 +63,7 @@ taken_kind core Stray =
     on_move (Kind core) (nat_lt core.spent core.patience) (listens (record core { spent = core.spent + 1 }) Settle) (listens core (Ended GaveUp))
     (λ _. inl record { same = refl; same_mark = refl }) (λ _. inl record { same = refl; same_mark = refl })
 taken_kind core Timeout =
-    on_move (Kind core) (nat_lt core.spent core.patience) (sends (record core { spent = core.spent + 1 }) resynchronise (Sync 0)) (listens core (Ended GaveUp))
+    on_move (Kind core) (nat_lt core.spent core.patience) (sends (record core { spent = core.spent + 1 }) (resynchronise_of core.careful) (Sync 0)) (listens core (Ended GaveUp))
     (λ _. inl record { same = refl; same_mark = refl }) (λ _. inl record { same = refl; same_mark = refl })
 
 -- the first word of a list, as what is to be kept

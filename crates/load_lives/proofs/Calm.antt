@@ -13,6 +13,7 @@ use Rattle.host_core.specs.Console.{go}
 use Rattle.host_core.specs.Core.{Core, no_word, word_nr}
 use Rattle.line_world.specs.Invariant.{IsKept}
 use Rattle.line_world.specs.Safe.{FirstStand}
+use Rattle.line_world.specs.Scene.{Toll, over, toll_of}
 use Rattle.line_world.specs.Site.{ground}
 use Rattle.line_world.proofs.Frame.{scene}
 use Rattle.line_world.proofs.Taking.{key_takes}
@@ -20,6 +21,7 @@ use Rattle.host_devices.specs.declared.item.Item.{Item}
 use Rattle.host_devices.specs.declared.item.Item.TheVariants.{Heard as Came, Sent}
 use Rattle.host_devices.specs.Dialogue.{keys_of}
 use Rattle.honest_line.specs.Moves.{Gives}
+use Rattle.exchange_law.specs.Mirror.{wire_at}
 use Rattle.exchange_law.specs.Line.{Link, Moves, MovesTimes, Passes}
 use Rattle.exchange_law.specs.Station.{Meets, Program, Station, Stub, after_odt, begins}
 use Rattle.exchange_law.specs.Unsettled.{IsUnsettled, Untouched}
@@ -146,7 +148,7 @@ stopped_or : (P : Type 0) (running : Bool) → (running ≡ true → P) → (run
 stopped_or P true h k = h refl
 stopped_or P false h k = k refl
 
-idle_key : (program : Program) (core : Core) (m : Machine) (stub : Option Stub) (c : ℕ) (rest up : List ℕ) (lost own : ℕ) → IsKept (scene m core (c ∷ rest) up lost) → core.going ≡ true → stub ≡ begins program false m.memory m.mode →
+idle_key : (program : Program) (core : Core) (m : Machine) (stub : Option Stub) (c : ℕ) (rest up : List ℕ) (lost : Toll) (own : ℕ) → IsKept (scene m core (c ∷ rest) up lost) → core.going ≡ true → stub ≡ begins program false m.memory m.mode →
     (is_running m.mode ≡ true → c ∷ rest ≡ []) → IsIdleKey program (IsLater core.plan (length core.plan.words)) (record { machine = record { odt = m; stub = stub }; down = c ∷ rest; up = up; lost = own })
 idle_key program core m stub c rest up lost own k set is quiet = stopped_or _ (is_running m.mode)
     (λ runs. absurd (no_first (c ∷ rest) rest c (quiet runs) refl))
@@ -157,16 +159,16 @@ idle_key program core m stub c rest up lost own k set is quiet = stopped_or _ (i
       untouched = tape_stores (ground (scene m core (c ∷ rest) up lost)) (length core.plan.words) (take_of m c).memory k.host.image (omega arith) (all_stand m core (c ∷ rest) up lost k set) (key_takes m core c rest up lost k).memory;
     })
 
-idle_by : (program : Program) (core : Core) (m : Machine) (stub : Option Stub) (down up : List ℕ) (lost own : ℕ) → IsKept (scene m core down up lost) → core.going ≡ true → stub ≡ begins program false m.memory m.mode →
+idle_by : (program : Program) (core : Core) (m : Machine) (stub : Option Stub) (down up : List ℕ) (lost : Toll) (own : ℕ) → IsKept (scene m core down up lost) → core.going ≡ true → stub ≡ begins program false m.memory m.mode →
     (is_running m.mode ≡ true → down ≡ []) → IsIdle program (IsLater core.plan (length core.plan.words)) (record { machine = record { odt = m; stub = stub }; down = down; up = up; lost = own })
 idle_by program core m stub [] up lost own k set is quiet = inl refl
 idle_by program core m stub (c ∷ rest) up lost own k set is quiet = inr (idle_key program core m stub c rest up lost own k set is quiet)
 
 pub idle_behind : (program : Program) (core : Core) (y : Link) → IsInOrder program core y → core.going ≡ true → IsIdle program (IsLater core.plan (length core.plan.words)) y
-idle_behind program core y o set = idle_by program core y.machine.odt y.machine.stub y.down y.up o.lost y.lost o.kept set o.just.stub o.just.quiet
+idle_behind program core y o set = idle_by program core y.machine.odt y.machine.stub y.down y.up (toll_of (over core (wire_at y o.lost))) y.lost o.kept set o.just.stub o.just.quiet
 
 pub all_in_order : (program : Program) (core : Core) (y : Link) → IsInOrder program core y → core.going ≡ true → FirstStand core.plan.words (length core.plan.words) y.machine.odt.memory
-all_in_order program core y o set = all_stand y.machine.odt core y.down y.up o.lost o.kept set
+all_in_order program core y o set = all_stand y.machine.odt core y.down y.up (toll_of (over core (wire_at y o.lost))) o.kept set
 
 -- ---- under the mark
 

@@ -14,7 +14,7 @@ use Rattle.host_core.specs.Host.{IsHost, MarkFits}
 use Rattle.host_core.specs.Laws.{led, replay}
 use Rattle.host_core.specs.PhaseTable.{move}
 use Rattle.host_core.proofs.Frame.{silent}
-use Rattle.host_core.proofs.Lives.{led_kept, led_plan}
+use Rattle.host_core.proofs.Lives.{led_care, led_kept, led_plan}
 use Rattle.host_core.proofs.Starts.{starts_only_whole}
 use Rattle.host_core.proofs.Turns.{begun_kept}
 use Rattle.line_world.specs.Wire.{Wire, forgiven}
@@ -63,10 +63,10 @@ whole_passes core things items (Some key) x y is passes =
 -- ---- what a record may say after a run
 
 -- a line that was left so fits a progress with the host's mark and words that stand
-rests_after : (plan : PlanValue) (first core : Core) (x y : Wire) (keys : List ℕ) (recorded progress : Progress) → first.plan ≡ plan → core.plan ≡ plan → IsSound plan recorded →
+rests_after : (plan : PlanValue) (first core : Core) (x y : Wire) (keys : List ℕ) (recorded progress : Progress) → first.plan ≡ plan → core.plan ≡ plan → core.careful ≡ false → IsSound plan recorded →
     ((i : ℕ) → i < standing plan recorded → IsThere (place plan x.machine i)) → Ran (over first x) keys (over core y) →
     progress.going ≡ core.going → (progress ≡ recorded) ⊎ (progress.verified ≤ core.verified) → Rests plan progress y
-rests_after plan first core x y keys recorded progress is same sound words run mark from = rests_of plan core y progress same mark run.kept (stood from)
+rests_after plan first core x y keys recorded progress is same plain sound words run mark from = rests_of plan core y progress same plain mark run.kept (stood from)
   where
     all_below : (g : Bool) (n v i : ℕ) → v ≤ n → i < (if g then n else v) → i < n
     all_below true n v i le below = below
@@ -91,6 +91,7 @@ record Unmarked (first last : Core) (x y : Wire) : Type 0 where
   pub lost : ℕ
   pub keys : List ℕ
   pub same_plan : core.plan ≡ first.plan
+  pub same_care : core.careful ≡ first.careful
   pub unmarked : core.going ≡ false
   pub words : last.verified ≤ core.verified
   pub run : Ran (over first x) keys (over core (record y { lost = lost }))
@@ -136,6 +137,7 @@ taken_back first things items (Some key) x y k unset set starts never is passes 
       lost = b.0;
       keys = replay first l.0;
       same_plan = led_plan first l.0;
+      same_care = led_care first l.0;
       unmarked = unmarked;
       words = mark_verifies_none core l.1 (led first things) l.2 unmarked set;
       run = ran (over first x) (over core (record y { lost = b.0 })) (replay first l.0) k (dialogue_leads l.0 first x (record y { lost = b.0 }) b.1);
@@ -174,15 +176,15 @@ pub record Went (plan : PlanValue) (before : List ℕ) (keys : List ℕ) (life :
   pub trusted : IsTrusted before (last_core plan life) new.wire.machine.memory (keys ++ keys_of life.items) (length (option_to_list life.unsent) + new.wire.lost)
 
 -- the text's progress has the core's mark, or lacks it, and then the last turn is taken back
-rests_now : (plan : PlanValue) (first last : Core) (x y : Wire) (lost : ℕ) (keys : List ℕ) (recorded progress : Progress) → first.plan ≡ plan → last.plan ≡ plan → IsSound plan recorded →
+rests_now : (plan : PlanValue) (first last : Core) (x y : Wire) (lost : ℕ) (keys : List ℕ) (recorded progress : Progress) → first.plan ≡ plan → last.plan ≡ plan → first.careful ≡ false → last.careful ≡ false → IsSound plan recorded →
     ((i : ℕ) → i < standing plan recorded → IsThere (place plan x.machine i)) → Ran (over first x) keys (over last (record y { lost = lost })) →
     (progress ≡ recorded) ⊎ (progress.verified ≤ last.verified) → (progress.going ≡ true → last.going ≡ true) → (progress.going ≡ false → last.going ≡ true → Unmarked first last x y) → Rests plan progress y
-rests_now plan first last x y lost keys recorded progress is same sound words run from marked back_to = by progress.going last.going refl refl
+rests_now plan first last x y lost keys recorded progress is same plain plain_last sound words run from marked back_to = by progress.going last.going refl refl
   where
     here : progress.going ≡ last.going → Rests plan progress y
     here mark =
-        let r = rests_after plan first last x (record y { lost = lost }) keys recorded progress is same sound words run mark from in
-        record { machine = r.machine; one_way = r.one_way; few = r.few; words = r.words; running = r.running; key = r.key }
+        let r = rests_after plan first last x (record y { lost = lost }) keys recorded progress is same plain_last sound words run mark from in
+        record { machine = r.machine; one_way = r.one_way; few = r.few; words = r.words; running = r.running; at_start = r.at_start; key = r.key }
 
     less : (c : ℕ) → last.verified ≤ c → (progress ≡ recorded) ⊎ (progress.verified ≤ last.verified) → (progress ≡ recorded) ⊎ (progress.verified ≤ c)
     less c le (inl e) = inl e
@@ -190,8 +192,8 @@ rests_now plan first last x y lost keys recorded progress is same sound words ru
 
     there : progress.going ≡ false → Unmarked first last x y → Rests plan progress y
     there unset u =
-        let r = rests_after plan first u.core x (record y { lost = u.lost }) u.keys recorded progress is (u.same_plan ∙ is) sound words u.run (unset ∙ sym u.unmarked) (less u.core.verified u.words from) in
-        record { machine = r.machine; one_way = r.one_way; few = r.few; words = r.words; running = r.running; key = r.key }
+        let r = rests_after plan first u.core x (record y { lost = u.lost }) u.keys recorded progress is (u.same_plan ∙ is) (u.same_care ∙ plain) sound words u.run (unset ∙ sym u.unmarked) (less u.core.verified u.words from) in
+        record { machine = r.machine; one_way = r.one_way; few = r.few; words = r.words; running = r.running; at_start = r.at_start; key = r.key }
 
     by : (g h : Bool) → progress.going ≡ g → last.going ≡ h → Rests plan progress y
     by true true e f = here (e ∙ sym f)
@@ -209,7 +211,7 @@ readable plan verified patience things host starts =
     let same : last.plan ≡ plan = led_plan first things in record {
       within = subst (λ (p : PlanValue). last.verified ≤ length p.words) same kept.within;
       marked = λ set. (
-        (starts_only_whole plan verified false patience host things (starts.marked.1 (refl, set))).1,
+        (starts_only_whole false plan verified false patience host things (starts.marked.1 (refl, set))).1,
         subst (λ (p : PlanValue). IsSome p.start) same (has_start last.going last.plan.start last.phase kept.mark set),
       );
     }
@@ -255,7 +257,7 @@ went plan before keys between life new fits s l =
       stood = record {
         progress = left.progress;
         says = left.says;
-        rests = rests_now plan first last l.line.found new.wire lost replayed recorded left.progress refl plan_same sound words run left.from left.marked back_to;
+        rests = rests_now plan first last l.line.found new.wire lost replayed recorded left.progress refl plan_same refl (led_care first life.heard) sound words run left.from left.marked back_to;
         bytes = subst (λ (p : PlanValue). OnlyImage before p.image new.wire.machine.memory) plan_same safe.bytes;
         last = ends;
         marked = λ h. elim (Contains-append_cases keys (keys_of life.items) go h) [ inl early ↦ left.stays (marked_before early) | inr now ↦ left.sent now ];
@@ -280,11 +282,11 @@ opens plan old fits may =
     (λ i below. (may.begins.verified.lies i below, merged-Stands (word_nr plan.words i) _ (may.begins.verified.stands i below))) in
     let at_rest : IsKept (over (begun plan may.progress.verified false 0) (record old.wire { lost = 0 })) =
     subst (λ down. IsKept (over (begun plan may.progress.verified false 0) (record { machine = old.wire.machine; down = down; up = old.wire.up; lost = 0 }))) (sym may.none_down) kept in
-    let r : Rests plan may.progress (record old.wire { lost = 0 }) = rests_of plan (begun plan may.progress.verified false 0) (record old.wire { lost = 0 }) may.progress refl may.no_mark at_rest
+    let r : Rests plan may.progress (record old.wire { lost = 0 }) = rests_of plan (begun plan may.progress.verified false 0) (record old.wire { lost = 0 }) may.progress refl refl may.no_mark at_rest
     (λ i below. at_rest.words i (fewer_stand may.progress.going false (length plan.words) may.progress.verified may.progress.verified i may.no_mark (omega arith) below)) in record {
       progress = may.progress;
       says = may.says;
-      rests = record { machine = r.machine; one_way = r.one_way; few = r.few; words = r.words; running = r.running; key = r.key };
+      rests = record { machine = r.machine; one_way = r.one_way; few = r.few; words = r.words; running = r.running; at_start = r.at_start; key = r.key };
       bytes = record { size = refl; bytes = λ b below. inl refl };
       last = tt;
       marked = λ h. absurd (none h);

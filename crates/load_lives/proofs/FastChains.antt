@@ -258,7 +258,7 @@ can_be_read tape k patience things host types =
     let same : core.plan ≡ tape = led_plan (begun tape k false patience) things in record {
       within = subst (λ (p : PlanValue). core.verified ≤ length p.words) same kept.within;
       marked = λ set. (
-        (starts_only_whole tape k false patience host things (subst (λ keys. Contains keys go) (keys_of-dialogue things (begun tape k false patience)) (types set))).1,
+        (starts_only_whole false tape k false patience host things (subst (λ keys. Contains keys go) (keys_of-dialogue things (begun tape k false patience)) (types set))).1,
         subst (λ (p : PlanValue). IsSome p.start) same (has_start core.going core.plan.start core.phase kept.mark set),
       );
     }

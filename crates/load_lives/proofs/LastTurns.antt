@@ -7,8 +7,8 @@ use Rattle.host_core.specs.declared.phase.Phase.TheVariants.{Settle, Sync, Addre
 use Rattle.host_core.specs.declared.phase.Visit.TheVariants.{Look}
 use Rattle.host_core.specs.declared.phase.End.TheVariants.{GaveUp}
 use Rattle.host_core.specs.declared.turn.Turn.{Turn}
-use Rattle.host_core.specs.declared.turn.Turn.TheVariants.{Listen, Key, Verified, ReadBack, Next, Mark, Stop, Stray, Timeout}
-use Rattle.host_core.specs.Console.{resynchronise}
+use Rattle.host_core.specs.declared.turn.Turn.TheVariants.{Listen, Key, Verified, Revisit, Next, Mark, Stop, Stray, Timeout}
+use Rattle.host_core.specs.Console.{resynchronise_of}
 use Rattle.host_core.specs.Core.{Core, word_under_way}
 use Rattle.host_core.specs.Laws.{led}
 use Rattle.host_core.specs.PhaseTable.{move, listens, sends, taken, turn_of, after_words}
@@ -112,7 +112,7 @@ taken_same : (core : Core) (turn : Turn) → core.going ≡ false → (taken cor
 taken_same core (Listen phase) unset set = omega arith
 taken_same core (Key key phase) unset set = omega arith
 taken_same core Verified unset set = absurd (not_both core.going unset set)
-taken_same core ReadBack unset set = omega arith
+taken_same core (Revisit visit) unset set = omega arith
 taken_same core Next unset set =
     on_move (λ m. m.next.verified ≤ core.verified) (nat_lt core.verified (length core.plan.words)) (sends core (digit_of (word_under_way core).address 1) (Address Look 1)) (after_words core core.plan.start)
     (λ _. omega arith) (λ _. after_words_same core core.plan.start)
@@ -121,7 +121,7 @@ taken_same core (Stop end) unset set = omega arith
 taken_same core Stray unset set =
     on_move (λ m. m.next.verified ≤ core.verified) (nat_lt core.spent core.patience) (listens (record core { spent = core.spent + 1 }) Settle) (listens core (Ended GaveUp)) (λ _. omega arith) (λ _. omega arith)
 taken_same core Timeout unset set =
-    on_move (λ m. m.next.verified ≤ core.verified) (nat_lt core.spent core.patience) (sends (record core { spent = core.spent + 1 }) resynchronise (Sync 0)) (listens core (Ended GaveUp)) (λ _. omega arith) (λ _. omega arith)
+    on_move (λ m. m.next.verified ≤ core.verified) (nat_lt core.spent core.patience) (sends (record core { spent = core.spent + 1 }) (resynchronise_of core.careful) (Sync 0)) (listens core (Ended GaveUp)) (λ _. omega arith) (λ _. omega arith)
 
 pub mark_verifies_none : (core : Core) (last : Heard) (next : Core) → next ≡ (move core last).next → core.going ≡ false → next.going ≡ true → next.verified ≤ core.verified
 mark_verifies_none core last next is unset set =

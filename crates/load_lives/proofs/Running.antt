@@ -7,8 +7,10 @@ use Rattle.host_core.specs.declared.heard.Heard.TheVariants.{Got, Quiet as Silen
 use Rattle.host_core.specs.Core.{Core}
 use Rattle.host_core.proofs.Frame.{moved}
 use Rattle.line_world.specs.declared.event.Event.{Event}
-use Rattle.line_world.specs.declared.event.Event.TheVariants.{Take, Hear, LoseDown, LoseUp, Quiet, Restart}
-use Rattle.line_world.specs.Scene.{Scene}
+use Rattle.line_world.specs.declared.event.Event.TheVariants.{Take, Hear, LoseDown, LoseUp, ChangeDown, ChangeUp, Quiet, Restart}
+use Rattle.line_world.specs.Scene.{Scene, Toll, toll_of}
+use Rattle.line_world.specs.Wire.{may_change}
+use Rattle.std.specs.Prelude.{◌&&◌, not, slice_index}
 use Rattle.line_world.specs.World.{takes, host_hears, times_out, happens, after, typed}
 use Rattle.line_world.specs.Site.{IsThere, ground}
 use Rattle.line_world.specs.Invariant.{IsKept}
@@ -28,27 +30,29 @@ use Rattle.load_lives.proofs.Renewals.{place}
 abbrev Stands : ℕ → Scene → Type 0
 Stands i w = IsThere (place w.core.plan w.machine i)
 
-takes_stand : (m : Machine) (core : Core) (down up : List ℕ) (lost i : ℕ) → IsKept (scene m core down up lost) → i < length core.plan.words → Stands i (scene m core down up lost) →
+takes_stand : (m : Machine) (core : Core) (down up : List ℕ) (lost : Toll) (i : ℕ) → IsKept (scene m core down up lost) → i < length core.plan.words → Stands i (scene m core down up lost) →
     Stands i (unwrap_or (takes (scene m core down up lost) down) (scene m core down up lost))
 takes_stand m core [] up lost i k below there = there
 takes_stand m core (c ∷ down) up lost i k below there =
     stands_after (ground (scene m core (c ∷ down) up lost)) (take_of m c).memory i k.host.image (key_takes m core c down up lost k).memory below there
 
-hears_stand : (m : Machine) (core : Core) (down up : List ℕ) (lost i : ℕ) → Stands i (scene m core down up lost) → Stands i (unwrap_or (host_hears (scene m core down up lost) up) (scene m core down up lost))
+hears_stand : (m : Machine) (core : Core) (down up : List ℕ) (lost : Toll) (i : ℕ) → Stands i (scene m core down up lost) → Stands i (unwrap_or (host_hears (scene m core down up lost) up) (scene m core down up lost))
 hears_stand m core down [] lost i there = there
 hears_stand m core down (c ∷ up) lost i there = subst (λ p. IsThere (place p m i)) (sym (moved core (Got c)).plan) there
 
-silence_stand : (m : Machine) (core : Core) (down up : List ℕ) (lost i : ℕ) → Stands i (scene m core down up lost) → Stands i (unwrap_or (times_out (scene m core down up lost) down up) (scene m core down up lost))
+silence_stand : (m : Machine) (core : Core) (down up : List ℕ) (lost : Toll) (i : ℕ) → Stands i (scene m core down up lost) → Stands i (unwrap_or (times_out (scene m core down up lost) down up) (scene m core down up lost))
 silence_stand m core [] [] lost i there = subst (λ p. IsThere (place p m i)) (sym (moved core Silence).plan) there
 silence_stand m core (c ∷ down) up lost i there = there
 silence_stand m core [] (c ∷ up) lost i there = there
 
 stand_event : (w : Scene) (event : Event) (i : ℕ) → IsKept w → i < length w.core.plan.words → Stands i w → Stands i (happens w event)
-stand_event w Take i k below there = takes_stand w.machine w.core w.down w.up w.lost i k below there
-stand_event w Hear i k below there = hears_stand w.machine w.core w.down w.up w.lost i there
+stand_event w Take i k below there = takes_stand w.machine w.core w.down w.up (toll_of w) i k below there
+stand_event w Hear i k below there = hears_stand w.machine w.core w.down w.up (toll_of w) i there
 stand_event w (LoseDown n) i k below there = lost_if (Stands i) w _ (ltb n (length w.down)) there (λ e. there)
 stand_event w (LoseUp n) i k below there = lost_if (Stands i) w _ (ltb n (length w.up)) there (λ e. there)
-stand_event w Quiet i k below there = silence_stand w.machine w.core w.down w.up w.lost i there
+stand_event w (ChangeDown n c) i k below there = lost_if (Stands i) w _ (w.core.careful && (ltb n (length w.down) && may_change w.changed (slice_index w.down n) c)) there (λ e. there)
+stand_event w (ChangeUp n c) i k below there = lost_if (Stands i) w _ (w.core.careful && (ltb n (length w.up) && not w.changed)) there (λ e. there)
+stand_event w Quiet i k below there = silence_stand w.machine w.core w.down w.up (toll_of w) i there
 stand_event w (Restart kept) i k below there = there
 
 stand_events : (w : Scene) (events : List Event) (i : ℕ) → IsKept w → i < length w.core.plan.words → Stands i w → Stands i (after w events)

@@ -9,19 +9,22 @@ use Rattle.machine_look.specs.declared.saving.SaveOptions.{SaveOptions}
 use Rattle.tape_shelf.specs.declared.shelf.ShelfFault.{ShelfFault}
 use Rattle.tape_shelf.specs.declared.shelf.ShelfFault.TheVariants as shelf_fault
 use Rattle.machine_look.specs.LookFault.{IsSaveFault, IsSaveNotBegun}
-use Rattle.machine_look.specs.Save.{HeldUp, IsOver, IsSavedAndReported, IsUnadded, IsUnput, SaveTold, Shelved, TakesUp, numbers_of}
-use Rattle.tape_shelf.specs.SavedSteps.{not_all_added, not_put, puts}
+use Rattle.load_tests.specs.Told.{AreStepsOf}
+use Rattle.machine_look.specs.Save.{HeldUp, IsOver, IsSavedAndReported, IsUnadded, IsUnput, LeftInPart, SaveTold, Shelved, TakesUp, numbers_of}
+use Rattle.tape_shelf.specs.SavedSteps.{adds, full, not_all_added, not_put, puts}
 use Rattle.tape_shelf.specs.Shelf.{ShelfStep}
 use Rattle.tape_shelf.specs.ShelfTold.{HasDone}
 
--- the shelf was taken up, and then nothing, or all of the tape, was put there
+-- the shelf was taken up, and then nothing, the full blocks or all of the tape was put there
 abbrev IsDone : SaveOptions → SaveTold → SaveTold → Type 0
 IsDone options before after =
     (found numbers : List ℕ) × (taking : List ShelfStep) × TakesUp options.range before.shelf.left found taking
-    × (steps : List ShelfStep) × ((steps ≡ []) ⊎ (steps ≡ puts options.range.from (found ++ numbers) options.start)) × HasDone (taking ++ steps) before.shelf after.shelf
+    × (steps : List ShelfStep) × AreStepsOf options (found ++ numbers) steps × HasDone (taking ++ steps) before.shelf after.shelf
 
 over : (options : SaveOptions) (before after : SaveTold) (counts : SaveCounts) (end : SaveEnd) → IsOver options before after counts end → IsDone options before after
-over options before after _ _ (Shelved s) = (s.read.found, s.read.last.values, s.read.taking, s.read.taken_up, puts options.range.from (numbers_of s.read) options.start, inr refl, s.is_put)
+over options before after _ _ (Shelved s) = (s.read.found, s.read.last.values, s.read.taking, s.read.taken_up, puts options.range.from (numbers_of s.read) options.start, inr (inr refl), s.is_put)
+over options before after _ _ (LeftInPart s) =
+    (s.read.found, s.read.last.values, s.read.taking, s.read.taken_up, adds options.range.from (numbers_of s.read) (full (numbers_of s.read)), inr (inl refl), s.is_left)
 over options before after _ _ (HeldUp h) =
     (h.found, [], h.taking, h.taken_up, [], inl refl, subst (λ steps. HasDone steps before.shelf after.shelf) (sym (append-nil h.taking)) h.untouched)
 

@@ -1,42 +1,59 @@
 -- What a bench, a record and a tape tell of which the disk tells what it was asked.
-use Rattle.std.specs.Prelude.{◌≡◌, ◌⊎◌, ℕ, List, [], ◌++◌, Option, Some, None}
-use Rattle.machine_load.specs.Load.{Setting}
+use Rattle.std.specs.Prelude.{◌≡◌, ◌⊎◌, ℕ, List, [], ◌++◌, Option, Some, None, option_map}
+use Rattle.machine_load.specs.Load.{Ending, GoesOn, IsReported, Setting}
 use Rattle.honest_line.specs.LineTable.{LineValue}
 use Rattle.host_devices.specs.declared.line.Line.{Ghosts as Line}
-use Rattle.machine_load.specs.RecordDisk.{RecordDisk, DiskAsked, FileKnown, IsClosedBehind}
+use Rattle.machine_load.specs.Asked.{Change, LoadTask, ◌⇒◌}
+use Rattle.machine_load.specs.RecordDisk.{RecordDisk, IsClosedBehind}
 use Rattle.machine_look.specs.declared.saving.SaveOptions.{SaveOptions}
 use Rattle.machine_look.specs.Save.{TakesUp}
-use Rattle.tape_shelf.specs.SavedSteps.{puts}
+use Rattle.tape_shelf.specs.SavedSteps.{adds, full, puts}
 use Rattle.tape_shelf.specs.Shelf.{ShelfStep}
 use Rattle.tape_shelf.specs.ShelfDisk.{Room}
 use Rattle.tape_shelf.specs.ShelfTold.{HasDone, ShelfTold}
 use Rattle.record_file.specs.DiskStep.{DiskStep}
+use Rattle.record_file.specs.Known.{known_of}
+use Rattle.record_file.specs.declared.held_file.HeldFile.{HeldFile}
 
 -- a bench with this record, and a report
 abbrev pub bench_told : Option (List ℕ) → List ℕ → Setting
-bench_told text report = record { around = record { steps = None; record_text = text }; lines = None; out = Some report }
+bench_told text report = record { around = record { steps = None; record_text = text; disk = None }; lines = None; out = Some report }
 
 -- what a line in memory tells
 abbrev pub memory_line : Line LineValue
 memory_line = record { told = λ line. Some line.items; fault_count = λ line. line.failures; last_fault = λ line. line.fault }
 
--- a record of this name on a disk, and what is known of it
-abbrev pub record_told : Option (List DiskStep) → List ℕ → FileKnown → RecordDisk
-record_told asked name known = record { asked = asked; name = name; known = known }
+-- a record of this name on a disk of which no file's text is known, and its file, where it is held
+abbrev pub record_told : {T : Type 0} → (T → Option (List ℕ)) → Option (List DiskStep) → List ℕ → Option (HeldFile T) → RecordDisk
+record_told written asked name held = record { asked = asked; name = name; known = option_map (known_of written) held; holds = None }
 
--- so much was asked of the disk on which it is, and then it was closed
-abbrev pub IsAskedAndClosed : (RecordDisk → RecordDisk → List DiskStep → Type 0) → RecordDisk → Option (List DiskStep) → Type 0
-IsAskedAndClosed said disk asked = (last : RecordDisk) × DiskAsked (Some disk) (Some last) said × IsClosedBehind last asked
+-- a setting with this record, and this output
+abbrev pub disk_told : RecordDisk → Option (List ℕ) → Setting
+disk_told disk out = record { around = record { steps = None; record_text = None; disk = Some disk }; lines = None; out = out }
+
+-- a load was reported, and ended so
+abbrev pub IsReportedSo : LoadTask → Ending → Change Setting → Type 0
+IsReportedSo task ending setting = IsReported GoesOn task setting ending
+
+-- this is so of a load from this record to another, over this output, and then the record was closed
+abbrev pub IsSoAndClosed : (Change Setting → Type 0) → RecordDisk → Change (Option (List ℕ)) → Option (List DiskStep) → Type 0
+IsSoAndClosed so first out asked =
+    (last : RecordDisk) × so (disk_told first out.before ⇒ disk_told last out.after) × IsClosedBehind last asked
 
 -- a shelf on a disk of which no file's text is known, for a tape of this name, and its room
 abbrev pub shelf_told : Option (List DiskStep) → List ℕ → Option Room → ShelfTold
 shelf_told asked name room = record { steps = None; disk = Some (record { asked = asked; name = name; room = room }); left = None }
 
--- a shelf was taken up, and the tape of what was found and read put there, or nothing
+-- with this a tape of numbers is put on a shelf, or its full blocks alone, or nothing
+abbrev pub AreStepsOf : SaveOptions → List ℕ → List ShelfStep → Type 0
+AreStepsOf options numbers steps =
+    (steps ≡ []) ⊎ (steps ≡ adds options.range.from numbers (full numbers)) ⊎ (steps ≡ puts options.range.from numbers options.start)
+
+-- a shelf was taken up, and the tape of what was found and read put there, or its full blocks alone, or nothing
 abbrev pub IsTapePut : SaveOptions → ShelfTold → ShelfTold → Type 0
 IsTapePut options shelf shelf' =
     (found numbers : List ℕ) × (taking : List ShelfStep) × TakesUp options.range shelf.left found taking
-    × (steps : List ShelfStep) × ((steps ≡ []) ⊎ (steps ≡ puts options.range.from (found ++ numbers) options.start)) × HasDone (taking ++ steps) shelf shelf'
+    × (steps : List ShelfStep) × AreStepsOf options (found ++ numbers) steps × HasDone (taking ++ steps) shelf shelf'
 
 -- or it came to nothing, whatever was done there
 abbrev pub IsTapeNotPut : ShelfTold → ShelfTold → Type 0

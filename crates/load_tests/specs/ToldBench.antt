@@ -1,5 +1,5 @@
 -- What surroundings tell that tell all: their steps, their record and the lines that were given back.
-use Rattle.std.specs.Prelude.{ℕ, List, map, Option, Some}
+use Rattle.std.specs.Prelude.{ℕ, List, map, Option, Some, None}
 use Rattle.honest_line.specs.LineTable.{LineValue}
 use Rattle.host_devices.specs.Devices.{LineTold, line_told}
 use Rattle.machine_load.specs.Load.{Setting}
@@ -29,4 +29,4 @@ lines_told lines = map (λ line. line_told memory_line line) lines
 -- a bench with these steps, this record, these lines given back, and a report
 abbrev pub setting_told : List LoadStep → Option (List ℕ) → List LineValue → List ℕ → Setting
 setting_told steps text lines report =
-    record { around = record { steps = Some (steps_of steps); record_text = text }; lines = Some (lines_told lines); out = Some report }
+    record { around = record { steps = Some (steps_of steps); record_text = text; disk = None }; lines = Some (lines_told lines); out = Some report }

@@ -1,9 +1,11 @@
 //! Loads of a machine in memory, with a record on a disk that tells what it was asked.
-ghost use Rattle.std.specs.Prelude.{IfErr, IfOk, option_map};
-ghost use Rattle.machine_load.specs.RecordDisk.{disk_asked_by, disk_asked_before};
-ghost use Rattle.record_file.specs.Known.{known_of};
+ghost use Rattle.std.specs.Prelude.{IfErr, IfOk};
+ghost use Rattle.machine_load.specs.Asked.{task, ◌⇒◌};
+ghost use Rattle.machine_load.specs.Load.{GoesOn};
+ghost use Rattle.machine_load.specs.LoadFault.{IsLoadFault};
+ghost use Rattle.machine_load.specs.Scene.{ending};
 ghost use Rattle.simulated_system.specs.ToldSteps.{steps_of, written_to};
-ghost use Rattle.load_tests.specs.Told.{record_told, IsAskedAndClosed};
+ghost use Rattle.load_tests.specs.Told.{memory_line, record_told, IsReportedSo, IsSoAndClosed};
 
 use crate::memory_reach::MemoryReach;
 use honest_line::MemoryLine;
@@ -16,8 +18,8 @@ use std::alloc::Global;
 use std::io::Write;
 use tape_image::Plan;
 
-/// Loads a plan into a machine in memory, and closes its record. What `load` and `close` promise of the disk
-/// on which the record is, is so of this one, which tells.
+/// Loads a plan into a machine in memory, and closes its record. What `load` and `close` promise where the record is on a
+/// disk is so of this one, which tells what it was asked.
 pub(crate) fn load_on_disk<'a, W: Write>(
     alloc: Global,
     plan: Plan,
@@ -25,12 +27,12 @@ pub(crate) fn load_on_disk<'a, W: Write>(
     mut around: Around<MemoryReach, RecordFile<'_, ToldDisk<'a>>>,
     out: &mut W,
 ) -> (Result<Outcome<MemoryLine>, LoadFault>, ToldDisk<'a>)
-    ensures disk { IfOk result.0 (λ outcome. IsAskedAndClosed (disk_asked_by outcome.end outcome.line)
-        (record_told (steps_of around.entry.records.disk.asked) around.entry.records.name.now (option_map (known_of written_to) around.entry.records.held))
-        (steps_of result.1.asked)) }
-    ensures disk_in_vain { IfErr result.0 (λ fault. IsAskedAndClosed (disk_asked_before fault)
-        (record_told (steps_of around.entry.records.disk.asked) around.entry.records.name.now (option_map (known_of written_to) around.entry.records.held))
-        (steps_of result.1.asked)) }
+    ensures ok { IfOk result.0 (λ outcome. IsSoAndClosed (IsReportedSo (task plan options) (ending memory_line outcome))
+        (record_told written_to (steps_of around.entry.records.disk.asked) around.entry.records.name.now around.entry.records.held)
+        (W.contents out.old ⇒ W.contents out.new) (steps_of result.1.asked)) }
+    ensures err { IfErr result.0 (λ why. IsSoAndClosed (λ setting. IsLoadFault GoesOn (task plan options) setting why)
+        (record_told written_to (steps_of around.entry.records.disk.asked) around.entry.records.name.now around.entry.records.held)
+        (W.contents out.old ⇒ W.contents out.new) (steps_of result.1.asked)) }
 {
     let outcome = load(alloc, plan, options, &mut around, out, &Unwatched);
     (outcome, around.records.close())

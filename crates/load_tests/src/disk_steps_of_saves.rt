@@ -4,6 +4,7 @@ use crate::disk_saves::save_on_disk;
 use crate::loads_in_a_row::new_machine;
 use crate::memory_reach::MemoryReach;
 use machine_look::{LookFault, SaveEnd, SaveOptions};
+use reading_core::Care;
 use request_values::AddressRange;
 use simulated_system::{FailingSteps, ToldDisk};
 use std::alloc::Global;
@@ -147,6 +148,7 @@ fn options() -> Option<SaveOptions> {
         range: AddressRange::new(ADDRESS, ADDRESS)?,
         start: ADDRESS,
         patience: 8,
+        care: Care::Twice,
     })
 }
 

@@ -30,6 +30,7 @@ pub(crate) const OPTIONS: LoadOptions = LoadOptions {
     patience: 8,
     recheck: false,
     fast: false,
+    careful: false,
 };
 
 // A bench, and what came of the loads on it so far.

@@ -18,7 +18,7 @@ use Rattle.reading_core.specs.Laws.{led}
 use Rattle.reading_core.specs.Reader.{Reader}
 use Rattle.reading_core.specs.ReadingTable.{ask, is_read, turn_of}
 use Rattle.reading_core.specs.declared.turn.Turn.{Turn}
-use Rattle.reading_core.specs.declared.turn.Turn.TheVariants.{Listen, Key, Read, Next, Stop as Stops, Stray, Timeout}
+use Rattle.reading_core.specs.declared.turn.Turn.TheVariants.{Listen, Key, Read, Again, Next, Stop as Stops, Stray, Timeout}
 use Rattle.trial_core.specs.declared.trial.Trial.{Trial}
 use Rattle.trial_core.specs.Laws.{led as trial_led}
 use Rattle.trial_core.specs.TrialTable.{ask as trial_ask}
@@ -142,6 +142,7 @@ reads_one : (turn : Turn) (front : List ℕ) (item : ℕ) (rest : List ℕ) → 
 reads_one (Read number) front item rest e = refl
 reads_one (Listen phase) front item rest e = absurd (nothing_given front item rest e)
 reads_one (Key key phase) front item rest e = absurd (nothing_given front item rest e)
+reads_one (Again number) front item rest e = absurd (nothing_given front item rest e)
 reads_one Next front item rest e = absurd (nothing_given front item rest e)
 reads_one (Stops end) front item rest e = absurd (nothing_given front item rest e)
 reads_one Stray front item rest e = absurd (nothing_given front item rest e)

@@ -10,7 +10,7 @@ use Rattle.engine.specs.declared.stop.Stop.TheVariants.{Ended as Ends, LineFaile
 use Rattle.engine.proofs.Turns.{unkept_news}
 use Rattle.reading_core.specs.declared.phase.End.{End}
 use Rattle.reading_core.specs.declared.turn.Turn.{Turn}
-use Rattle.reading_core.specs.declared.turn.Turn.TheVariants.{Listen, Key, Read, Next, Stop, Stray, Timeout}
+use Rattle.reading_core.specs.declared.turn.Turn.TheVariants.{Listen, Key, Read, Again, Next, Stop, Stray, Timeout}
 use Rattle.reading_core.specs.Reader.{Reader}
 use Rattle.reading_core.specs.ReadingTable.{ask, turn_of, values_after}
 use Rattle.reading_core.proofs.Lives.{asked}
@@ -20,6 +20,7 @@ pub behind_turn : (values : List ℕ) (turn : Turn) → values_after values turn
 behind_turn values (Listen phase) = sym (append-nil values)
 behind_turn values (Key key phase) = sym (append-nil values)
 behind_turn values (Read value) = refl
+behind_turn values (Again value) = sym (append-nil values)
 behind_turn values Next = sym (append-nil values)
 behind_turn values (Stop end) = sym (append-nil values)
 behind_turn values Stray = sym (append-nil values)

@@ -32,7 +32,7 @@ use Rattle.looking_law.proofs.Events.{Leads, dialogue_leads}
 begin_mirrored : (r : Reader) (machine : Machine) (waiting : List ℕ) → IsReader r → MayLook r machine → length waiting ≤ 32 → IsMirrored machine.memory (over r (resting machine waiting 0))
 begin_mirrored r machine waiting is may few =
     subst (λ q. IsMirrored machine.memory (over q (resting machine waiting 0))) (sym may.begun)
-    (opened_mirrored machine r.addresses r.values waiting r.patience may.console may.stopped is.asked is.within few is.long (record { lies = may.read.lies; holds = may.read.holds }))
+    (opened_mirrored machine r.manner r.addresses r.values waiting r.patience may.console may.stopped is.asked is.within few is.long (record { lies = may.read.lies; holds = may.read.holds }))
 
 -- ---- the run
 
@@ -102,7 +102,7 @@ stopped_with (Running p) runs = absurd (cc runs)
 pub leave_ready : ReadingsLeaveItReady
 leave_ready r things machine now lost is may honest =
     let left : IsMirrored machine.memory (over (led r things) honest.end) = dialogue_mirrored r things machine honest.waiting honest.end is may honest.few honest.passes in
-    subst IsReadyMachine honest.machine_is record { console = left.kept.machine; stopped = stopped_with honest.end.machine.mode left.kept.running }
+    subst IsReadyMachine honest.machine_is record { console = left.books.kept.machine; stopped = stopped_with honest.end.machine.mode left.books.kept.running }
 
 -- ---- the dialogue without its last key
 

@@ -9,17 +9,17 @@ use Rattle.host_core.specs.Answers.{resynchronise_reply, return_reply, digit_ech
 use Rattle.host_core.proofs.Frame.{on_test}
 use Rattle.host_core.proofs.Replies.{either, resynchronise_walk, return_walk, echo_walk, start_walk, rest_walk}
 use Rattle.line_world.specs.declared.event.Event.{Event}
-use Rattle.line_world.specs.declared.event.Event.TheVariants.{Take, Hear, LoseDown, LoseUp, Quiet, Restart}
+use Rattle.line_world.specs.declared.event.Event.TheVariants.{Take, Hear, LoseDown, LoseUp, ChangeDown, ChangeUp, Quiet, Restart}
 use Rattle.line_world.specs.Wire.{without_down, without_up}
 use Rattle.reading_core.specs.declared.phase.Phase.{Phase}
-use Rattle.reading_core.specs.declared.phase.Phase.TheVariants.{Settle, Sync, Address, Slash, Before, Value, Close, Ended}
+use Rattle.reading_core.specs.declared.phase.Phase.TheVariants.{Settle, Sync, Address, Slash, Before, Value, Close, Refused, Ended}
 use Rattle.reading_core.specs.declared.phase.End.TheVariants.{Complete, GaveUp}
 use Rattle.reading_core.specs.declared.turn.Turn.{Turn}
-use Rattle.reading_core.specs.declared.turn.Turn.TheVariants.{Listen, Key, Read, Next, Stop, Stray, Timeout}
+use Rattle.reading_core.specs.declared.turn.Turn.TheVariants.{Listen, Key, Read, Again, Next, Stop, Stray, Timeout}
 use Rattle.reading_core.specs.Laws.{replay}
-use Rattle.reading_core.specs.Reader.{Reader, address_under_way, restarted}
-use Rattle.reading_core.specs.ReadingTable.{ask, taken, turn_of, hears, waits, sends, listens, synced, addressed, reads, closed}
-use Rattle.line_world.specs.Scene.{wire_of, over}
+use Rattle.reading_core.specs.Reader.{Reader, address_under_way, looks_twice, restarted}
+use Rattle.reading_core.specs.ReadingTable.{ask, taken, turn_of, hears, waits, sends, listens, synced, addressed, Target, doubts, judged, target_of, questioned, reads, closed, refused}
+use Rattle.line_world.specs.Scene.{wire_of, over_when}
 use Rattle.line_world.specs.Happening.{takes, host_hears as world_hears, times_out, typed_hearing, typed_timeout}
 use Rattle.looking_law.specs.Inquiry.{Inquiry, happens, typed_in, typed, reading}
 use Rattle.looking_law.specs.Harmless.{IsLooking, OnlyLook}
@@ -45,6 +45,7 @@ abbrev TurnLooks : Bool → Turn → Type 0
 TurnLooks slash (Listen phase) = Agrees slash phase
 TurnLooks slash (Key key phase) = IsLooking slash key × Agrees (key == 47) phase
 TurnLooks slash (Read value) = Unit {0}
+TurnLooks slash (Again value) = Unit {0}
 TurnLooks slash Next = slash ≡ false
 TurnLooks slash (Stop end) = Unit {0}
 TurnLooks slash Stray = Unit {0}
@@ -75,15 +76,16 @@ taken_looks : (slash : Bool) (r : Reader) (turn : Turn) → TurnLooks slash turn
 taken_looks slash r (Listen phase) h = h
 taken_looks slash r (Key key phase) h = h
 taken_looks slash r (Read value) h = (returns_look slash, λ e. absurd (cc e))
+taken_looks slash r (Again value) h = (returns_look slash, λ e. absurd (cc e))
 taken_looks slash r Next h =
     on_test (λ v. LooksOn slash (if v then sends r (digit_of (address_under_way r) 1) (Address 1) else listens r (Ended Complete)).key (if v then sends r (digit_of (address_under_way r) 1) (Address 1) else listens r (Ended Complete)).next.phase)
     (nat_lt (length r.values) (length r.addresses)) (λ _. (digit_looks slash (address_under_way r) 1 h, no_slash (address_under_way r) 1 ⊥)) (λ _. λ _. tt)
 taken_looks slash r (Stop end) h = λ _. tt
 taken_looks slash r Stray h =
-    on_test (λ v. LooksOn slash (if v then listens (record r { spent = r.spent + 1 }) Settle else listens r (Ended GaveUp)).key (if v then listens (record r { spent = r.spent + 1 }) Settle else listens r (Ended GaveUp)).next.phase)
+    on_test (λ v. LooksOn slash (if v then listens (record r { spent = r.spent + 1; earlier = None }) Settle else listens r (Ended GaveUp)).key (if v then listens (record r { spent = r.spent + 1; earlier = None }) Settle else listens r (Ended GaveUp)).next.phase)
     (nat_lt r.spent r.patience) (λ _. λ _. tt) (λ _. λ _. tt)
 taken_looks slash r Timeout h =
-    on_test (λ v. LooksOn slash (if v then sends (record r { spent = r.spent + 1 }) 90 (Sync 0) else listens r (Ended GaveUp)).key (if v then sends (record r { spent = r.spent + 1 }) 90 (Sync 0) else listens r (Ended GaveUp)).next.phase)
+    on_test (λ v. LooksOn slash (if v then sends (record r { spent = r.spent + 1; earlier = None }) 90 (Sync 0) else listens r (Ended GaveUp)).key (if v then sends (record r { spent = r.spent + 1; earlier = None }) 90 (Sync 0) else listens r (Ended GaveUp)).next.phase)
     (nat_lt r.spent r.patience) (λ _. (resync_looks slash, λ e. absurd (cc e))) (λ _. λ _. tt)
 
 -- ---- the rows
@@ -104,24 +106,38 @@ address_looks slash address place c e =
     echo_walk (λ echo. TurnLooks slash (addressed place echo)) address place c tt
     (λ _ _. (digit_looks slash address (place + 1) e, no_slash address (place + 1) ⊥)) (λ _ _. (slash_looks slash e, λ _. tt))
 
-before_looks : (slash : Bool) (address c : ℕ) → TurnLooks slash (reads address (reading_start c))
-before_looks slash address c = start_walk (λ r. TurnLooks slash (reads address r)) c tt (λ _. tt) tt (λ _ _. λ _. tt)
+questioned_looks : (slash twice : Bool) (address : ℕ) → TurnLooks slash (questioned twice address)
+questioned_looks slash true address = λ _. tt
+questioned_looks slash false address = tt
 
-value_looks : (slash : Bool) (address value place c : ℕ) → TurnLooks slash (reads address (reading_rest value place c))
-value_looks slash address value place c = rest_walk (λ r. TurnLooks slash (reads address r)) value place c tt (λ _ _ _. λ _. tt) (λ _ _ _. λ _. tt) (λ _ _. tt)
+judged_looks : (slash : Bool) (earlier : Option ℕ) (doubted : Bool) (number : ℕ) → TurnLooks slash (judged earlier doubted number)
+judged_looks slash None true number = tt
+judged_looks slash None false number = tt
+judged_looks slash (Some first) doubted number = either (TurnLooks slash) (number == first) _ _ (λ _. tt) (λ _. tt)
+
+before_looks : (slash : Bool) (t : Target) (c : ℕ) → TurnLooks slash (reads t (reading_start c))
+before_looks slash t c = start_walk (λ reading. TurnLooks slash (reads t reading)) c tt (λ _. tt) (questioned_looks slash (looks_twice t.care) t.address) (λ _ _. λ _. tt)
+
+value_looks : (slash : Bool) (t : Target) (value place c : ℕ) → TurnLooks slash (reads t (reading_rest value place c))
+value_looks slash t value place c =
+    rest_walk (λ reading. TurnLooks slash (reads t reading)) value place c tt (λ _ _ _. λ _. tt) (λ _ _ _. λ _. tt) (λ _ _. judged_looks slash t.earlier (doubts t.care t.expected value) value)
+
+refused_looks : (slash : Bool) (address place c : ℕ) → TurnLooks slash (refused address (return_reply place c))
+refused_looks slash address place c = return_walk (λ reply. TurnLooks slash (refused address reply)) place c tt (λ _ _. λ _. tt) (λ _. tt)
 
 close_looks : (slash : Bool) (place c : ℕ) → slash ≡ false → TurnLooks slash (closed (return_reply place c))
 close_looks slash place c e = return_walk (λ r. TurnLooks slash (closed r)) place c tt (λ _ _. λ s. cc) (λ _. e)
 
-hears_look : (slash : Bool) (address : ℕ) (phase : Phase) (c : ℕ) → Agrees slash phase → TurnLooks slash (hears address phase c)
-hears_look slash address Settle c a = a
-hears_look slash address (Sync place) c a = sync_looks slash place c (isnt slash a)
-hears_look slash address (Address place) c a = address_looks slash address place c (isnt slash a)
-hears_look slash address Slash c a = either (TurnLooks slash) (c == 47) _ _ (λ _. λ _. tt) (λ _. tt)
-hears_look slash address Before c a = before_looks slash address c
-hears_look slash address (Value value place) c a = value_looks slash address value place c
-hears_look slash address (Close place) c a = close_looks slash place c (isnt slash a)
-hears_look slash address (Ended end) c a = a
+hears_look : (slash : Bool) (t : Target) (phase : Phase) (c : ℕ) → Agrees slash phase → TurnLooks slash (hears t phase c)
+hears_look slash t Settle c a = a
+hears_look slash t (Sync place) c a = sync_looks slash place c (isnt slash a)
+hears_look slash t (Address place) c a = address_looks slash t.address place c (isnt slash a)
+hears_look slash t Slash c a = either (TurnLooks slash) (c == 47) _ _ (λ _. λ _. tt) (λ _. tt)
+hears_look slash t Before c a = before_looks slash t c
+hears_look slash t (Value value place) c a = value_looks slash t value place c
+hears_look slash t (Close place) c a = close_looks slash place c (isnt slash a)
+hears_look slash t (Refused place) c a = refused_looks slash t.address place c
+hears_look slash t (Ended end) c a = a
 
 waits_look : (slash : Bool) (phase : Phase) → Agrees slash phase → TurnLooks slash (waits phase)
 waits_look slash Settle a = (resync_looks slash, λ e. absurd (cc e))
@@ -131,10 +147,11 @@ waits_look slash Slash a = tt
 waits_look slash Before a = tt
 waits_look slash (Value value place) a = tt
 waits_look slash (Close place) a = tt
+waits_look slash (Refused place) a = tt
 waits_look slash (Ended end) a = a
 
 turn_looks : (slash : Bool) (r : Reader) (heard : Heard) → Agrees slash r.phase → TurnLooks slash (turn_of r heard)
-turn_looks slash r (Got c) a = hears_look slash (address_under_way r) r.phase c a
+turn_looks slash r (Got c) a = hears_look slash (target_of r) r.phase c a
 turn_looks slash r Silence a = waits_look slash r.phase a
 
 ask_looks : (slash : Bool) (r : Reader) (heard : Heard) → Agrees slash r.phase → LooksOn slash (ask r heard).key (ask r heard).next.phase
@@ -175,8 +192,10 @@ begun_agrees slash false = λ _. tt
 event_looks : (slash : Bool) (w : Inquiry) (event : Event) → Agrees slash w.core.phase → LooksStep slash (happens w event) (typed_in w event)
 event_looks slash w Take a = taking_looks slash w w.down a
 event_looks slash w Hear a = hearing_looks slash w w.up a
-event_looks slash w (LoseDown k) a = losing_looks slash w (over w.core (without_down (wire_of w) k)) (ltb k (length w.down)) a a
-event_looks slash w (LoseUp k) a = losing_looks slash w (over w.core (without_up (wire_of w) k)) (ltb k (length w.up)) a a
+event_looks slash w (LoseDown k) a = losing_looks slash w (over_when w.changed w.core (without_down (wire_of w) k)) (ltb k (length w.down)) a a
+event_looks slash w (LoseUp k) a = losing_looks slash w (over_when w.changed w.core (without_up (wire_of w) k)) (ltb k (length w.up)) a a
+event_looks slash w (ChangeDown k c) a = λ more rest. rest slash a
+event_looks slash w (ChangeUp k c) a = λ more rest. rest slash a
 event_looks slash w Quiet a = silence_looks slash w w.down w.up a
 event_looks slash w (Restart kept) a = λ more rest. rest slash (begun_agrees slash (length (restarted w.core kept).values == length w.core.addresses))
 

@@ -7,9 +7,9 @@ use Rattle.host_devices.specs.declared.item.Item.{Item}
 use Rattle.host_devices.specs.Dialogue.{keys_of}
 use Rattle.honest_line.specs.Honest.{IsHonest}
 use Rattle.reading_core.specs.declared.phase.Phase.{Phase}
-use Rattle.reading_core.specs.declared.phase.Phase.TheVariants.{Settle, Sync, Address, Slash, Before, Value, Close, Ended}
+use Rattle.reading_core.specs.declared.phase.Phase.TheVariants.{Settle, Sync, Address, Slash, Before, Value, Close, Refused, Ended}
 use Rattle.reading_core.specs.declared.phase.End.TheVariants.{Complete, GaveUp, NoWord}
-use Rattle.reading_core.specs.Reader.{Reader, begun}
+use Rattle.reading_core.specs.Reader.{Manner, Reader, begun, begun_in, once}
 use Rattle.reading_core.proofs.Turns.{fresh_kept}
 use Rattle.reading_core.specs.Laws.{led}
 use Rattle.looking_law.specs.Belief.{IsReadyMachine, IsTrueReading, MayLook, dialogue}
@@ -39,6 +39,7 @@ more_pay Slash memory patience lost more le cause = tt
 more_pay Before memory patience lost more le cause = tt
 more_pay (Value value place) memory patience lost more le cause = tt
 more_pay (Close place) memory patience lost more le cause = tt
+more_pay (Refused place) memory patience lost more le cause = tt
 
 still_true : (memory : List ℕ) (r : Reader) (keys : List ℕ) (lost more : ℕ) → lost ≤ more → IsTrueReading memory r memory keys lost → IsTrueReading memory r memory keys more
 still_true memory r keys lost more le t =
@@ -57,13 +58,16 @@ borne_out memory lost more le (Try address old patience heard) only = only
 
 -- ---- one run
 
-pub may_begin : (addresses : List ℕ) (patience : ℕ) (machine : Machine) → IsReadyMachine machine → MayLook (begun addresses [] patience) machine
-may_begin addresses patience machine ready = record {
+pub may_begin_in : (manner : Manner) (addresses : List ℕ) (patience : ℕ) (machine : Machine) → IsReadyMachine machine → MayLook (begun_in manner addresses [] patience) machine
+may_begin_in manner addresses patience machine ready = record {
   begun = refl;
   console = ready.console;
   stopped = ready.stopped;
   read = record { lies = λ i low. absurd (omega (arith, low)); holds = λ i low. absurd (omega (arith, low)) };
 }
+
+pub may_begin : (addresses : List ℕ) (patience : ℕ) (machine : Machine) → IsReadyMachine machine → MayLook (begun addresses [] patience) machine
+may_begin addresses patience machine ready = may_begin_in once addresses patience machine ready
 
 pub run_begins : (run : Run) → BeginsByListening (dialogue_of run)
 run_begins (Look addresses patience heard) = reading_begins (begun addresses [] patience) heard

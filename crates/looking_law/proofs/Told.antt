@@ -53,7 +53,7 @@ told_tidy all told machine front tidy waiting end few passes =
 reading_tidy : (r : Reader) (things : List Heard) (machine : Machine) → IsReader r → MayLook r machine → EndsTidily machine (dialogue r things)
 reading_tidy r things machine is may waiting end few passes =
     let left : IsMirrored machine.memory (over (led r things) end) = dialogue_mirrored r things machine waiting end is may few passes in
-    record { one_way = left.kept.one_way; few = left.kept.few }
+    record { one_way = left.books.kept.one_way; few = left.books.kept.few }
 
 pub readings_tidy : ReadingsEndTidily
 readings_tidy r things told machine is may front = told_tidy (dialogue r things) told machine front (reading_tidy r things machine is may)

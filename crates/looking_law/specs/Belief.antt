@@ -7,7 +7,7 @@ use Rattle.host_devices.specs.declared.item.Item.{Item}
 use Rattle.host_devices.specs.declared.item.Item.TheVariants.{Sent, Heard as Came}
 use Rattle.host_devices.specs.Dialogue.{said, keys_of}
 use Rattle.honest_line.specs.Honest.{IsHonest}
-use Rattle.reading_core.specs.Reader.{Reader, begun}
+use Rattle.reading_core.specs.Reader.{Reader, begun_in}
 use Rattle.reading_core.specs.Invariant.{IsReader}
 use Rattle.reading_core.specs.Laws.{led}
 use Rattle.reading_core.specs.ReadingTable.{ask}
@@ -21,7 +21,7 @@ dialogue r (heard ∷ more) = Came heard ∷ (said (ask r heard).key ++ dialogue
 -- a reading may begin over this machine: the host is at the beginning of a life, no program runs, and the numbers that
 -- count as read are what memory holds
 pub record MayLook (r : Reader) (machine : Machine) : Type 0 where
-  pub begun : r ≡ begun r.addresses r.values r.patience
+  pub begun : r ≡ begun_in r.manner r.addresses r.values r.patience
   pub console : IsMachine machine
   pub stopped : is_running machine.mode ≡ false
   pub read : HoldsRead machine.memory r

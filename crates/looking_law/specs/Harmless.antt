@@ -12,7 +12,7 @@ use Rattle.reading_core.specs.declared.phase.Phase.TheVariants.{Ended}
 use Rattle.reading_core.specs.declared.phase.End.{End}
 use Rattle.reading_core.specs.declared.phase.End.TheVariants.{GaveUp, NoWord}
 use Rattle.reading_core.specs.Addresses.{AreAddresses}
-use Rattle.reading_core.specs.Reader.{Reader, begun}
+use Rattle.reading_core.specs.Reader.{Manner, Reader, begun_in}
 use Rattle.looking_law.specs.Inquiry.{Inquiry, opened, after, typed}
 
 -- memory has a word at each address that was read, and it is the number that was read there
@@ -50,11 +50,11 @@ pub record IsHarmless (memory : List ℕ) (w : Inquiry) : Type 0 where
   pub spent : w.core.spent ≤ w.lost
   pub cause : HasCause w.core.phase memory w.core.patience w.lost
 
--- over every machine that runs no program, whatever it is in the middle of and whatever few answers wait: after any
--- deliveries, losses both ways, timeouts and restarts, in any order, no harm is done and only looking keys were typed
+-- in every manner and over every machine that runs no program, whatever it is in the middle of and whatever few answers wait:
+-- after any deliveries, losses both ways, timeouts and restarts, in any order, no harm is done and only looking keys were typed
 abbrev pub ReadingsDoNoHarm : Type 0
 ReadingsDoNoHarm =
-    (machine : Machine) (addresses waiting : List ℕ) (patience : ℕ) (events : List Event) →
+    (machine : Machine) (manner : Manner) (addresses waiting : List ℕ) (patience : ℕ) (events : List Event) →
     IsMachine machine → is_running machine.mode ≡ false → AreAddresses addresses → length waiting ≤ most_waiting → patience < 2 ^ 32 →
-    IsHarmless machine.memory (after (opened machine (begun addresses [] patience) waiting) events)
-    × OnlyLook false (typed (opened machine (begun addresses [] patience) waiting) events)
+    IsHarmless machine.memory (after (opened machine (begun_in manner addresses [] patience) waiting) events)
+    × OnlyLook false (typed (opened machine (begun_in manner addresses [] patience) waiting) events)

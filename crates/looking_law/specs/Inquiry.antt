@@ -1,6 +1,6 @@
 -- The world of a host that only looks: its machine, its line and its events are those of the loading host's world; only the host at the end of the line
 -- is another.
-use Rattle.std.specs.Prelude.{ℕ, List, []}
+use Rattle.std.specs.Prelude.{ℕ, false, List, []}
 use Rattle.odt_machine.specs.Machine.{Machine}
 use Rattle.line_world.specs.declared.event.Event.{Event}
 use Rattle.line_world.specs.Scene.{World}
@@ -11,9 +11,15 @@ use Rattle.reading_core.specs.ReadingTable.{ask}
 abbrev pub Inquiry : Type 0
 Inquiry = World Reader
 
--- the reading host
+-- the reading host; a line that it is at changes no character
 abbrev pub reading : Kind Reader
-reading = record { next = λ r what. (ask r what).next; key = λ r what. (ask r what).key; restarted = restarted }
+reading = record {
+  next = λ r what. (ask r what).next;
+  key = λ r what. (ask r what).key;
+  begins = λ r what. false;
+  restarted = restarted;
+  careful = λ r. false;
+}
 
 -- the world after an event, an impossible one skipped
 abbrev pub happens : Inquiry → Event → Inquiry
@@ -33,4 +39,4 @@ typed w events = any_typed reading w events
 
 -- the world at its opening: these answers wait, no key is under way, nothing is lost
 abbrev pub opened : Machine → Reader → List ℕ → Inquiry
-opened machine reader waiting = record { machine = machine; core = reader; down = []; up = waiting; lost = 0 }
+opened machine reader waiting = record { machine = machine; core = reader; down = []; up = waiting; lost = 0; changed = false }

@@ -6,7 +6,7 @@ use Rattle.std.proofs.lemmas.Bool.Decides.{nat_tests}
 use Rattle.octal.specs.Octal.{octal_value}
 use Rattle.odt_machine.specs.declared.style.Style.{Style}
 use Rattle.odt_machine.specs.Style.{style_number}
-use Rattle.line_world.specs.declared.event.Event.TheVariants.{Take, Hear, LoseDown, LoseUp, Quiet, Restart}
+use Rattle.line_world.specs.declared.event.Event.TheVariants.{Take, Hear, LoseDown, LoseUp, ChangeDown, ChangeUp, Quiet, Restart}
 use Rattle.loss_scripts.specs.declared.line.ScriptStep.{ScriptStep}
 use Rattle.loss_scripts.specs.declared.line.ScriptStep.TheVariants.{Times, Until, Clean}
 use Rattle.loss_scripts.specs.declared.line.Setting.{Setting}
@@ -85,6 +85,8 @@ steps text (Times Take n) h = ⊎_elim (λ once. ap meaning once.0 ∙ ap (λ m.
 steps text (Times Hear n) h = ⊎_elim (λ once. ap meaning once.0 ∙ ap (λ m. line.Step (Times Hear m)) (sym once.1)) (counted text (codes "hear ") n (λ m. line.Step (Times Hear m)) hear_times) h
 steps text (Times (LoseDown k) n) h = numbered text (codes "down ") 0 255 k (λ j. line.Step (Times (LoseDown j) 1)) (λ rest. refl) h.0 ∙ ap (λ m. line.Step (Times (LoseDown k) m)) (sym h.1)
 steps text (Times (LoseUp k) n) h = numbered text (codes "up ") 0 255 k (λ j. line.Step (Times (LoseUp j) 1)) (λ rest. refl) h.0 ∙ ap (λ m. line.Step (Times (LoseUp k) m)) (sym h.1)
+steps text (Times (ChangeDown k c) n) h = absurd h
+steps text (Times (ChangeUp k c) n) h = absurd h
 steps text (Times Quiet n) h = ap meaning h.0 ∙ ap (λ m. line.Step (Times Quiet m)) (sym h.1)
 steps text (Times (Restart k) n) h = numbered text (codes "restart ") 0 4294967295 k (λ j. line.Step (Times (Restart j) 1)) (λ rest. refl) h.0 ∙ ap (λ m. line.Step (Times (Restart k) m)) (sym h.1)
 steps text (Until n) h = numbered text (codes "to ") 1 4294967295 n (λ m. line.Step (Until m)) (λ rest. refl) h

@@ -5,7 +5,7 @@ use Rattle.std.specs.Str.Parse.{AllDigits, digits_value}
 use Rattle.octal.specs.Octal.{IsOct6}
 use Rattle.odt_machine.specs.Machine.{largest_words}
 use Rattle.odt_machine.specs.Style.{largest_style, style_number}
-use Rattle.line_world.specs.declared.event.Event.TheVariants.{Take, Hear, LoseDown, LoseUp, Quiet, Restart}
+use Rattle.line_world.specs.declared.event.Event.TheVariants.{Take, Hear, LoseDown, LoseUp, ChangeDown, ChangeUp, Quiet, Restart}
 use Rattle.line_world.specs.Wire.{most_waiting}
 use Rattle.loss_scripts.specs.declared.line.ScriptLine.{ScriptLine}
 use Rattle.loss_scripts.specs.declared.line.ScriptLine.TheVariants as line
@@ -92,12 +92,14 @@ IsSetting text (Put address value) = IsPut text address value
 abbrev pub IsCounted : List ℕ → List ℕ → List ℕ → ℕ → Type 0
 IsCounted text alone counted n = ((text ≡ alone) × (n ≡ 1)) ⊎ HasNumber text (field counted 1 most_times) n
 
--- what an event line says, one row for each form
+-- what an event line says, one row for each form; no line changes a character
 abbrev pub IsStep : List ℕ → ScriptStep → Type 0
 IsStep text (Times Take n) = IsCounted text (codes "take") (codes "take ") n
 IsStep text (Times Hear n) = IsCounted text (codes "hear") (codes "hear ") n
 IsStep text (Times (LoseDown k) n) = HasNumber text (field (codes "down ") 0 last_place) k × (n ≡ 1)
 IsStep text (Times (LoseUp k) n) = HasNumber text (field (codes "up ") 0 last_place) k × (n ≡ 1)
+IsStep text (Times (ChangeDown k c) n) = ⊥
+IsStep text (Times (ChangeUp k c) n) = ⊥
 IsStep text (Times Quiet n) = (text ≡ codes "quiet") × (n ≡ 1)
 IsStep text (Times (Restart k) n) = HasNumber text (field (codes "restart ") 0 largest_number) k × (n ≡ 1)
 IsStep text (Until n) = HasNumber text (field (codes "to ") 1 largest_number) n

@@ -15,11 +15,8 @@ use Rattle.machine_load.specs.Driving.{KeeperTells, IsDrivenOn}
 use Rattle.machine_load.specs.Load.{SurroundingsTold, Ending, Finish, GoesOn, Setting, IsReportCutShort, IsLived, IsLoad, IsReported}
 use Rattle.machine_load.specs.LoadFault.{IsLoadFault}
 use Rattle.machine_load.specs.Parts.{IsDrivenBehind, IsDrivenUnless, IsKeptBehind, Unless, course, told_by}
-use Rattle.machine_load.specs.RecordDisk.{DiskAsked, RecordDisk, disk_asked_by}
 use Rattle.machine_load.specs.Scene.{IsLoadReported, IsLoadUnreported, IsLoaded, IsNotLoaded, LoadTells, Scene, ending}
 use Rattle.machine_load.specs.Stubs.{hindrance, host_behind}
-use Rattle.machine_load.specs.declared.load_end.LoadEnd.{LoadEnd}
-use Rattle.machine_load.specs.declared.load_end.LoadEnd.TheVariants.{Driven, Unfinished, Stale}
 use Rattle.machine_load.specs.declared.outcome.Outcome.{Outcome}
 use Rattle.machine_load.specs.declared.stubs.Stubs.{Stubs}
 use Rattle.machine_load.specs.declared.fault.LoadFault.{LoadFault}
@@ -36,6 +33,7 @@ over_line tells opened around finish (inr (inr life)) = inr (inr (record {
   all_stand = life.all_stand;
   driven = record {
     asked = life.driven.asked;
+    begun_there = life.driven.begun_there;
     stubs_asked = life.driven.stubs_asked;
     line' = life.driven.line';
     has_line = life.driven.has_line;
@@ -96,20 +94,12 @@ asked_by_told : {L M : Type 0} (tell : L → M) (call : Call) (line : Option L) 
 asked_by_told tell call (Some line) asked asked' h = h
 asked_by_told tell call None asked asked' h = h
 
-disk_by_told : {L M : Type 0} (tell : L → M) (end : LoadEnd) (line : Option L) (disk disk' : Option RecordDisk) → DiskAsked disk disk' (disk_asked_by end line)
-    → DiskAsked disk disk' (disk_asked_by end (option_map tell line))
-disk_by_told tell (Driven stop) (Some line) disk disk' h = h
-disk_by_told tell (Driven stop) None disk disk' h = h
-disk_by_told tell (Unfinished stop) line disk disk' h = h
-disk_by_told tell (Stale address) line disk disk' h = h
-
 -- a load over its line and its keeper is one for whoever does not know their types
 pub load_reported : {L K : Type 0} (tells : LoadTells L K) (task : LoadTask) (scenes : Change Scene) (outcome : Outcome L) → IsLoaded tells task scenes outcome
     → IsLoadReported task scenes (ending tells.line outcome)
 load_reported tells task scenes outcome load = record {
   reported = reported_over_line tells.keeper task (scenes.before.setting ⇒ scenes.after.setting) (ending tells.line outcome) load.reported;
   asked = asked_by_told (line_told tells.line) scenes.before.call outcome.line scenes.before.asked scenes.after.asked load.asked;
-  disk = disk_by_told (line_told tells.line) outcome.end outcome.line scenes.before.disk scenes.after.disk load.disk;
 }
 
 pub load_unreported : {K : Type 0} (keeper : KeeperTells K) (task : LoadTask) (scenes : Change Scene) (why : LoadFault) → IsNotLoaded keeper task scenes why
@@ -117,7 +107,6 @@ pub load_unreported : {K : Type 0} (keeper : KeeperTells K) (task : LoadTask) (s
 load_unreported keeper task scenes why load = record {
   fault = fault_over_line keeper task (scenes.before.setting ⇒ scenes.after.setting) why load.fault;
   asked = load.asked;
-  disk = load.disk;
 }
 
 -- the line of a load whose report failed was asked for, where there was one

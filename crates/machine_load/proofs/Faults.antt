@@ -1,12 +1,13 @@
 -- Reports that fail, and the loads that they are of.
-use Rattle.std.proofs.Common.{◌≡◌, ℕ, Bool, true, false, List, Option, None, Result, Ok, Err, IfErr, IfOk, IsErrAnd, [], ◌∷◌, inr, inl, refl, sym, subst, ap}
-use Rattle.std.proofs.KnownBytes.{Keeps-refl, Keeps-trans}
+use Rattle.std.proofs.Common.{◌≡◌, ℕ, Bool, true, List, Option, None, Result, Ok, Err, IfErr, IfOk, IsErrAnd, [], ◌∷◌, ◌∙◌, inr, inl, refl, sym, subst, ap}
+use Rattle.std.proofs.KnownBytes.{Keeps-refl}
 use Rattle.host_devices.specs.Devices.{LineTold}
-use Rattle.machine_load.specs.Step.{LoadStep, Connected, begin_step}
-use Rattle.host_devices.proofs.Told.{gains_join}
+use Rattle.machine_load.specs.Step.{Connected, begin_step}
+use Rattle.host_devices.specs.Told.{Gains}
+use Rattle.host_devices.proofs.Told.{gains_join, gains_none}
 use Rattle.machine_load.specs.declared.looks.Looks.{Looks}
-use Rattle.machine_load.specs.GivenBack.{GivesLooked, GivesNone}
-use Rattle.machine_load.specs.Looks.{AreLooks, AreLooksAt, IsSampled, ended_by, unfinished_at}
+use Rattle.machine_load.specs.GivenBack.{GivesLooked}
+use Rattle.machine_load.specs.Looks.{AreLooks, AreLooksAt, IsSampled, behind_looks, ended_by, unfinished_at, vouched_for}
 use Rattle.reading_core.specs.Reader.{Reader}
 use Rattle.reading_core.specs.declared.phase.End.TheVariants.{Complete, GaveUp, NoWord}
 use Rattle.looking_engine.specs.Stopping.{LookStop}
@@ -20,74 +21,57 @@ use Rattle.machine_load.specs.Load.{HowItGoesOn, SurroundingsTold, Asks, IsOpene
 use Rattle.machine_load.specs.Asked.{LoadTask, ◌⇒◌}
 use Rattle.machine_load.specs.Called.{IsAskedBefore}
 use Rattle.machine_load.specs.Driving.{KeeperTells, IsDrivenOn}
-use Rattle.machine_load.specs.RecordDisk.{DiskAsked, disk_asked_before}
+use Rattle.machine_load.specs.RecordDisk.{DiskAsked, IsNotBegunOn, begun_text}
 use Rattle.machine_load.specs.Scene.{Scene, IsNotLoaded}
-use Rattle.machine_load.specs.LoadFault.{IsLoadFault, IsOpeningFault, IsBeginningFault, StopsOpened, StopsUnconnected, fault_of_record, gone}
+use Rattle.machine_load.specs.LoadFault.{IsLoadFault, IsOpeningFault, IsBeginningFault, fault_of_record, gone}
 use Rattle.record_file.specs.RecordFault.{IsUnbegun}
+use Rattle.tape_image.specs.Plan.{PlanValue}
 use Rattle.record_file.specs.declared.record_fault.RecordFault.{RecordFault}
 use Rattle.record_file.specs.declared.record_fault.RecordFault.TheVariants as why
 use Rattle.machine_load.specs.declared.fault.LoadFault.{LoadFault}
-use Rattle.machine_load.specs.declared.fault.LoadFault.TheVariants.{Record, RecordInUse, ReadRecord, Connect, WriteRecord, Memory}
+use Rattle.machine_load.specs.declared.fault.LoadFault.TheVariants.{ReadRecord, RecordInUse, Record, WriteOutput, Memory}
+use Rattle.console_lines.specs.Dialling.{Call, LineRequest}
 
 -- a life that does not open
 pub of_opening : (GoesSo : HowItGoesOn) (task : LoadTask) (before after : SurroundingsTold) (lines lines' : Option (List LineTold)) (out : Option (List ℕ)) (fault : LoadFault)
     → IsOpeningFault task.plan before after fault → KeepsRecord before after → lines' ≡ lines
     → IsLoadFault GoesSo task (record { around = before; lines = lines; out = out } ⇒ record { around = after; lines = lines'; out = out }) fault
-of_opening GoesSo task before after lines lines' out ReadRecord fails same unsaid =
-    record { steps_are = fails; record_same = same; nothing_said = unsaid; nothing_reported = Keeps-refl out }
-of_opening GoesSo task before after lines lines' out RecordInUse fails same unsaid =
-    record { steps_are = fails; record_same = same; nothing_said = unsaid; nothing_reported = Keeps-refl out }
-of_opening GoesSo task before after lines lines' out (Record why) fails same unsaid =
-    ((fails.0.0, record { steps_are = fails.0.1; record_same = same; nothing_said = unsaid; nothing_reported = Keeps-refl out }), fails.1)
-of_opening GoesSo task before after lines lines' out Memory (inl unread) same unsaid =
-    inl (inl (record { steps_are = unread; record_same = same; nothing_said = unsaid; nothing_reported = Keeps-refl out }))
-of_opening GoesSo task before after lines lines' out Memory (inr unlike) same unsaid =
-    inl (inr (record { steps_are = unlike; record_same = same; nothing_said = unsaid; nothing_reported = Keeps-refl out }))
-of_opening GoesSo task before after lines lines' out other fails same unsaid = absurd fails
+of_opening GoesSo task before after lines lines' out WriteOutput fails same unsaid = absurd fails
+of_opening GoesSo task before after lines lines' out other fails same unsaid =
+    inl (record { is_so = fails; record_same = same; nothing_said = unsaid; nothing_reported = Keeps-refl out })
 
--- an opened life comes to nothing, before anything is reported
-module _ (GoesSo : HowItGoesOn) (task : LoadTask) (before between after : SurroundingsTold) (lines lines' : Option (List LineTold)) (out : Option (List ℕ)) (first : Core) where
-  stops : (may_begin : Bool) (done : List LoadStep) (Gives : Core → Option (List LineTold) → Option (List LineTold) → Type 0) → IsOpened task (before ⇒ between) first may_begin → Asks between after done → Gives first lines lines'
-      → StopsOpened task (record { around = before; lines = lines; out = out } ⇒ record { around = after; lines = lines'; out = out }) may_begin done Gives
-  stops may_begin done Gives opened asks given =
-      record { first = first; between = between; opened = opened; steps_are = asks; given = given; nothing_reported = Keeps-refl out }
+-- nothing was asked for a line then
+pub asked_unopened : (plan : PlanValue) (before after : SurroundingsTold) (fault : LoadFault) (call : Call) (asked asked' : Option (List LineRequest))
+    → IsOpeningFault plan before after fault → asked' ≡ asked → IsAskedBefore call asked asked' fault
+asked_unopened plan before after ReadRecord call asked asked' fails same = subst (λ x. Gains asked x []) (sym same) (gains_none asked)
+asked_unopened plan before after RecordInUse call asked asked' fails same = subst (λ x. Gains asked x []) (sym same) (gains_none asked)
+asked_unopened plan before after (Record why) call asked asked' fails same = subst (λ x. Gains asked x []) (sym same) (gains_none asked)
+asked_unopened plan before after Memory call asked asked' fails same = inl (subst (λ x. Gains asked x []) (sym same) (gains_none asked))
+asked_unopened plan before after other call asked asked' fails same = absurd fails
 
-  unconnected : (may_begin : Bool) (done : List LoadStep) → IsOpened task (before ⇒ between) first may_begin → Asks between after done → KeepsRecord between after → GivesNone first lines lines'
-      → StopsUnconnected task (record { around = before; lines = lines; out = out } ⇒ record { around = after; lines = lines'; out = out }) may_begin done
-  unconnected may_begin done opened asks same given = (stops may_begin done GivesNone opened asks given, Keeps-trans _ _ _ opened.record_read same)
-
-  -- one whose record may be begun
-  of_busy : (fault : LoadFault) → IsOpened task (before ⇒ between) first true → IsBeginningFault true first (gone between lines ⇒ gone after lines') fault
-      → IsLoadFault GoesSo task (record { around = before; lines = lines; out = out } ⇒ record { around = after; lines = lines'; out = out }) fault
-  of_busy Connect opened fails = unconnected true _ opened fails.1 fails.2 fails.3
-  of_busy WriteRecord opened (inl unlike) = absurd (cc (unlike.0))
-  of_busy WriteRecord opened (inr unbegun) = inr (stops true _ GivesLooked opened unbegun.1 unbegun.2)
-  of_busy Memory opened (inl none) = inr (inl (unconnected true _ opened none.1.nothing_asked none.1.record_same none.2))
-  of_busy Memory opened (inr unbegun) = inr (inr (stops true _ GivesLooked opened unbegun.1 unbegun.2))
-  of_busy other opened fails = absurd fails
-
-  -- one whose record may not be begun
-  of_idle : (fault : LoadFault) → IsOpened task (before ⇒ between) first false → IsBeginningFault false first (gone between lines ⇒ gone after lines') fault
-      → IsLoadFault GoesSo task (record { around = before; lines = lines; out = out } ⇒ record { around = after; lines = lines'; out = out }) fault
-  of_idle WriteRecord opened (inl unlike) = inl (unconnected false _ opened unlike.1.nothing_asked unlike.1.record_same unlike.2)
-  of_idle WriteRecord opened (inr unbegun) = absurd (cc (unbegun.0))
-  of_idle Connect opened fails = absurd (cc (fails.0))
-  of_idle Memory opened (inl none) = absurd (cc (none.0))
-  of_idle Memory opened (inr unbegun) = absurd (cc (unbegun.0))
-  of_idle other opened fails = absurd fails
-
-  pub of_beginning : (may_begin : Bool) (fault : LoadFault) → IsOpened task (before ⇒ between) first may_begin → IsBeginningFault may_begin first (gone between lines ⇒ gone after lines') fault
-      → IsLoadFault GoesSo task (record { around = before; lines = lines; out = out } ⇒ record { around = after; lines = lines'; out = out }) fault
-  of_beginning true fault opened fails = of_busy fault opened fails
-  of_beginning false fault opened fails = of_idle fault opened fails
+-- an opened life comes to no beginning, before anything is reported
+pub of_beginning : (GoesSo : HowItGoesOn) (task : LoadTask) (before between after : SurroundingsTold) (lines lines' : Option (List LineTold)) (out : Option (List ℕ)) (first : Core) (may_begin : Bool)
+    (fault : LoadFault) → IsOpened task (before ⇒ between) first may_begin → IsBeginningFault may_begin first (gone between lines ⇒ gone after lines') fault
+    → IsLoadFault GoesSo task (record { around = before; lines = lines; out = out } ⇒ record { around = after; lines = lines'; out = out }) fault
+of_beginning GoesSo task before between after lines lines' out first may_begin WriteOutput opened fails = absurd fails
+of_beginning GoesSo task before between after lines lines' out first may_begin other opened fails =
+    inr (record { first = first; may_begin = may_begin; between = between; opened = opened; is_so = fails; nothing_reported = Keeps-refl out })
 
 -- a life that has looked, and whose record is not begun
 pub behind_looks_fault : (first : Core) (before between after : SurroundingsTold) (lines lines' : Option (List LineTold)) (why : RecordFault) (writable : Bool) → IsUnbegun why → writable ≡ true
     → Asks before between (Connected ∷ []) → Asks between after (begin_step {A = Unit {0}} (Err why) ∷ []) → GivesLooked first lines lines'
+    → DiskAsked before.disk after.disk (IsNotBegunOn (begun_text first.plan first.verified))
     → IsBeginningFault writable first (gone before lines ⇒ gone after lines') (fault_of_record why)
-behind_looks_fault first before between after lines lines' why.Write writable is may connected fails given = inr (may, gains_join _ _ _ _ _ connected fails, given)
-behind_looks_fault first before between after lines lines' why.Memory writable is may connected fails given = inr (may, gains_join _ _ _ _ _ connected fails, given)
-behind_looks_fault first before between after lines lines' other writable is may connected fails given = absurd is
+behind_looks_fault first before between after lines lines' why.Write writable is may connected fails given disk =
+    inr (may, record { asked = gains_join _ _ _ _ _ connected fails; not_begun_there = disk; looked = given })
+behind_looks_fault first before between after lines lines' why.Memory writable is may connected fails given disk =
+    inr (may, record { asked = gains_join _ _ _ _ _ connected fails; not_begun_there = disk; looked = given })
+behind_looks_fault first before between after lines lines' other writable is may connected fails given disk = absurd is
+
+-- the text with which the record of a life is begun behind looks that found that all words stand
+pub same_text : (first behind : Core) (looks : Looks) → behind ≡ behind_looks first looks → looks.finding ≡ AllStand → begun_text behind.plan behind.verified ≡ begun_text first.plan first.verified
+same_text first behind looks is stand =
+    ap (λ (core : Core). begun_text core.plan core.verified) is ∙ ap (λ finding. begun_text first.plan (vouched_for first.verified finding)) stand
 
 -- ---- looks
 
@@ -126,7 +110,6 @@ no_value (Err e) error P is = tt
 -- all that is said of a load that came to nothing
 pub not_loaded : {T K : Type 0} (r : Result T LoadFault) (keeper : KeeperTells K) (task : LoadTask) (before after : Scene)
     → IfErr r (IsLoadFault (IsDrivenOn keeper) task (before.setting ⇒ after.setting))
-    → IfErr r (IsAskedBefore before.call before.asked after.asked) → IfErr r (λ why. DiskAsked before.disk after.disk (disk_asked_before why))
-    → IfErr r (IsNotLoaded keeper task (before ⇒ after))
-not_loaded (Ok x) keeper task before after fault asked disk = tt
-not_loaded (Err why) keeper task before after fault asked disk = record { fault = fault; asked = asked; disk = disk }
+    → IfErr r (IsAskedBefore before.call before.asked after.asked) → IfErr r (IsNotLoaded keeper task (before ⇒ after))
+not_loaded (Ok x) keeper task before after fault asked = tt
+not_loaded (Err why) keeper task before after fault asked = record { fault = fault; asked = asked }

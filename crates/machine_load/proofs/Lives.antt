@@ -7,7 +7,7 @@ use Rattle.tape_values.specs.Told.{IsAsTold}
 use Rattle.tape_image.specs.Plan.{PlanValue, IsPlan}
 use Rattle.host_core.specs.declared.progress.Progress.{Progress}
 use Rattle.host_core.specs.Console.{go}
-use Rattle.host_core.specs.Core.{Core, begun}
+use Rattle.host_core.specs.Core.{Core, begun, begun_by}
 use Rattle.host_core.specs.Laws.{led}
 use Rattle.host_devices.specs.declared.item.Item.{Item}
 use Rattle.host_devices.specs.Dialogue.{dialogue, keys_of}
@@ -49,12 +49,17 @@ use Rattle.machine_load.specs.declared.stubs.Stubs.{Stubs}
 use Rattle.machine_load.specs.Asked.{opened_as, task, ◌⇒◌}
 use Rattle.machine_load.specs.Driving.{IsDrivenOn}
 use Rattle.machine_load.specs.Lives.{GoesOut, HostGoesOut, LooksGoOut, PartsGoOut, StubsGoOut, LoadsAreFastLives, LoadsAreLives, of_file}
-use Rattle.machine_load.specs.Load.{SurroundingsTold, Finish, IsBusyLife, IsLoad, IsHeldUp, IsIdleLife, IsLived, words_taken}
+use Rattle.machine_load.specs.Load.{SurroundingsTold, Finish, IsBusyLife, IsLoad, IsOpening, IsHeldUp, IsIdleLife, IsLived, words_taken}
 use Rattle.machine_load.specs.Looks.{AreLooks, vouched_for}
 use Rattle.machine_load.specs.Parts.{AreBrought, AreKept, AreParts, IsDrivenUnless, IsKeptBehind, Unless, course, stubs_of, told_by, turns_of}
 use Rattle.load_engine.specs.Driven.{IsDriven, turns_give}
 use Rattle.machine_load.specs.Stubs.{hindrance_of}
 use Rattle.machine_load.proofs.Renewed.{EachKept, HoldsFront, host_holds, stubs_front, stubs_held}
+
+-- a load that is not careful begins with a plain host
+plain_core : {told : Option (List ℕ)} (plan : PlanValue) (options : LoadOptions) {core : Core} (o : IsOpening told plan options core) → options.careful ≡ false →
+    core ≡ begun plan (words_taken options.recheck o.said) o.said.going options.patience
+plain_core plan options o plain = o.core_is ∙ ap (λ careful. begun_by careful plan (words_taken options.recheck o.said) o.said.going options.patience) plain
 
 -- no more words count as verified than the record says
 fewer : (none : Bool) (n : ℕ) → (if none then 0 else n) ≤ n
@@ -360,7 +365,7 @@ loads_are_fast_lives load old new made passes = record { life = l.0; core = l.1;
 
     l : FastLives plan load.finish.core load.looks load.front load.rest old new
     l =
-        subst (λ (core : Core). (life : IsLived (IsDrivenOn of_file) (opened_as core options.fast promised.writable) (promised.between ⇒ load.after) load.finish) → GoesOut life load.looks load.front load.rest → FastLives plan load.finish.core load.looks load.front load.rest old new) (sym promised.opened.opening.core_is)
+        subst (λ (core : Core). (life : IsLived (IsDrivenOn of_file) (opened_as core options.fast promised.writable) (promised.between ⇒ load.after) load.finish) → GoesOut life load.looks load.front load.rest → FastLives plan load.finish.core load.looks load.front load.rest old new) (sym (plain_core plan options promised.opened.opening made.plain))
         (fast_lived plan (words_taken options.recheck said) options.patience load.before.record_text promised.between load.after load.finish load.looks load.front load.rest old new made.fits made.patient made.found promised.opened.record_read made.left passes said.going goes) promised.life made.out
 
 -- ---- a life at a machine
@@ -486,6 +491,6 @@ loads_are_lives load old new plain made passes = record { life = l.0; core = l.1
 
     l : Lives plan load.finish.core load.looks load.rest old new
     l =
-        subst (λ (core : Core). (life : IsLived (IsDrivenOn of_file) (opened_as core options.fast promised.writable) (promised.between ⇒ load.after) load.finish) → GoesOut life load.looks [] load.rest → Lives plan load.finish.core load.looks load.rest old new) (sym promised.opened.opening.core_is)
+        subst (λ (core : Core). (life : IsLived (IsDrivenOn of_file) (opened_as core options.fast promised.writable) (promised.between ⇒ load.after) load.finish) → GoesOut life load.looks [] load.rest → Lives plan load.finish.core load.looks load.rest old new) (sym (plain_core plan options promised.opened.opening made.plain))
         (subst (λ fast. (life : IsLived (IsDrivenOn of_file) (opened_as (begun plan (words_taken options.recheck said) said.going options.patience) fast promised.writable) (promised.between ⇒ load.after) load.finish) → GoesOut life load.looks [] load.rest → Lives plan load.finish.core load.looks load.rest old new) (sym plain.unasked)
         (lived plan (words_taken options.recheck said) options.patience load.before.record_text promised.between load.after load.finish load.looks load.rest old new made.fits made.patient made.found promised.opened.record_read made.left passes said.going goes)) promised.life out

@@ -9,7 +9,6 @@ use Rattle.host_devices.specs.Told.{Gains}
 use Rattle.load_engine.specs.Driving.{LoadStop as Stop}
 use Rattle.machine_load.specs.declared.beginning.BegunLife.{BegunLife}
 use Rattle.machine_load.specs.declared.fault.LoadFault.{LoadFault}
-use Rattle.machine_load.specs.declared.fault.LoadFault.TheVariants.{WriteOutput}
 use Rattle.machine_load.specs.declared.lived.Lived.{Lived}
 use Rattle.machine_load.specs.declared.load_end.LoadEnd.TheVariants.{Driven}
 use Rattle.machine_load.specs.declared.outcome.Outcome.{Outcome}
@@ -22,13 +21,12 @@ use Rattle.machine_load.specs.GivenBack.{IsGivenBack}
 use Rattle.machine_load.specs.Load.{Asks, IsHeldUp, IsIdleLife, IsLived, IsLoad, IsNeverBegun, IsOpened, finish_report, going_on}
 use Rattle.machine_load.specs.Looks.{behind_looks}
 use Rattle.machine_load.specs.Parts.{ArePartsOver, course, held}
-use Rattle.machine_load.specs.RecordDisk.{DiskAsked, IsBegunOn, IsOnlyRead, begun_text, disk_asked_before, disk_asked_by}
+use Rattle.machine_load.specs.RecordDisk.{DiskAsked, IsBegunOn, begun_text}
 use Rattle.machine_load.specs.Reporting.{IsLifeReported, IsLifeUnreported}
 use Rattle.machine_load.specs.Scene.{IsLoaded, IsNotLoaded, LoadTells, Scene, finish_told}
 use Rattle.machine_load.specs.Step.{RecordGivenBack}
 use Rattle.machine_load.proofs.Begun.{never_begun}
 use Rattle.machine_load.proofs.Driving.{asked_untold}
-use Rattle.machine_load.proofs.OnDisk.{begun_on, held_on, idle_on, untold_on}
 use Rattle.host_devices.proofs.Told.{gains_join}
 
 -- a life was opened
@@ -37,7 +35,6 @@ pub record IsOpenedIn (task : LoadTask) (scenes : Change Scene) (first : Core) (
   pub lines : scenes.after.setting.lines ≡ scenes.before.setting.lines
   pub asked : scenes.after.asked ≡ scenes.before.asked
   pub call : scenes.after.call ≡ scenes.before.call
-  pub disk : DiskAsked scenes.before.disk scenes.after.disk IsOnlyRead
 
 -- the life of a load was lived, and was not reported yet
 pub record IsLivedIn {L K : Type 0} (tells : LoadTells L K) (task : LoadTask) (scenes : Change Scene) (lived : Lived L) : Type 0 where
@@ -45,7 +42,6 @@ pub record IsLivedIn {L K : Type 0} (tells : LoadTells L K) (task : LoadTask) (s
   pub line : IsSome lived.line ⊎ IsNeverBegun lived.end
   pub lines : scenes.after.setting.lines ≡ scenes.before.setting.lines
   pub asked : Gains scenes.before.asked scenes.after.asked (asked_by scenes.before.call lived.line)
-  pub disk : DiskAsked scenes.before.disk scenes.after.disk (disk_asked_by lived.end lived.line)
 
 -- a line that tells something is there
 told_is : {L : Type 0} (told : L → LineTold) (line : Option L) (line' : LineTold) → option_map told line ≡ Some line' → IsSome line
@@ -64,21 +60,19 @@ module _ {L K : Type 0} (tells : LoadTells L K) (task : LoadTask) (before opened
   -- it was over before it began, or its looks held it up
   pub over : (lived : Lived L)
       → IsIdleLife life (opened.setting.around ⇒ after.setting.around) (finish_told tells.line lived) ⊎ IsHeldUp life (opened.setting.around ⇒ after.setting.around) (finish_told tells.line lived)
-      → after.setting.lines ≡ opened.setting.lines → Gains opened.asked after.asked (asked_by opened.call lived.line) → after.disk ≡ opened.disk
+      → after.setting.lines ≡ opened.setting.lines → Gains opened.asked after.asked (asked_by opened.call lived.line)
       → IsLivedIn tells task (before ⇒ after) lived
-  over lived (inl idle) lines asked disk = record {
+  over lived (inl idle) lines asked = record {
     load = load_of lived (inl idle);
     line = inr (never_begun _ _ _ _ _ _ opens.opened.opening idle.over);
     lines = lines ∙ opens.lines;
     asked = rw (opens.asked, opens.call) at asked;
-    disk = idle_on (line_told tells.line) before.disk opened.disk after.disk lived.end lived.line idle.no_line opens.disk disk;
   }
-  over lived (inr held_up) lines asked disk = record {
+  over lived (inr held_up) lines asked = record {
     load = load_of lived (inr (inl held_up));
     line = inl (told_is (line_told tells.line) lived.line held_up.first_looks.behind held_up.has_line);
     lines = lines ∙ opens.lines;
     asked = rw (opens.asked, opens.call) at asked;
-    disk = held_on before.disk opened.disk after.disk held_up.first_looks.looks lived.end lived.line held_up.held_up opens.disk disk;
   }
 
   -- or its record was begun, and it was driven
@@ -86,12 +80,13 @@ module _ {L K : Type 0} (tells : LoadTells L K) (task : LoadTask) (before opened
       → IsBegunLife tells life (opened.setting.around ⇒ between.setting.around) begun → is_some stubs ≡ task.options.fast
       → ArePartsOver tells.keeper.calls (course begun.first stubs (core, stop)) (held (line_told tells.line begun.line) begun.keeper) (held (line_told tells.line line) keeper)
       → Asks between.setting.around after.setting.around (RecordGivenBack ∷ []) → after.setting.around.record_text ≡ tells.keeper.text keeper
-      → after.setting.lines ≡ opened.setting.lines → Gains opened.asked after.asked (asked_once opened.call) → DiskAsked opened.disk after.disk (IsBegunOn (begun_text begun.first.plan begun.first.verified))
+      → after.setting.around.disk ≡ between.setting.around.disk → after.setting.lines ≡ opened.setting.lines → Gains opened.asked after.asked (asked_once opened.call)
       → IsLivedIn tells task (before ⇒ after) (record { core = core; end = Driven stop; looks = Some begun.looks; stubs = stubs; line = Some line })
-  driven begun between stubs core stop line keeper is stubs_asked parts given_back left lines asked disk =
+  driven begun between stubs core stop line keeper is stubs_asked parts given_back left disk_same lines asked =
       let lived : Lived L = record { core = core; end = Driven stop; looks = Some begun.looks; stubs = stubs; line = Some line } in
       let on : IsDrivenOn tells.keeper (going_on begun.first task.options.fast (line_told tells.line begun.line)) (is.between ⇒ after.setting.around) (finish_told tells.line lived) = record {
         asked = gains_join _ _ _ _ _ is.record_begun given_back;
+        begun_there = subst (λ disk. DiskAsked is.between.disk disk (IsBegunOn (begun_text begun.first.plan begun.first.verified))) (sym disk_same) is.begun_there;
         stubs_asked = stubs_asked;
         line' = line_told tells.line line;
         has_line = refl;
@@ -113,7 +108,6 @@ module _ {L K : Type 0} (tells : LoadTells L K) (task : LoadTask) (before opened
         line = inl refl;
         lines = lines ∙ opens.lines;
         asked = rw (opens.asked, opens.call) at asked;
-        disk = begun_on _ before.disk opened.disk after.disk opens.disk disk;
       }
 
 -- ---- its report
@@ -134,7 +128,6 @@ module _ {L K : Type 0} (tells : LoadTells L K) (task : LoadTask) (before betwee
     stubs = refl;
     line = is.line;
     asked = subst (λ asked. Gains before.asked asked (asked_by before.call lived.line)) (sym told.nothing_asked.asked_same) is.asked;
-    disk = subst (λ disk. DiskAsked before.disk disk (disk_asked_by lived.end lived.line)) (sym told.nothing_asked.disk_same) is.disk;
   })
 
   cut_short : (why : LoadFault) → IsLifeUnreported tells.line lived (between ⇒ after) why → IsNotLoaded tells.keeper task (before ⇒ after) why
@@ -148,8 +141,6 @@ module _ {L K : Type 0} (tells : LoadTells L K) (task : LoadTask) (before betwee
     };
     asked = subst (λ asked. Gains before.asked asked [] ⊎ Gains before.asked asked (asked_once before.call)) (sym untold.nothing_asked.asked_same)
         (asked_untold before.call lived.line before.asked between.asked is.asked);
-    disk = subst (λ disk. DiskAsked before.disk disk (disk_asked_before WriteOutput)) (sym untold.nothing_asked.disk_same)
-        (untold_on before.disk between.disk lived.end lived.line is.disk);
   })
 
   pub answered : (result : Result (Outcome L) LoadFault) → IfOk result (IsLifeReported tells.line lived (between ⇒ after)) → IfOk result (IsLoaded tells task (before ⇒ after))

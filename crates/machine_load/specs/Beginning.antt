@@ -1,17 +1,14 @@
 -- How an opened life begins, over the line that is reached for it and with the keeper that is begun for it.
-use Rattle.std.specs.Prelude.{◌≡◌, ◌⊎◌, ℕ, List, [], ◌∷◌, Option, Some, IfSome}
+use Rattle.std.specs.Prelude.{◌≡◌, ◌⊎◌, List, [], ◌∷◌, Some, IfSome}
 use Rattle.console_lines.specs.Dialling.{Call, LineRequest, asked_once}
 use Rattle.host_devices.specs.Devices.{line_told}
 use Rattle.machine_load.specs.declared.beginning.Beginning.{Beginning}
 use Rattle.machine_load.specs.declared.beginning.Beginning.TheVariants.{Over, Begun}
 use Rattle.machine_load.specs.declared.beginning.BegunLife.{BegunLife}
-use Rattle.machine_load.specs.declared.fault.LoadFault.{LoadFault}
-use Rattle.machine_load.specs.declared.fault.LoadFault.TheVariants.{Connect, WriteRecord, Memory}
 use Rattle.machine_load.specs.Asked.{Change, Opened, ◌⇒◌}
 use Rattle.machine_load.specs.Called.{asked_by}
-use Rattle.machine_load.specs.Load.{SurroundingsTold, Asks, HasLookedFirst, IsHeldUp, IsIdleLife}
+use Rattle.machine_load.specs.Load.{SurroundingsTold, Asks, HasLookedFirst, IsBegunThere, IsHeldUp, IsIdleLife}
 use Rattle.machine_load.specs.Looks.{AreFewLooks, behind_looks}
-use Rattle.machine_load.specs.RecordDisk.{RecordDisk, DiskAsked, IsBegunOn, IsNotBegunOn, begun_text}
 use Rattle.machine_load.specs.Scene.{LoadTells, finish_told}
 use Rattle.machine_load.specs.Step.{RecordBegun}
 use Rattle.machine_load.specs.Stubs.{AreFew}
@@ -25,6 +22,7 @@ pub record IsBegunLife {L K : Type 0} (tells : LoadTells L K) (life : Opened) (a
   pub first_is : begun.first ≡ behind_looks life.first first_looks.looks
   pub line_is : line_told tells.line begun.line ≡ first_looks.behind
   pub record_begun : Asks between around.after (RecordBegun ∷ [])
+  pub begun_there : IsBegunThere begun.first between around.after
   pub begun_so : tells.keeper.begins begun.keeper begun.first.plan begun.first.verified
 
 -- what the beginning of a life came to: it was over before, or its looks held it up, or it goes on
@@ -42,15 +40,3 @@ SendsFew (Begun begun) = AreFewLooks begun.looks
 abbrev pub asked_to_begin : {L K : Type 0} → Call → Beginning L K → List LineRequest
 asked_to_begin call (Over lived) = asked_by call lived.line
 asked_to_begin call (Begun begun) = asked_once call
-
--- the record of a life that goes on was begun on its disk; of one that is over nothing was asked
-abbrev pub IsBeginningOn : {L K : Type 0} → Option RecordDisk → Option RecordDisk → Beginning L K → Type 0
-IsBeginningOn before after (Over lived) = after ≡ before
-IsBeginningOn before after (Begun begun) = DiskAsked before after (IsBegunOn (begun_text begun.first.plan begun.first.verified))
-
--- a life that comes to no beginning: without a connection nothing was asked, and else a record was not begun
-abbrev pub IsNoBeginningOn : Option RecordDisk → Option RecordDisk → LoadFault → Type 0
-IsNoBeginningOn before after Connect = after ≡ before
-IsNoBeginningOn before after WriteRecord = (after ≡ before) ⊎ ((text : List ℕ) × DiskAsked before after (IsNotBegunOn text))
-IsNoBeginningOn before after Memory = (after ≡ before) ⊎ ((text : List ℕ) × DiskAsked before after (IsNotBegunOn text))
-IsNoBeginningOn before after other = ⊥

@@ -7,7 +7,7 @@ use Rattle.host_devices.specs.declared.item.Kept.{Kept}
 use Rattle.engine.specs.Keeping.{KeeperCalls}
 use Rattle.machine_load.specs.declared.load_end.LoadEnd.TheVariants.{Driven}
 use Rattle.machine_load.specs.Asked.{Change}
-use Rattle.machine_load.specs.Load.{SurroundingsTold, Finish, Going, Asks}
+use Rattle.machine_load.specs.Load.{SurroundingsTold, Finish, Going, Asks, IsBegunThere}
 use Rattle.machine_load.specs.Parts.{ArePartsOver, course, held}
 use Rattle.machine_load.specs.Step.{RecordBegun, RecordGivenBack}
 
@@ -21,6 +21,7 @@ pub record KeeperTells (K : Type 0) : Type 1 where
 -- and the host have the line and the new keeper, and in the end the record is what the keeper has kept
 pub record IsDrivenOn {K : Type 0} (tells : KeeperTells K) (life : Going) (around : Change SurroundingsTold) (finish : Finish) : Type 0 where
   pub asked : Asks around.before around.after (RecordBegun ∷ RecordGivenBack ∷ [])
+  pub begun_there : IsBegunThere life.first around.before around.after
   pub stubs_asked : is_some finish.stubs ≡ life.fast
   pub line' : LineTold
   pub has_line : finish.line ≡ Some line'

@@ -8,10 +8,6 @@ use Rattle.machine_load.specs.declared.looks.Looks.{Looks}
 use Rattle.machine_load.specs.Looks.{AreLooks}
 use Rattle.sample_looks.specs.declared.finding.Finding.TheVariants.{AllStand}
 
--- no line was given back
-abbrev pub GivesNone : Core → Option (List LineTold) → Option (List LineTold) → Type 0
-GivesNone first lines lines' = lines' ≡ lines
-
 -- a line was given back on which nothing was said but the looks of a life, which found that all words stand
 pub record GivesLooked (first : Core) (lines lines' : Option (List LineTold)) : Type 0 where
   pub line : LineTold

@@ -84,10 +84,11 @@ pub record FiledLoad : Type 0 where
   pub front : List Item
   pub rest : List Item
 
--- it is as `load` promises, with one text in the record's file before it and one behind it
+-- it is as `load` promises of a plain host, with one text in the record's file before it and one behind it
 pub record WasMade (load : FiledLoad) (old new : List ℕ) : Type 0 where
   pub fits : IsPlan load.plan
   pub patient : load.options.patience < 2 ^ 32
+  pub plain : load.options.careful ≡ false
   pub promised : IsLoad (IsDrivenOn of_file) (task load.plan load.options) (load.before ⇒ load.after) load.finish
   pub found : load.before.record_text ≡ Some old
   pub left : load.after.record_text ≡ Some new

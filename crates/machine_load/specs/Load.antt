@@ -6,7 +6,7 @@ use Rattle.tape_image.specs.Plan.{PlanValue}
 use Rattle.host_core.specs.declared.phase.End.{End}
 use Rattle.host_core.specs.declared.phase.End.TheVariants.{Loaded, MaybeStarted}
 use Rattle.host_core.specs.declared.progress.Progress.{Progress}
-use Rattle.host_core.specs.Core.{Core, begun, ended}
+use Rattle.host_core.specs.Core.{Core, begun_by, ended}
 use Rattle.host_devices.specs.declared.item.Kept.{Kept}
 use Rattle.host_devices.specs.Told.{Gains}
 use Rattle.load_engine.specs.Driving.{LoadStop as Stop}
@@ -27,16 +27,18 @@ use Rattle.machine_load.specs.Looks.{AreLooks, behind_looks, held_up_by}
 use Rattle.machine_load.specs.Parts.{AreParts, course}
 use Rattle.machine_load.specs.Stubs.{counting}
 use Rattle.machine_load.specs.declared.stubs.Stubs.{Stubs}
+use Rattle.machine_load.specs.RecordDisk.{RecordDisk, DiskAsked, IsBegunOn, IsReadOn, begun_text, old_text}
 use Rattle.record_file.specs.OldRecord.{HoldsNoRecord, MayBecome}
 use Rattle.record_file.specs.declared.old_record.Writable.{Writable}
 use Rattle.machine_load.specs.Step.{LoadStep, RecordRead, Connected, RecordBegun, RecordGivenBack}
 use Rattle.sample_looks.specs.declared.finding.Finding.TheVariants.{AllStand}
 use Rattle.request_values.specs.declared.options.LoadOptions.{LoadOptions}
 
--- what the surroundings of a load tell: what was asked of them, with what was answered, and what the record is
+-- what the surroundings of a load tell: what was asked of them, with what was answered; what the record is; and the disk on which that is, if on any
 pub record SurroundingsTold : Type 0 where
   pub steps : Option (List LoadStep)
   pub record_text : Option (List ℕ)
+  pub disk : Option RecordDisk
 
 -- the same, what the lines tell that were given back, and what the load's output holds
 pub record Setting : Type 0 where
@@ -56,6 +58,7 @@ KeepsRecord before after = Keeps before.record_text after.record_text
 pub record AsksNothing (before after : SurroundingsTold) : Type 0 where
   pub nothing_asked : Asks before after []
   pub record_same : KeepsRecord before after
+  pub disk_same : after.disk ≡ before.disk
 
 -- how many words count as verified: all that the record says; none where each is to be looked at again, unless the start was typed
 abbrev pub words_taken : Bool → Progress → ℕ
@@ -72,7 +75,7 @@ pub record SaysProgress (record_told : Option (List ℕ)) (plan : PlanValue) (sa
 pub record IsOpening (record_told : Option (List ℕ)) (plan : PlanValue) (options : LoadOptions) (core : Core) : Type 0 where
   pub said : Progress
   pub opened : SaysProgress record_told plan said
-  pub core_is : core ≡ begun plan (words_taken options.recheck said) said.going options.patience
+  pub core_is : core ≡ begun_by options.careful plan (words_taken options.recheck said) said.going options.patience
 
 -- the record was read, and a life begins with this core; and it is known whether its own record may be begun over what was read
 pub record IsOpened (task : LoadTask) (around : Change SurroundingsTold) (first : Core) (may_begin : Bool) : Type 0 where
@@ -80,6 +83,8 @@ pub record IsOpened (task : LoadTask) (around : Change SurroundingsTold) (first 
   pub read_first : Asks around.before around.after (RecordRead how ∷ [])
   pub record_read : KeepsRecord around.before around.after
   pub opening : IsOpening around.before.record_text task.plan task.options first
+  -- what says so is what was read on the disk, which was asked for nothing else
+  pub read_there : DiskAsked around.before.disk around.after.disk (IsReadOn (old_text opening.opened.text how))
   pub is_known : IsTrue may_begin ↔ MayBecome how opening.opened.text (record_text Second task.plan first.verified false)
 
 -- the life is over before it has begun
@@ -125,6 +130,7 @@ pub record HasLookedFirst (life : Opened) (around : Change SurroundingsTold) (lo
   pub goes_on : ended life.first.phase ≡ None
   pub connected : Asks around.before around.after (Connected ∷ [])
   pub record_same : KeepsRecord around.before around.after
+  pub disk_same : around.after.disk ≡ around.before.disk
   pub line : LineTold
   pub fresh : IsUnused line.said line.failures line.fault
   pub looks : Looks
@@ -150,10 +156,15 @@ pub record Going : Type 0 where
 abbrev pub going_on : Core → Bool → LineTold → Going
 going_on first fast line = record { first = first; fast = fast; line = line }
 
+-- the record of a life that goes on was begun on its disk, with the words of the plan that count as verified, and nothing else was asked there
+abbrev pub IsBegunThere : Core → SurroundingsTold → SurroundingsTold → Type 0
+IsBegunThere first before after = DiskAsked before.disk after.disk (IsBegunOn (begun_text first.plan first.verified))
+
 -- behind its looks a life goes on: the record is begun anew, stubs, where they are asked for, and the host have the line, and in the end the record's
 -- keeper is given back
 pub record GoesOn (life : Going) (around : Change SurroundingsTold) (finish : Finish) : Type 0 where
   pub asked : Asks around.before around.after (RecordBegun ∷ RecordGivenBack ∷ [])
+  pub begun_there : IsBegunThere life.first around.before around.after
   pub stubs_asked : is_some finish.stubs ≡ life.fast
   pub line' : LineTold
   pub has_line : finish.line ≡ Some line'

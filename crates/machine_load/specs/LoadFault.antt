@@ -8,11 +8,12 @@ use Rattle.load_record.specs.Reading.{Says}
 use Rattle.load_record.specs.declared.reader.RecordError.TheVariants.{NotARecord}
 use Rattle.host_devices.specs.Devices.{LineTold}
 use Rattle.machine_load.specs.Asked.{Change, LoadTask, ◌⇒◌}
-use Rattle.machine_load.specs.GivenBack.{GivesLooked, GivesNone}
+use Rattle.machine_load.specs.GivenBack.{GivesLooked}
 use Rattle.host_core.specs.Core.{Core}
-use Rattle.machine_load.specs.Load.{HowItGoesOn, SurroundingsTold, Setting, Asks, AsksNothing, KeepsRecord, IsReportCutShort, IsOpened}
+use Rattle.machine_load.specs.Load.{HowItGoesOn, SurroundingsTold, Setting, Asks, KeepsRecord, IsReportCutShort, IsOpened}
+use Rattle.machine_load.specs.RecordDisk.{DiskAsked, IsNotBegunOn, IsNotReadOn, IsReadOn, begun_text, old_text}
 use Rattle.record_file.specs.OldRecord.{HoldsNoRecord}
-use Rattle.record_file.specs.declared.old_record.Writable.{Writable}
+use Rattle.record_file.specs.Reading.{OldText}
 use Rattle.record_file.specs.declared.old_record.Writable.TheVariants.{InPlace}
 use Rattle.machine_load.specs.Step.{LoadStep, RecordRead, Connected, InUse, NotRead, NotConnected, NotBegun, OutOfMemory}
 use Rattle.machine_load.specs.declared.fault.LoadFault.{LoadFault}
@@ -20,11 +21,20 @@ use Rattle.machine_load.specs.declared.fault.LoadFault.TheVariants.{ReadRecord, 
 use Rattle.record_file.specs.declared.record_fault.RecordFault.{RecordFault}
 use Rattle.record_file.specs.declared.record_fault.RecordFault.TheVariants as record_fault
 
--- the record's text says no progress of the plan, for this reason, or was never a record
-pub record IsRefusedRecord (record_told : Option (List ℕ)) (plan : PlanValue) (why : RecordError) : Type 0 where
-  pub text : List ℕ
-  pub is_record : IsAsTold record_told text
-  pub is_refused : Says plan text (Err why) ⊎ ((why ≡ NotARecord) × HoldsNoRecord text)
+-- a record's text says no progress of the plan, for this reason, or was never a record
+abbrev pub IsRefused : PlanValue → List ℕ → RecordError → Type 0
+IsRefused plan text why = Says plan text (Err why) ⊎ ((why ≡ NotARecord) × HoldsNoRecord text)
+
+-- the record was read: it is this, and that is what was read on its disk, which was asked for nothing else
+pub record IsTextRead (before after : SurroundingsTold) (found : OldText) : Type 0 where
+  pub read : Asks before after (RecordRead found.writable ∷ [])
+  pub is_record : IsAsTold before.record_text found.text
+  pub read_there : DiskAsked before.disk after.disk (IsReadOn found)
+
+-- it was not, for this reason
+pub record IsTextNotRead (before after : SurroundingsTold) (why : LoadStep) : Type 0 where
+  pub asked : Asks before after (why ∷ [])
+  pub not_read_there : DiskAsked before.disk after.disk IsNotReadOn
 
 -- what a record that failed makes of the load
 abbrev pub fault_of_record : RecordFault → LoadFault
@@ -36,11 +46,11 @@ fault_of_record record_fault.Memory = Memory
 -- how a life fails to open: its record can't be read, or is another load's at the time, or is read and refused; or memory is wanting, also
 -- to compare what was read with the record that would be written over it
 abbrev pub IsOpeningFault : PlanValue → SurroundingsTold → SurroundingsTold → LoadFault → Type 0
-IsOpeningFault plan before after ReadRecord = Asks before after (NotRead ∷ [])
-IsOpeningFault plan before after RecordInUse = Asks before after (InUse ∷ [])
-IsOpeningFault plan before after (Record why) =
-    ((writable : Writable) × Asks before after (RecordRead writable ∷ [])) × IsRefusedRecord before.record_text plan why
-IsOpeningFault plan before after Memory = Asks before after (OutOfMemory ∷ []) ⊎ Asks before after (RecordRead InPlace ∷ [])
+IsOpeningFault plan before after ReadRecord = IsTextNotRead before after NotRead
+IsOpeningFault plan before after RecordInUse = IsTextNotRead before after InUse
+IsOpeningFault plan before after (Record why) = (found : OldText) × IsTextRead before after found × IsRefused plan found.text why
+IsOpeningFault plan before after Memory =
+    IsTextNotRead before after OutOfMemory ⊎ ((text : List ℕ) × IsTextRead before after (old_text text InPlace))
 IsOpeningFault plan before after other = ⊥
 
 -- what surroundings tell at a moment, and the lines that were given back by then
@@ -51,66 +61,48 @@ pub record Gone : Type 0 where
 abbrev pub gone : SurroundingsTold → Option (List LineTold) → Gone
 gone around lines = record { around = around; lines = lines }
 
+-- so far was gone with an opened life: these steps were asked, no line was given back, and the record is as it was, on its disk, too
+pub record IsUnconnected (done : Change Gone) (steps : List LoadStep) : Type 0 where
+  pub asked : Asks done.before.around done.after.around steps
+  pub record_same : KeepsRecord done.before.around done.after.around
+  pub disk_same : done.after.around.disk ≡ done.before.around.disk
+  pub no_line : done.after.lines ≡ done.before.lines
+
+-- or there was a connection, a line was given back on which nothing was said but the looks, and the record was not begun with the words that count as
+-- verified: the last step says why
+pub record IsLeftUnbegun (first : Core) (done : Change Gone) (why : LoadStep) : Type 0 where
+  pub asked : Asks done.before.around done.after.around (Connected ∷ why ∷ [])
+  pub not_begun_there : DiskAsked done.before.around.disk done.after.around.disk (IsNotBegunOn (begun_text first.plan first.verified))
+  pub looked : GivesLooked first done.before.lines done.after.lines
+
 -- how an opened life comes to no beginning: one whose record may not be begun fails before there is a connection, and so does one for whose looks
--- there is no memory; and without a connection the record is as it was. Where there was one, nothing was said on it but the looks
+-- there is no memory
 abbrev pub IsBeginningFault : Bool → Core → Change Gone → LoadFault → Type 0
-IsBeginningFault writable first done Connect =
-    (writable ≡ true) × Asks done.before.around done.after.around (NotConnected ∷ []) × KeepsRecord done.before.around done.after.around
-    × GivesNone first done.before.lines done.after.lines
+IsBeginningFault writable first done Connect = (writable ≡ true) × IsUnconnected done (NotConnected ∷ [])
 IsBeginningFault writable first done WriteRecord =
-    ((writable ≡ false) × AsksNothing done.before.around done.after.around × GivesNone first done.before.lines done.after.lines)
-    ⊎ ((writable ≡ true) × Asks done.before.around done.after.around (Connected ∷ NotBegun ∷ []) × GivesLooked first done.before.lines done.after.lines)
+    ((writable ≡ false) × IsUnconnected done []) ⊎ ((writable ≡ true) × IsLeftUnbegun first done NotBegun)
 IsBeginningFault writable first done Memory =
-    ((writable ≡ true) × AsksNothing done.before.around done.after.around × GivesNone first done.before.lines done.after.lines)
-    ⊎ ((writable ≡ true) × Asks done.before.around done.after.around (Connected ∷ OutOfMemory ∷ []) × GivesLooked first done.before.lines done.after.lines)
+    ((writable ≡ true) × IsUnconnected done []) ⊎ ((writable ≡ true) × IsLeftUnbegun first done OutOfMemory)
 IsBeginningFault writable first done other = ⊥
 
--- a life was opened, whose record may be begun or may not, and then so far was gone, with nothing reported, and with lines given back so
-pub record StopsOpened (task : LoadTask) (setting : Change Setting) (may_begin : Bool) (done : List LoadStep)
-    (Gives : Core → Option (List LineTold) → Option (List LineTold) → Type 0) : Type 0 where
+-- a life was opened, whose record may be begun or may not, and so it came to no beginning, with nothing reported
+pub record StopsOpened (task : LoadTask) (setting : Change Setting) (why : LoadFault) : Type 0 where
   pub first : Core
+  pub may_begin : Bool
   pub between : SurroundingsTold
   pub opened : IsOpened task (setting.before.around ⇒ between) first may_begin
-  pub steps_are : Asks between setting.after.around done
-  pub given : Gives first setting.before.lines setting.after.lines
+  pub is_so : IsBeginningFault may_begin first (gone between setting.before.lines ⇒ gone setting.after.around setting.after.lines) why
   pub nothing_reported : Keeps setting.before.out setting.after.out
 
--- so far was gone, with nothing said and nothing reported, and with the record as it was
-pub record StopsAfter (setting : Change Setting) (done : List LoadStep) : Type 0 where
-  pub steps_are : Asks setting.before.around setting.after.around done
+-- no life was opened, with nothing said and nothing reported, and with the record as it was
+pub record StopsUnopened (task : LoadTask) (setting : Change Setting) (why : LoadFault) : Type 0 where
+  pub is_so : IsOpeningFault task.plan setting.before.around setting.after.around why
   pub record_same : KeepsRecord setting.before.around setting.after.around
   pub nothing_said : setting.after.lines ≡ setting.before.lines
   pub nothing_reported : Keeps setting.before.out setting.after.out
 
--- the record was read, and nothing else came of the load
-abbrev pub StopsAfterReading : Change Setting → Type 0
-StopsAfterReading setting = (writable : Writable) × StopsAfter setting (RecordRead writable ∷ [])
-
--- a life was opened, and comes to nothing before there is a connection, with the record as it was
-abbrev pub StopsUnconnected : LoadTask → Change Setting → Bool → List LoadStep → Type 0
-StopsUnconnected task setting may_begin done =
-    StopsOpened task setting may_begin done GivesNone × KeepsRecord setting.before.around setting.after.around
-
--- where memory may be wanting, with nothing reported: for the record and for the looks, before there is a connection, and for the record begun anew,
--- right behind the looks
-abbrev pub IsWantOfMemory : LoadTask → Change Setting → Type 0
-IsWantOfMemory task setting =
-    (StopsAfter setting (OutOfMemory ∷ []) ⊎ StopsAfter setting (RecordRead InPlace ∷ []))
-    ⊎ (StopsUnconnected task setting true [] ⊎ StopsOpened task setting true (Connected ∷ OutOfMemory ∷ []) GivesLooked)
-
--- a record that can't be written: before there is a connection, where it may not be begun, and then it is as it was; or, where all that
--- could be known before said that it may, right behind the looks
-abbrev pub IsUnwritable : LoadTask → Change Setting → Type 0
-IsUnwritable task setting = StopsUnconnected task setting false [] ⊎ StopsOpened task setting true (Connected ∷ NotBegun ∷ []) GivesLooked
-
--- how a load comes to nothing: a record that can't be read, is another load's at the time, is refused or may not be begun comes before the
--- connection, a connection that can't be made before the record is touched, a record that can't be written before any key but those of looks, a
--- report that can't be written last, behind a life that went on so
+-- how a load comes to nothing: no life is opened, or one comes to no beginning, and nothing is reported; a report that can't be written is the last
+-- thing, behind a life that went on so
 abbrev pub IsLoadFault : HowItGoesOn → LoadTask → Change Setting → LoadFault → Type 0
-IsLoadFault GoesSo task setting ReadRecord = StopsAfter setting (NotRead ∷ [])
-IsLoadFault GoesSo task setting RecordInUse = StopsAfter setting (InUse ∷ [])
-IsLoadFault GoesSo task setting (Record why) = StopsAfterReading setting × IsRefusedRecord setting.before.around.record_text task.plan why
-IsLoadFault GoesSo task setting Connect = StopsUnconnected task setting true (NotConnected ∷ [])
-IsLoadFault GoesSo task setting WriteRecord = IsUnwritable task setting
 IsLoadFault GoesSo task setting WriteOutput = IsReportCutShort GoesSo task setting
-IsLoadFault GoesSo task setting Memory = IsWantOfMemory task setting
+IsLoadFault GoesSo task setting why = StopsUnopened task setting why ⊎ StopsOpened task setting why

@@ -2,7 +2,7 @@
 use Rattle.std.specs.Prelude.{◌≡◌, ℕ, ◌-◌, ◌≤◌, false, List, [], length, Option, Some, None}
 use Rattle.host_devices.specs.Devices.{LineTold}
 use Rattle.host_core.specs.declared.phase.End.TheVariants as host
-use Rattle.host_core.specs.Core.{Core, begun}
+use Rattle.host_core.specs.Core.{Core, begun_by}
 use Rattle.host_devices.specs.Turns.{most_turns}
 use Rattle.machine_load.specs.Asked.{Change, ◌⇒◌}
 use Rattle.engine.specs.declared.stop.Stop.TheVariants as drive
@@ -48,7 +48,7 @@ vouched_for verified Unfinished = verified
 
 -- the host of a life behind its looks, as one that nothing came before: its patience is what they left of the life's
 abbrev pub behind_looks : Core → Looks → Core
-behind_looks first looks = begun first.plan (vouched_for first.verified looks.finding) false (first.patience - looks.spent)
+behind_looks first looks = begun_by first.careful first.plan (vouched_for first.verified looks.finding) false (first.patience - looks.spent)
 
 -- samples of the words that the record of a life has, and a host that is to look at them, with the life's patience
 pub record IsSampled (first : Core) (samples : List WordValue) (reader : Reader) : Type 0 where

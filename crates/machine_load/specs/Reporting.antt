@@ -17,7 +17,6 @@ use Rattle.machine_load.specs.Scene.{Scene, finish_told}
 pub record AsksNoMore (scenes : Change Scene) : Type 0 where
   pub around_same : scenes.after.setting.around ≡ scenes.before.setting.around
   pub asked_same : scenes.after.asked ≡ scenes.before.asked
-  pub disk_same : scenes.after.disk ≡ scenes.before.disk
 
 -- a life was reported, and this is given back
 pub record IsLifeReported {L : Type 0} (tell : Line L) (lived : Lived L) (scenes : Change Scene) (outcome : Outcome L) : Type 0 where

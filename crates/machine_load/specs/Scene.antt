@@ -14,25 +14,23 @@ use Rattle.machine_load.specs.Asked.{Change, LoadTask, ◌⇒◌}
 use Rattle.machine_load.specs.Called.{asked_by, IsAskedBefore}
 use Rattle.machine_load.specs.Driving.{KeeperTells, IsDrivenOn}
 use Rattle.machine_load.specs.LoadFault.{Gone, IsLoadFault, gone}
-use Rattle.machine_load.specs.RecordDisk.{RecordDisk, DiskAsked, disk_asked_by, disk_asked_before}
 use Rattle.console_lines.specs.Dialling.{LineRequest, Call}
 use Rattle.machine_load.specs.Load.{SurroundingsTold, Ending, Finish, GoesOn, Setting, IsNeverBegun, IsReported}
 
 -- what surroundings tell
 abbrev pub around_of : {S L K : Type 0} → Surroundings S L K → S → SurroundingsTold
-around_of tell around = record { steps = tell.steps around; record_text = tell.record_text around }
+around_of tell around = record { steps = tell.steps around; record_text = tell.record_text around; disk = tell.disk around }
 
 -- the same, and the lines that were given back
 abbrev pub gone_of : {S L K : Type 0} → Surroundings S L K → S → Gone
 gone_of tell around = gone (around_of tell around) (tell.lines around)
 
--- what is known of a load at a moment: what was asked of its surroundings, its record, the lines that were given back and its output, what
--- was asked for lines and of the disk, and whom a connection leads to
+-- what is known of a load at a moment: what its surroundings tell, the lines that were given back and its output, what was asked for lines, and whom a
+-- connection leads to
 pub record Scene : Type 0 where
   pub setting : Setting
   pub asked : Option (List LineRequest)
   pub call : Call
-  pub disk : Option RecordDisk
 
 -- what surroundings and an output tell
 abbrev pub scene : {S L K W : Type 0} → Surroundings S L K → Write W → S → W → Scene
@@ -40,7 +38,6 @@ scene tell write around out = record {
   setting = record { around = around_of tell around; lines = tell.lines around; out = write.contents out };
   asked = tell.asked around;
   call = tell.call around;
-  disk = tell.disk around;
 }
 
 -- what the keepers tell that surroundings begin
@@ -76,23 +73,19 @@ pub record IsLoaded {L K : Type 0} (tells : LoadTells L K) (task : LoadTask) (sc
   pub stubs : outcome.stubs ≡ reported.stubs
   pub line : IsSome outcome.line ⊎ IsNeverBegun outcome.end
   pub asked : Gains scenes.before.asked scenes.after.asked (asked_by scenes.before.call outcome.line)
-  pub disk : DiskAsked scenes.before.disk scenes.after.disk (disk_asked_by outcome.end outcome.line)
 
 -- or it came to nothing
 pub record IsNotLoaded {K : Type 0} (keeper : KeeperTells K) (task : LoadTask) (scenes : Change Scene) (why : LoadFault) : Type 0 where
   -- also a life whose report could not be written was lived over its line and its keeper
   pub fault : IsLoadFault (IsDrivenOn keeper) task (scenes.before.setting ⇒ scenes.after.setting) why
   pub asked : IsAskedBefore scenes.before.call scenes.before.asked scenes.after.asked why
-  pub disk : DiskAsked scenes.before.disk scenes.after.disk (disk_asked_before why)
 
 -- what is said of a load by somebody who does not know of which types its line and its keeper are: it was reported, and ended so
 pub record IsLoadReported (task : LoadTask) (scenes : Change Scene) (ending : Ending) : Type 0 where
   pub reported : IsReported GoesOn task (scenes.before.setting ⇒ scenes.after.setting) ending
   pub asked : Gains scenes.before.asked scenes.after.asked (asked_by scenes.before.call ending.line)
-  pub disk : DiskAsked scenes.before.disk scenes.after.disk (disk_asked_by ending.end ending.line)
 
 -- or it came to nothing
 pub record IsLoadUnreported (task : LoadTask) (scenes : Change Scene) (why : LoadFault) : Type 0 where
   pub fault : IsLoadFault GoesOn task (scenes.before.setting ⇒ scenes.after.setting) why
   pub asked : IsAskedBefore scenes.before.call scenes.before.asked scenes.after.asked why
-  pub disk : DiskAsked scenes.before.disk scenes.after.disk (disk_asked_before why)

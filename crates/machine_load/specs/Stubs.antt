@@ -1,19 +1,23 @@
 -- What the looks and the stubs of a load leave to its host.
 use Rattle.std.specs.Prelude.{◌+◌, ◌^◌, ◌≤◌, false, Option, Some, None}
-use Rattle.host_core.specs.Core.{Core, begun}
+use Rattle.host_core.specs.Core.{Core, begun_by}
 use Rattle.load_engine.specs.Driving.{LoadStop as Stop}
 use Rattle.engine.specs.declared.stop.Stop.TheVariants.{Ended, LineFailed, KeepFailed, TurnsOver}
+use Rattle.host_core.specs.declared.phase.End.TheVariants.{NoWord}
 use Rattle.stub_engine.specs.Parts.{StubsStop}
+use Rattle.stub_engine.specs.declared.stop.StubsEnd.TheVariants.{NotStarted}
 use Rattle.machine_load.specs.declared.looks.Looks.{Looks}
 use Rattle.machine_load.specs.declared.stubs.Stubs.{Stubs}
 
 -- the host behind the stubs of a life, where it brings some in: it begins behind the words that they verified, with a patience of its own
 abbrev pub host_behind : Core → Option Stubs → Core
 host_behind first None = first
-host_behind first (Some stubs) = begun first.plan stubs.tally.verified false first.patience
+host_behind first (Some stubs) = begun_by first.careful first.plan stubs.tally.verified false first.patience
 
--- why a load stops with its stubs: a device failed, or turns were over; for another reason its host goes on behind them
+-- why a load stops with its stubs: a device failed, turns were over, or the machine lacks a word that one was to be typed into, which is the tape's, too;
+-- for another reason its host goes on behind them
 abbrev pub hindrance_of : StubsStop → Option Stop
+hindrance_of (Ended (NotStarted (NoWord address))) = Some (Ended (NoWord address))
 hindrance_of (Ended end) = None
 hindrance_of (LineFailed fault) = Some (LineFailed fault)
 hindrance_of (KeepFailed fault) = Some (KeepFailed fault)

@@ -33,8 +33,6 @@ impl<C: Reach, R: Records> Surroundings for Around<C, R> {
 
     ghost disk = { λ around. R.disk around.records };
 
-    ghost holds = { λ around. R.holds around.records };
-
     fn read_record(&mut self, alloc: Global) -> Result<OldRecord, RecordFault> {
         self.records.read(alloc)
     }

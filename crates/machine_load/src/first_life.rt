@@ -1,6 +1,6 @@
 //! A life as it begins.
 ghost use Rattle.std.specs.Prelude.{◌≡◌, ◌≤◌, false, length, None, IfSome};
-ghost use Rattle.host_core.specs.Core.{begun, ended};
+ghost use Rattle.host_core.specs.Core.{begun_by, ended};
 ghost use Rattle.host_core.specs.Opening.{refusal_of};
 ghost use Rattle.machine_load.specs.Looks.{behind_looks};
 ghost use Rattle.machine_load.specs.Stubs.{host_behind};
@@ -19,34 +19,36 @@ pub(crate) struct FirstLife {
     plan: Plan,
     progress: Progress,
     patience: u32,
+    careful: bool,
 }
 
 impl Model for FirstLife {
     ghost use Rattle.std.specs.Prelude.{◌≡◌, None};
     ghost use Rattle.std.specs.Coded.{codes};
     ghost use Rattle.tape_image.specs.Plan.{plan_code};
-    ghost use Rattle.host_core.specs.Core.{Core, begun};
+    ghost use Rattle.host_core.specs.Core.{Core, begun_by};
     ghost use Rattle.host_core.specs.Opening.{refusal_of};
 
     ghost Value = { Core };
 
     ghost coded = { Prim.hlevel (codes, plan_code) };
 
-    ghost view = { λ life. begun life.plan life.progress.verified life.progress.going life.patience };
+    ghost view = { λ life. begun_by life.careful life.plan life.progress.verified life.progress.going life.patience };
 
     ghost invariant = { λ life. refusal_of life.plan life.progress.verified life.progress.going ≡ None };
 }
 
 impl FirstLife {
-    /// A life that begins with a progress, and survives so many mishaps.
-    pub(crate) fn new(plan: Plan, progress: Progress, patience: u32) -> FirstLife
+    /// A life of a careful host, or a plain one, that begins with a progress and survives so many mishaps.
+    pub(crate) fn new(careful: bool, plan: Plan, progress: Progress, patience: u32) -> FirstLife
         requires { refusal_of plan progress.verified progress.going ≡ None }
-        ensures { result ≡ begun plan progress.verified progress.going patience }
+        ensures { result ≡ begun_by careful plan progress.verified progress.going patience }
     {
         FirstLife {
             plan,
             progress,
             patience,
+            careful,
         }
     }
 
@@ -98,6 +100,7 @@ impl FirstLife {
             plan,
             progress,
             patience,
+            careful,
         } = self;
         let verified = match looks.finding {
             Finding::Stale(_) => 0,
@@ -107,7 +110,7 @@ impl FirstLife {
             verified,
             going: false,
         };
-        FirstLife::new(plan, progress, patience - looks.spent)
+        FirstLife::new(careful, plan, progress, patience - looks.spent)
     }
 
     /// Its host, as one that nothing came before.
@@ -118,8 +121,9 @@ impl FirstLife {
             plan,
             progress,
             patience,
+            careful,
         } = self;
-        HostCore::new(plan, progress, patience).unwrap()
+        HostCore::with_care(careful, plan, progress, patience).unwrap()
     }
 
     /// Its host behind its stubs, where it brings some in.
@@ -136,13 +140,18 @@ impl FirstLife {
     // Its host, where so many words were verified meanwhile.
     fn host_from(self, verified: u32) -> HostCore
         requires { verified ≤ length self.plan.words }
-        ensures { result ≡ begun self.plan verified false self.patience }
+        ensures { result ≡ begun_by self.careful self.plan verified false self.patience }
     {
-        let FirstLife { plan, patience, .. } = self;
+        let FirstLife {
+            plan,
+            patience,
+            careful,
+            ..
+        } = self;
         let progress = Progress {
             verified,
             going: false,
         };
-        HostCore::new(plan, progress, patience).unwrap()
+        HostCore::with_care(careful, plan, progress, patience).unwrap()
     }
 }

@@ -1,18 +1,17 @@
 //! The load itself.
-ghost use Rattle.std.specs.Prelude.{◌≡◌, ◌⊎◌, Bool, None, Ok, Err, IfOk, IfErr, IfSome, OnOk, option_map};
+ghost use Rattle.std.specs.Prelude.{◌≡◌, Bool, None, Ok, Err, IfOk, IfErr, IfSome, OnOk, option_map};
 ghost use Rattle.std.specs.Io.KnownBytes.{Keeps};
 ghost use Rattle.host_core.specs.Opening.{refusal_of};
 ghost use Rattle.load_record.specs.Reading.{Says};
 ghost use Rattle.host_devices.specs.Told.{Gains};
 ghost use Rattle.machine_load.specs.Asked.{opened_as, task, ◌⇒◌};
-ghost use Rattle.machine_load.specs.Beginning.{IsBeginning, IsBeginningOn, IsNoBeginningOn, SendsFew, asked_to_begin};
+ghost use Rattle.machine_load.specs.Beginning.{IsBeginning, SendsFew, asked_to_begin};
 ghost use Rattle.machine_load.specs.Called.{IsAskedBefore};
 ghost use Rattle.host_devices.specs.Devices.{line_told};
 ghost use Rattle.machine_load.specs.GivenBack.{IsGivenBack};
 ghost use Rattle.machine_load.specs.Load.{IsOpened, words_taken};
-ghost use Rattle.machine_load.specs.LoadFault.{IsBeginningFault, IsOpeningFault};
+ghost use Rattle.machine_load.specs.LoadFault.{IsBeginningFault, IsOpeningFault, IsRefused};
 ghost use Rattle.machine_load.specs.Looks.{AreFewLooks};
-ghost use Rattle.machine_load.specs.RecordDisk.{DiskAsked, disk_asked_before, IsOnlyRead};
 ghost use Rattle.machine_load.specs.Reporting.{IsLifeReported, IsLifeUnreported};
 ghost use Rattle.machine_load.specs.Scene.{around_of, gone_of, keeper_of, scene, tells_of, IsLoaded, IsNotLoaded};
 ghost use Rattle.machine_load.specs.Stubs.{AreFew};
@@ -51,8 +50,8 @@ use tape_image::Plan;
 /// them then, and the record is as it was.
 ///
 /// Else the record is written anew with the words that count as verified. Then, where the load is to be fast,
-/// stubs take words, as `bring_in` of the crate `stub_engine` has it. Where a device fails with them, or turns
-/// are over, the load stops so; for every other reason it goes on behind the words that they verified, with its
+/// stubs take words, as `bring_in` of the crate `stub_engine` has it. Where a device fails with them, turns are over, or
+/// the machine lacks a word that one was to be typed into, the load stops so; for every other reason it goes on behind the words that they verified, with its
 /// host, which is driven for 10,000,000 turns at most. Each of them has the patience that the looks left. The
 /// report is of the host that the engine gives back, with the characters and the mishaps of the looks and of
 /// the stubs, too. The line comes back, without which only a life ends that was over before it began.
@@ -126,13 +125,11 @@ fn first_life<S: Surroundings>(
     ensures asked { S.asked around.new ≡ S.asked around.old }
     ensures call { S.call around.new ≡ S.call around.old }
     ensures lines { S.lines around.new ≡ S.lines around.old }
-    ensures disk { OnOk result (DiskAsked (S.disk around.old) (S.disk around.new) IsOnlyRead) }
-    ensures disk_in_vain { IfErr result (λ fault. DiskAsked (S.disk around.old) (S.disk around.new) (disk_asked_before fault)) }
 {
     let record = around.read_record(alloc)?;
     let said = what_is_said(&record.text, &plan)?;
     let progress = taken(said, options.recheck);
-    let first = FirstLife::new(plan, progress, options.patience);
+    let first = FirstLife::new(options.careful, plan, progress, options.patience);
     let may_begin = record.may_become(alloc, first.plan(), first.verified())?;
     Ok((first, may_begin))
 }
@@ -142,7 +139,7 @@ fn what_is_said(text: &[u8], plan: &Plan) -> Result<Progress, RecordError>
     ensures said { IfOk result (λ said. Says plan.now text.now (Ok said)) }
     ensures ours { OnOk result (HoldsNoRecord text.now → ⊥) }
     ensures accepted { IfOk result (λ said. refusal_of plan.now said.verified said.going ≡ None) }
-    ensures refused { IfErr result (λ why. Says plan.now text.now (Err why) ⊎ ((why ≡ RecordError.NotARecord) × HoldsNoRecord text.now)) }
+    ensures refused { IfErr result (IsRefused plan.now text.now) }
 {
     if holds_no_record(text) {
         return Err(RecordError::NotARecord);
@@ -183,8 +180,6 @@ fn begin<S: Surroundings, O: Onlooker>(
     ensures asked { IfOk result (λ beginning. Gains (S.asked around.old) (S.asked around.new) (asked_to_begin (S.call around.old) beginning)) }
     ensures asked_in_vain { IfErr result (IsAskedBefore (S.call around.old) (S.asked around.old) (S.asked around.new)) }
     ensures lines { OnOk result (S.lines around.new ≡ S.lines around.old) }
-    ensures disk { IfOk result (IsBeginningOn (S.disk around.old) (S.disk around.new)) }
-    ensures disk_in_vain { IfErr result (IsNoBeginningOn (S.disk around.old) (S.disk around.new)) }
 {
     if let Some(end) = first.end() {
         return Ok(Beginning::Over(Lived {

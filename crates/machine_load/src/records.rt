@@ -1,6 +1,6 @@
 //! Where the record of a load is: in a file, or in memory alone.
-ghost use Rattle.std.specs.Prelude.{ℕ, List, IfErr, IfOk, ⊤, Option, Some, None, option_map};
-ghost use Rattle.machine_load.specs.RecordDisk.{RecordDisk, IsReadAnswered, IsBeginAnswered, IsTextRead, begun_text};
+ghost use Rattle.std.specs.Prelude.{ℕ, IfErr, IfOk, ⊤, Option, Some, None, option_map};
+ghost use Rattle.machine_load.specs.RecordDisk.{RecordDisk, IsReadAnswered, IsBeginAnswered, begun_text};
 ghost use Rattle.record_file.specs.DiskRecord.{HasBegun};
 ghost use Rattle.record_file.specs.RecordFault.{IsUnbegun, IsUnread};
 ghost use Rattle.record_file.specs.Known.{known_of};
@@ -19,17 +19,13 @@ pub trait Records {
     /// What a keeper is that was begun with so many words of a plan, where the type says it.
     ghost begins: { Self.Keeper → PlanValue → ℕ → Type 0 } = { λ _ _ _. ⊤ };
 
-    /// The disk on which the record is; None where it is on none, or the type doesn't say.
+    /// The disk on which the record is, with what was asked of it; None where it is on none, or the type doesn't say.
     ghost disk: { Self → Option RecordDisk } = { λ _. None };
-
-    /// What the record's file holds on it before it is read; None where the type doesn't tell.
-    ghost holds: { Self → Option (List ℕ) } = { λ _. None };
 
     /// The record of earlier lives, which from there on is held. It is changed in nothing.
     fn read(&mut self, alloc: Global) -> Result<OldRecord, RecordFault>
         ensures fault { IfErr result IsUnread }
-        ensures disk { IsReadAnswered (disk self.old) (disk self.new) result }
-        ensures had { IfOk result (λ old. IsTextRead (holds self.old) (disk self.old) (disk self.new) old.text.items) };
+        ensures disk { IsReadAnswered (disk self.old) (disk self.new) result };
 
     /// Writes the record anew, with the first verified words of the plan, and keeps it from there on.
     fn begin(
@@ -48,9 +44,12 @@ impl<D: Disk + Drop> Records for RecordFile<'_, D> {
 
     ghost begins = { λ keeper plan count. HasBegun D.File.contents plan count keeper };
 
-    ghost disk = { λ file. Some (record { asked = D.asked file.disk; name = file.name.now; known = option_map (known_of D.File.written) file.held }) };
-
-    ghost holds = { λ file. D.holds file.disk file.name.now };
+    ghost disk = { λ file. Some (record {
+      asked = D.asked file.disk;
+      name = file.name.now;
+      known = option_map (known_of D.File.written) file.held;
+      holds = D.holds file.disk file.name.now;
+    }) };
 
     fn read(&mut self, alloc: Global) -> Result<OldRecord, RecordFault> {
         RecordFile::read(self, alloc)

@@ -7,10 +7,11 @@ ghost use Rattle.machine_load.specs.Parts.{AreBrought, AreKept, stubs_of};
 ghost use Rattle.machine_load.specs.Stubs.{hindrance};
 
 use crate::first_life::FirstLife;
+use host_core::End;
 use host_devices::{Keep, Line, Onlooker};
 use load_engine::Stop;
 use std::alloc::Global;
-use stub_engine::{Stop as StubStop, Tally, bring_in};
+use stub_engine::{Stop as StubStop, StubsEnd, Tally, bring_in};
 
 /// How far the stubs of a load came, and why no more were brought in.
 #[derive(Clone, Copy, Debug, PartialEq, Eq)]
@@ -50,11 +51,15 @@ pub(crate) fn bring_stubs<L: Line, K: Keep, O: Onlooker>(
     Some(Stubs { tally, stop })
 }
 
-/// Why a load stops with its stubs, where no host may follow them: a device failed, or turns were over.
+/// Why a load stops with its stubs, where no host follows them: a device failed, turns were over, or the machine lacks a
+/// word that one was to be typed into. The tape has that word, too.
 pub(crate) fn hindrance(stubs: Option<Stubs>) -> Option<Stop>
     ensures { result ≡ hindrance stubs }
 {
     match stubs?.stop {
+        StubStop::Ended(StubsEnd::NotStarted(End::NoWord(address))) => {
+            Some(Stop::Ended(End::NoWord(address)))
+        }
         StubStop::Ended(_) => None,
         StubStop::LineFailed(fault) => Some(Stop::LineFailed(fault)),
         StubStop::KeepFailed(fault) => Some(Stop::KeepFailed(fault)),

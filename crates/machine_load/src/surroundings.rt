@@ -3,7 +3,7 @@ ghost use Rattle.std.specs.Io.KnownBytes.{Keeps};
 ghost use Rattle.tape_values.specs.Told.{IsAsTold};
 ghost use Rattle.host_devices.specs.Told.{Gains};
 ghost use Rattle.machine_load.specs.Load.{IsTextBegun};
-ghost use Rattle.machine_load.specs.RecordDisk.{RecordDisk, IsReadAnswered, IsBeginAnswered, IsTextRead, begun_text};
+ghost use Rattle.machine_load.specs.RecordDisk.{RecordDisk, IsReadAnswered, IsBeginAnswered, begun_text};
 ghost use Rattle.record_file.specs.RecordFault.{IsUnread, IsUnbegun};
 ghost use Rattle.host_devices.specs.Devices.{LineTold, line_told};
 ghost use Rattle.console_lines.specs.Reached.{IsUnused};
@@ -46,11 +46,8 @@ pub trait Surroundings {
     /// What a keeper is that was begun with so many words of a plan, where the type says it.
     ghost begins: { Self.Keeper → PlanValue → ℕ → Type 0 } = { λ _ _ _. ⊤ };
 
-    /// The disk on which the record is; None where it is on none, or the type doesn't say.
+    /// The disk on which the record is, with what was asked of it; None where it is on none, or the type doesn't say.
     ghost disk: { Self → Option RecordDisk } = { λ _. None };
-
-    /// What the record's file holds on it before it is read; None where the type doesn't tell.
-    ghost holds: { Self → Option (List ℕ) } = { λ _. None };
 
     /// The record of earlier lives, which from there on is held: no other load has it until this one is
     /// over. It is changed in nothing.
@@ -62,8 +59,7 @@ pub trait Surroundings {
         ensures same { Keeps (record_text self.old) (record_text self.new) }
         ensures asked { asked self.new ≡ asked self.old }
         ensures call { call self.new ≡ call self.old }
-        ensures disk { IsReadAnswered (disk self.old) (disk self.new) result }
-        ensures had { IfOk result (λ old. IsTextRead (holds self.old) (disk self.old) (disk self.new) old.text.items) };
+        ensures disk { IsReadAnswered (disk self.old) (disk self.new) result };
 
     /// A connection to the console, on which nothing was said.
     fn connect(&mut self) -> Result<Self::Line, LineFault>

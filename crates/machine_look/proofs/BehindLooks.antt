@@ -8,18 +8,18 @@ use Rattle.host_devices.specs.Turns.{most_turns}
 use Rattle.reading_core.specs.Addresses.{AreAddresses, addresses_of}
 use Rattle.reading_core.specs.Invariant.{IsReader}
 use Rattle.reading_core.specs.Laws.{led}
-use Rattle.reading_core.specs.Reader.{Reader, begun}
+use Rattle.reading_core.specs.Reader.{Manner, Reader, begun, begun_in}
 use Rattle.reading_core.specs.ReadingTable.{ask}
 use Rattle.reading_core.specs.declared.phase.End.TheVariants.{Complete}
 use Rattle.reading_core.proofs.Lives.{asked}
-use Rattle.reading_core.proofs.Turns.{fresh_kept}
+use Rattle.reading_core.proofs.Turns.{fresh_in, fresh_kept}
 use Rattle.looking_law.specs.Belief.{IsReadyMachine, dialogue}
 use Rattle.looking_law.specs.Runs.{Look}
 use Rattle.looking_law.specs.Trying.{IsToldOf}
 use Rattle.looking_law.proofs.Believed.{leave_ready}
-use Rattle.looking_law.proofs.Runs.{may_begin, run_begins, run_tidy}
+use Rattle.looking_law.proofs.Runs.{may_begin, may_begin_in, run_tidy}
 use Rattle.looking_law.proofs.Splits.{lines_split}
-use Rattle.looking_law.proofs.Told.{told_begins, told_honest}
+use Rattle.looking_law.proofs.Told.{reading_begins, told_begins, told_honest}
 use Rattle.looking_engine.specs.Belief.{IsBelievableOver}
 use Rattle.looking_engine.specs.Inquired.{Inquired, inquiry}
 use Rattle.looking_engine.specs.Session.{IsSaid}
@@ -68,22 +68,21 @@ pub record IsReadBehind (samples : List WordValue) (last : Reader) (machine : Ch
 
 pub reading_holds : (samples : List WordValue) (patience : ℕ) (looks : Reader) (said : List Item) → AreAddresses (addresses_of samples) → patience < 2 ^ 32
     → (s : AreLookedAt samples patience (all_stood looks) said) → IsReader looks
-    → (stop : Option LookStop) (addresses : List ℕ) (left : ℕ) (last : Reader) (line line' : Option (List Item)) → AreAddresses addresses → left < 2 ^ 32
-    → (t : Inquired most_turns (inquiry (begun addresses [] left) last stop) line line') → WhereHonest (s.inquired.said ++ t.said) (IsReadBehind samples last)
-reading_holds samples patience looks said are long s kept stop addresses left last line line' are' long' t machine now lost ready honest =
+    → (stop : Option LookStop) (manner : Manner) (addresses : List ℕ) (left : ℕ) (last : Reader) (line line' : Option (List Item)) → AreAddresses addresses → left < 2 ^ 32
+    → (t : Inquired most_turns (inquiry (begun_in manner addresses [] left) last stop) line line') → WhereHonest (s.inquired.said ++ t.said) (IsReadBehind samples last)
+reading_holds samples patience looks said are long s kept stop manner addresses left last line line' are' long' t machine now lost ready honest =
     let one = Look (addresses_of samples) patience s.inquired.heard in
-    let two = Look addresses left t.heard in
     let first : Reader = begun (addresses_of samples) [] patience in
-    let second : Reader = begun addresses [] left in
+    let second : Reader = begun_in manner addresses [] left in
     let reads = fresh_kept (addresses_of samples) patience are long in
-    let reads' = fresh_kept addresses left are' long' in
+    let reads' = fresh_in manner addresses left are' long' in
     let told : IsToldOf (dialogue first s.inquired.heard) s.inquired.said = said_told (Some (Ended Complete)) (most_turns - length s.inquired.heard) (dialogue first s.inquired.heard) s.inquired.said s.inquired.items in
     let told' : IsToldOf (dialogue second t.heard) t.said = said_told stop (most_turns - length t.heard) (dialogue second t.heard) t.said t.items in
-    let parts = lines_split machine now s.inquired.said t.said lost (run_tidy one s.inquired.said machine ready (are, long) told) (told_begins (dialogue second t.heard) t.said told' (run_begins two)) honest in
+    let parts = lines_split machine now s.inquired.said t.said lost (run_tidy one s.inquired.said machine ready (are, long) told) (told_begins (dialogue second t.heard) t.said told' (reading_begins second t.heard)) honest in
     let found = looks_hold samples patience (all_stood looks) said are long s kept machine parts.between parts.lost_before ready parts.before in
     let ready' : IsReadyMachine parts.between = leave_ready first s.inquired.heard machine parts.between parts.lost_before reads (may_begin (addresses_of samples) patience machine ready)
     (told_honest (dialogue first s.inquired.heard) s.inquired.said machine parts.between parts.lost_before told parts.before) in
-    let read = is_true stop second last t.said parts.between now parts.lost_after (believed_said stop second last line line' t reads') (may_begin addresses left parts.between ready') parts.after in
+    let read = is_true stop second last t.said parts.between now parts.lost_after (believed_said stop second last line line' t reads') (may_begin_in manner addresses left parts.between ready') parts.after in
     record {
       as_found = (read.1.same ∙ found.0, subst (λ memory. IsSoIn memory samples AllStand) (sym read.1.same) found.1);
       holds = read.1.read.holds;

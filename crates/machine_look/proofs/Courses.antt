@@ -7,9 +7,9 @@ use Rattle.host_devices.specs.Told.{Gains}
 use Rattle.host_devices.specs.Turns.{most_turns}
 use Rattle.host_devices.specs.declared.item.Item.{Item}
 use Rattle.reading_core.specs.Addresses.{AreAddresses, IsRange, addresses_of}
-use Rattle.reading_core.specs.Bound.{reading_bound}
+use Rattle.reading_core.specs.Bound.{life_bound, reading_bound}
 use Rattle.reading_core.specs.Invariant.{IsReader}
-use Rattle.reading_core.specs.Reader.{Reader, begun, ended}
+use Rattle.reading_core.specs.Reader.{Reader, begun, ended, manner_of}
 use Rattle.reading_core.specs.declared.phase.End.TheVariants.{Complete}
 use Rattle.looking_engine.specs.Stopping.{LookStop, TellsEnd}
 use Rattle.looking_engine.specs.Inquired.{Inquired, inquiry}
@@ -18,7 +18,7 @@ use Rattle.sample_looks.specs.Finding.{IsFound}
 use Rattle.sample_looks.specs.declared.finding.Finding.TheVariants.{AllStand}
 use Rattle.sample_looks.specs.declared.looking.Looked.{Looked}
 use Rattle.request_values.specs.Change.{Change, ◌⇒◌}
-use Rattle.machine_look.specs.Behind.{AreLookedAt, AreOfFound, IsAsFound, IsHeldUp, IsMemoryBehind, IsRead, Saving, WhereHonest, addresses_behind, all_stood}
+use Rattle.machine_look.specs.Behind.{AreLookedAt, AreOfFound, IsAsFound, IsHeldUp, IsMemoryBehind, IsRead, Saving, WhereHonest, addresses_behind, all_stood, begun_behind}
 use Rattle.tape_shelf.specs.FoundPart.{FillBlocks}
 use Rattle.machine_look.specs.Look.{IsGivenBack}
 use Rattle.machine_look.proofs.BehindLooks.{looks_hold, reading_holds}
@@ -53,8 +53,8 @@ held_up saving console looked samples said of s kept long not_all asked given = 
 pub is_read : (saving : Saving) (console : Change ConsoleTold) (looked : Looked) (last first : Reader) (stop : Option LookStop) (samples : List WordValue) (looking : List Item) (line line' : Option (List Item))
     → IsRange saving.options.range.from saving.options.range.to → saving.options.start < 65536 → FillBlocks saving.options.range saving.found → AreAddresses (addresses_behind saving.options.range saving.found)
     → AreOfFound saving.options.range saving.found samples → looked.finding ≡ AllStand → AreLookedAt samples saving.options.patience looked looking → IsReader looked.reader → saving.options.patience < 2 ^ 32
-    → first ≡ begun (addresses_behind saving.options.range saving.found) [] (saving.options.patience - looked.reader.spent) → (r : Inquired most_turns (inquiry first last stop) line line')
-    → last.addresses ≡ first.addresses → last.patience ≡ first.patience → last.sent ≤ reading_bound (length last.addresses) last.patience → IsReader last
+    → first ≡ begun_behind saving looked.reader → (r : Inquired most_turns (inquiry first last stop) line line')
+    → last.addresses ≡ first.addresses → last.patience ≡ first.patience → last.sent ≤ life_bound first.manner.care (length last.addresses) last.patience → IsReader last
     → Gains console.before.asked console.after.asked (asked_once console.before.call) → IsGivenBack stop (looking ++ r.said) (console.before.lines ⇒ console.after.lines)
     → IsRead saving console (record { looks = looked.reader; last = last; stop = stop })
 is_read saving console looked last first stop samples looking line line' range begins fill are of all s kept long is r addresses patience bound kept' asked given =
@@ -70,7 +70,7 @@ is_read saving console looked last first stop samples looking line line' range b
       paid = s.paid;
     } in
     let said : List Item = looking ++ r.said in
-    let read : Inquired most_turns (inquiry (begun behind_it [] (saving.options.patience - looks.spent)) last stop) (Some looking) (Some said) =
+    let read : Inquired most_turns (inquiry (begun_behind saving looks) last stop) (Some looking) (Some said) =
     subst (λ (q : Reader). Inquired most_turns (inquiry q last stop) (Some looking) (Some said)) is (behind stop first last line line' looking r) in
     let there : last.addresses ≡ behind_it = addresses ∙ ap (λ (r : Reader). r.addresses) is in
     let left : last.patience ≡ saving.options.patience - looks.spent = patience ∙ ap (λ (r : Reader). r.patience) is in
@@ -86,9 +86,10 @@ is_read saving console looked last first stop samples looking line line' range b
       given = given;
       addresses = there;
       patience = left;
-      bound = subst (λ n. last.sent ≤ reading_bound (length behind_it) n) left (subst (λ (list : List ℕ). last.sent ≤ reading_bound (length list) last.patience) there bound);
+      bound = subst (λ care. last.sent ≤ life_bound care (length behind_it) (saving.options.patience - looks.spent)) (ap (λ (r : Reader). r.manner.care) is)
+          (subst (λ n. last.sent ≤ life_bound first.manner.care (length behind_it) n) left (subst (λ (list : List ℕ). last.sent ≤ life_bound first.manner.care (length list) last.patience) there bound));
       kept = kept';
       is_memory = subst (λ items. WhereHonest items (IsMemoryBehind saving last.values samples)) all_said
           (λ machine now lost ready honest. memory_behind saving samples last (machine ⇒ now) range begins fill there kept'
-          (reading_holds samples saving.options.patience looks looking of.asked long stood kept stop behind_it (saving.options.patience - looks.spent) last (Some looking) (Some said) are (omega (arith, long)) read machine now lost ready honest));
+          (reading_holds samples saving.options.patience looks looking of.asked long stood kept stop (manner_of saving.options.care []) behind_it (saving.options.patience - looks.spent) last (Some looking) (Some said) are (omega (arith, long)) read machine now lost ready honest));
     }

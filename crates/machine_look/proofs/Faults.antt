@@ -1,5 +1,5 @@
 -- Looks that come to nothing.
-use Rattle.std.proofs.Common.{◌≡◌, ◌<◌, ℕ, List, [], ◌∷◌, ◌++◌, length, Some, Result, Ok, Err, IfOk, IsErrAnd, refl, arith, sym, subst, inl, inr, OnOk}
+use Rattle.std.proofs.Common.{◌≡◌, ◌<◌, ℕ, true, List, [], ◌∷◌, ◌++◌, length, Some, Result, Ok, Err, IfOk, IsErrAnd, refl, arith, sym, subst, inl, inr, OnOk}
 use Rattle.std.specs.Io.KnownBytes.{Keeps}
 use Rattle.looking_engine.specs.Stopping.{LookStop}
 use Rattle.machine_look.specs.declared.look_fault.LookFault.{LookFault}
@@ -9,7 +9,7 @@ use Rattle.tape_shelf.specs.declared.shelf.ShelfFault.{ShelfFault}
 use Rattle.tape_shelf.specs.declared.shelf.ShelfFault.TheVariants as why
 use Rattle.machine_look.specs.LookFault.{IsKeepFault, IsReadFault, IsSaveFault, IsSaveNotBegun, TakesUpNothing, fault_of_shelf}
 use Rattle.machine_look.specs.Behind.{Saving}
-use Rattle.machine_look.specs.Save.{IsSaveRead, SaveTold, TakesUp, console_of, numbers_of}
+use Rattle.machine_look.specs.Save.{IsSaveRead, SaveTold, TakesUp, console_of, has_all, numbers_of}
 use Rattle.tape_shelf.specs.SavedSteps.{adds, closes, full, puts}
 use Rattle.tape_shelf.specs.SavedTape.{last_text}
 use Rattle.tape_shelf.specs.Shelf.{ShelfStep, Put, NotPut, put_step, IsPutFault}
@@ -34,7 +34,7 @@ not_begun options before after fault steps refusal done unasked unlined same = b
     by why.Memory refusal = inl (so why.Memory refusal)
 
 -- what was done once a shelf was taken up
-done_behind : (taking steps : List ShelfStep) (folder : List ℕ) (a b c : ShelfTold) → AreDone folder taking a b → AreDone folder steps b c → HasDone (taking ++ steps) a c
+pub done_behind : (taking steps : List ShelfStep) (folder : List ℕ) (a b c : ShelfTold) → AreDone folder taking a b → AreDone folder steps b c → HasDone (taking ++ steps) a c
 done_behind taking steps folder a b c first second = (folder, done_join folder taking steps a b c first second)
 
 -- a reading that comes to nothing
@@ -63,14 +63,14 @@ not_read saving taking before after mid opened folder WriteTape takes is_open ta
 not_read saving taking before after mid opened folder other takes is_open taken fails same = absurd fails
 
 -- a tape that is not closed
-pub not_closed : (options : SaveOptions) (before after : SaveTold) (mid : ShelfTold) (mid' : ShelfAt) (opened : List ℕ → Type 0) (folder : List ℕ) (stop : LookStop) (read : IsSaveRead (Some stop) options before after) (fault : LookFault)
+pub not_closed : (options : SaveOptions) (before after : SaveTold) (mid : ShelfTold) (mid' : ShelfAt) (opened : List ℕ → Type 0) (folder : List ℕ) (stop : LookStop) (read : IsSaveRead (Some stop) options before after) → has_all stop ≡ true → (fault : LookFault)
     → mid'.is_opened_as folder → AreDone folder read.taking before.shelf mid → AreDone folder (adds options.range.from (numbers_of read) (full (numbers_of read))) mid mid'.told
     → IsKeepFault (last_text options.range.from (numbers_of read) options.start) mid' (record { told = after.shelf; is_opened_as = opened }) fault → Keeps before.out after.out → IsSaveFault options before after fault
-not_closed options before after mid mid' opened folder stop read IsThere is_open taken added fails same =
-    inr (record { stop = stop; read = read; refused = done_behind read.taking _ folder before.shelf mid after.shelf taken (done_join folder (adds options.range.from (numbers_of read) (full (numbers_of read))) _ mid mid'.told after.shelf added (fails folder is_open)); nothing_reported = same })
-not_closed options before after mid mid' opened folder stop read WriteTape is_open taken added fails same =
-    inr (inr (record { stop = stop; read = read; refused = done_behind read.taking _ folder before.shelf mid after.shelf taken (done_join folder (adds options.range.from (numbers_of read) (full (numbers_of read))) _ mid mid'.told after.shelf added (fails folder is_open)); nothing_reported = same }))
-not_closed options before after mid mid' opened folder stop read other is_open taken added fails same = absurd fails
+not_closed options before after mid mid' opened folder stop read all IsThere is_open taken added fails same =
+    inr (record { stop = stop; read = read; all = all; refused = done_behind read.taking _ folder before.shelf mid after.shelf taken (done_join folder (adds options.range.from (numbers_of read) (full (numbers_of read))) _ mid mid'.told after.shelf added (fails folder is_open)); nothing_reported = same })
+not_closed options before after mid mid' opened folder stop read all WriteTape is_open taken added fails same =
+    inr (inr (record { stop = stop; read = read; all = all; refused = done_behind read.taking _ folder before.shelf mid after.shelf taken (done_join folder (adds options.range.from (numbers_of read) (full (numbers_of read))) _ mid mid'.told after.shelf added (fails folder is_open)); nothing_reported = same }))
+not_closed options before after mid mid' opened folder stop read all other is_open taken added fails same = absurd fails
 
 -- ---- the last text
 

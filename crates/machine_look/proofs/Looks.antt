@@ -16,7 +16,7 @@ use Rattle.std.specs.Prelude.{Result, Ok, Err, OnErr, is_err}
 use Rattle.reading_core.specs.declared.phase.End.{End}
 use Rattle.reading_core.specs.declared.phase.End.TheVariants.{Complete, GaveUp, NoWord}
 use Rattle.reading_core.specs.declared.phase.Phase.{Phase}
-use Rattle.reading_core.specs.declared.phase.Phase.TheVariants.{Settle, Sync, Address, Slash, Before, Value, Close, Ended as Over}
+use Rattle.reading_core.specs.declared.phase.Phase.TheVariants.{Settle, Sync, Address, Slash, Before, Value, Close, Refused, Ended as Over}
 use Rattle.reading_core.specs.Invariant.{Basis, PhaseFits, IsReader}
 use Rattle.reading_core.specs.Reader.{Reader, ended}
 use Rattle.reading_core.proofs.Turns.{within_bound}
@@ -133,6 +133,7 @@ all_in Slash b fits is = absurd (cc is)
 all_in Before b fits is = absurd (cc is)
 all_in (Value value place) b fits is = absurd (cc is)
 all_in (Close place) b fits is = absurd (cc is)
+all_in (Refused place) b fits is = absurd (cc is)
 
 pub all_read : (reader : Reader) → IsReader reader → ended reader.phase ≡ Some Complete → length reader.values ≡ length reader.addresses
 all_read reader reads is = all_in reader.phase _ reads.fits is

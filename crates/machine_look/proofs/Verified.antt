@@ -10,7 +10,7 @@ use Rattle.host_core.specs.Core.{word_nr, no_word}
 use Rattle.line_world.specs.Safe.{FirstStand}
 use Rattle.reading_core.specs.declared.phase.End.TheVariants.{Complete, GaveUp as HostGaveUp, NoWord as HostFoundNoWord}
 use Rattle.reading_core.specs.Addresses.{addresses_of}
-use Rattle.reading_core.specs.Reader.{Reader, begun, ended}
+use Rattle.reading_core.specs.Reader.{Reader, ended}
 use Rattle.looking_law.specs.Belief.{IsTrueReading}
 use Rattle.host_devices.specs.Devices.{LineTold}
 use Rattle.request_values.specs.Change.{Change, ◌⇒◌}
@@ -24,7 +24,8 @@ use Rattle.machine_look.specs.Differences.{differences}
 use Rattle.console_lines.specs.Console.{ConsoleTold}
 use Rattle.machine_look.specs.Look.{AsksOnce, IsLook, OverHonestLine}
 use Rattle.machine_look.specs.LookFault.{IsCompareFault, IsVerifyFault}
-use Rattle.machine_look.specs.Verify.{IsSameWith, IsVerified}
+use Rattle.machine_look.specs.Verify.{IsSameWith, IsVerified, verifier}
+use Rattle.machine_look.specs.declared.verifying.VerifyOptions.{VerifyOptions}
 use Rattle.machine_look.specs.VerifyReport.{last_lines, verify_end}
 use Rattle.machine_look.proofs.Found.{none_differ}
 use Rattle.machine_look.proofs.Looks.{all_read, is_true}
@@ -66,17 +67,17 @@ all_stand words first last stop look are same machine now lost may honest =
 
 -- ---- a verification
 
-abbrev pub verified_of : (plan : PlanValue) (patience : ℕ) (before after : ConsoleTold) (first last : Reader) (stop : LookStop) (end : VerifyEnd) → first ≡ begun (addresses_of plan.words) [] patience → IsLook (first ⇒ last) stop (before.lines ⇒ after.lines)
-    → AsksOnce (ended first.phase) before.call before.asked after.asked → end ≡ verify_end (length (differences plan.words last.values)) stop → IsVerified plan patience (before ⇒ after) end
-verified_of plan patience before after first last stop end is look asks ends =
-    let moved : IsLook (begun (addresses_of plan.words) [] patience ⇒ last) stop (before.lines ⇒ after.lines) = subst (λ r. IsLook (r ⇒ last) stop (before.lines ⇒ after.lines)) is look in
+abbrev pub verified_of : (plan : PlanValue) (options : VerifyOptions) (before after : ConsoleTold) (first last : Reader) (stop : LookStop) (end : VerifyEnd) → first ≡ verifier plan options → IsLook (first ⇒ last) stop (before.lines ⇒ after.lines)
+    → AsksOnce (ended first.phase) before.call before.asked after.asked → end ≡ verify_end (length (differences plan.words last.values)) stop → IsVerified plan options (before ⇒ after) end
+verified_of plan options before after first last stop end is look asks ends =
+    let moved : IsLook (verifier plan options ⇒ last) stop (before.lines ⇒ after.lines) = subst (λ r. IsLook (r ⇒ last) stop (before.lines ⇒ after.lines)) is look in
     record {
       last = last;
       stop = stop;
       look = moved;
       asked = subst (λ r. AsksOnce (ended r.phase) before.call before.asked after.asked) is asks;
       end_is = ends;
-      stand = λ same. all_stand plan.words (begun (addresses_of plan.words) [] patience) last stop moved refl (sym ends ∙ same);
+      stand = λ same. all_stand plan.words (verifier plan options) last stop moved refl (sym ends ∙ same);
     }
 
 -- its words were as many as the addresses
@@ -96,12 +97,12 @@ last_is words words' last numbers differ stop text w n are count is =
     ∙ ap (λ k. last_lines (length words) last k stop) (differ_is words words' last numbers differ w n count))
 
 -- a comparison of a plan's words that comes to nothing
-pub compare_fault : (plan : PlanValue) (patience : ℕ) (words : List WordValue) (first : Reader) (console : Change ConsoleTold) (fault : LookFault) → words ≡ plan.words → first ≡ begun (addresses_of plan.words) [] patience
-    → IsCompareFault words first console fault → IsVerifyFault plan patience console fault
-compare_fault plan patience words first console fault w r fails =
-    same fault (subst (λ list. IsCompareFault list (begun (addresses_of plan.words) [] patience) console fault) w (subst (λ reader. IsCompareFault words reader console fault) r fails))
+pub compare_fault : (plan : PlanValue) (options : VerifyOptions) (words : List WordValue) (first : Reader) (console : Change ConsoleTold) (fault : LookFault) → words ≡ plan.words → first ≡ verifier plan options
+    → IsCompareFault words first console fault → IsVerifyFault plan options console fault
+compare_fault plan options words first console fault w r fails =
+    same fault (subst (λ list. IsCompareFault list (verifier plan options) console fault) w (subst (λ reader. IsCompareFault words reader console fault) r fails))
   where
-    same : (fault : LookFault) → IsCompareFault plan.words (begun (addresses_of plan.words) [] patience) console fault → IsVerifyFault plan patience console fault
+    same : (fault : LookFault) → IsCompareFault plan.words (verifier plan options) console fault → IsVerifyFault plan options console fault
     same Connect h = h
     same WriteOutput h = h
     same IsThere h = absurd h

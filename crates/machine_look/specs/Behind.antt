@@ -10,9 +10,9 @@ use Rattle.host_devices.specs.declared.item.Item.{Item}
 use Rattle.console_lines.specs.Console.{ConsoleTold}
 use Rattle.console_lines.specs.Dialling.{asked_once}
 use Rattle.reading_core.specs.Addresses.{AreAddresses, addresses_between, addresses_from, addresses_of}
-use Rattle.reading_core.specs.Bound.{reading_bound}
+use Rattle.reading_core.specs.Bound.{life_bound, reading_bound}
 use Rattle.reading_core.specs.Invariant.{IsReader}
-use Rattle.reading_core.specs.Reader.{Reader, begun, ended}
+use Rattle.reading_core.specs.Reader.{Reader, begun, begun_in, ended, manner_of}
 use Rattle.reading_core.specs.declared.phase.End.TheVariants.{Complete}
 use Rattle.looking_law.specs.Belief.{IsReadyMachine}
 use Rattle.looking_engine.specs.Honest.{IsHonest}
@@ -97,22 +97,24 @@ pub record IsHeldUp (saving : Saving) (console : Change ConsoleTold) (looked : L
 abbrev pub all_stood : Reader → Looked
 all_stood looks = record { reader = looks; stop = Ended Complete; finding = AllStand }
 
--- the samples stood, and the words behind what was found were read over the same line, with the patience that the looks left; looks and reading
--- are all that was said on it
+-- the host that reads behind what was found, each word as often as is asked, with the patience that the looks left
+abbrev pub begun_behind : Saving → Reader → Reader
+begun_behind saving looks =
+    begun_in (manner_of saving.options.care []) (addresses_behind saving.options.range saving.found) [] (saving.options.patience - looks.spent)
+
+-- the samples stood, and the words behind what was found were read over the same line; looks and reading are all that was said on it
 pub record IsRead (saving : Saving) (console : Change ConsoleTold) (reading : Reading) : Type 0 where
   pub samples : List WordValue
   pub of_found : AreOfFound saving.options.range saving.found samples
   pub looking : List Item
   pub said : List Item
   pub looked : AreLookedAt samples saving.options.patience (all_stood reading.looks) looking
-  pub read : Inquired most_turns
-      (inquiry (begun (addresses_behind saving.options.range saving.found) [] (saving.options.patience - reading.looks.spent)) reading.last reading.stop)
-      (Some looking) (Some said)
+  pub read : Inquired most_turns (inquiry (begun_behind saving reading.looks) reading.last reading.stop) (Some looking) (Some said)
   pub asked : Gains console.before.asked console.after.asked (asked_once console.before.call)
   pub given : IsGivenBack reading.stop said (console.before.lines ⇒ console.after.lines)
   pub addresses : reading.last.addresses ≡ addresses_behind saving.options.range saving.found
   pub patience : reading.last.patience ≡ saving.options.patience - reading.looks.spent
   pub bound : reading.last.sent
-      ≤ reading_bound (length (addresses_behind saving.options.range saving.found)) (saving.options.patience - reading.looks.spent)
+      ≤ life_bound saving.options.care (length (addresses_behind saving.options.range saving.found)) (saving.options.patience - reading.looks.spent)
   pub kept : IsReader reading.last
   pub is_memory : WhereHonest said (IsMemoryBehind saving reading.last.values samples)

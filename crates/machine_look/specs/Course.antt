@@ -1,5 +1,5 @@
 -- What looks and reading came to, and what is closed behind them.
-use Rattle.std.specs.Prelude.{◌≡◌, ℕ, ◌+◌, ◌*◌, ◌≤◌, List, ◌++◌, length, Option, Some, None, ⊤}
+use Rattle.std.specs.Prelude.{◌≡◌, ℕ, ◌+◌, ◌*◌, ◌≤◌, Bool, true, false, if◌then◌else◌, List, ◌++◌, length, Option, Some, None, ⊤}
 use Rattle.tape_values.specs.Block.{top}
 use Rattle.reading_core.specs.Reader.{ended}
 use Rattle.looking_engine.specs.Stopping.{TellsEnd}
@@ -16,7 +16,7 @@ use Rattle.machine_look.specs.declared.saving.SaveOptions.{SaveOptions}
 use Rattle.machine_look.specs.declared.look_fault.LookFault.{LookFault}
 use Rattle.machine_look.specs.Behind.{IsHeldUp, IsRead, Saving}
 use Rattle.machine_look.specs.LookFault.{IsKeepFault}
-use Rattle.machine_look.specs.Save.{SaveAt, counts_held, counts_read}
+use Rattle.machine_look.specs.Save.{SaveAt, counts_held, counts_read, has_all}
 use Rattle.machine_look.specs.SaveReport.{held_end, save_end}
 
 -- looks held a save up, and the shelf is as it was; or what was found stood, and the words behind it were read, and each full block of both is on the
@@ -39,16 +39,22 @@ abbrev pub end_of : Course → SaveEnd
 end_of (HeldUp looked) = held_end looked.finding looked.stop
 end_of (Read looks last stop) = save_end stop
 
--- the tape is closed, where one was read
+-- the tape of numbers is closed where they are all that can be had; else nothing more is done on the shelf
+abbrev pub IsClosedWhere : Bool → ℕ → List ℕ → ℕ → ShelfAt → ShelfAt → Type 0
+IsClosedWhere true from numbers start before after = HasDoneThere (closes from numbers start) before after
+IsClosedWhere false from numbers start before after = after.told ≡ before.told
+
+-- the tape is closed, where all was read that can be had
 abbrev pub IsTapeClosed : Saving → Course → ShelfAt → ShelfAt → Type 0
 IsTapeClosed saving (HeldUp looked) before after = after.told ≡ before.told
 IsTapeClosed saving (Read looks last stop) before after =
-    HasDoneThere (closes saving.options.range.from (saving.found ++ last.values) saving.options.start) before after
+    IsClosedWhere (has_all stop) saving.options.range.from (saving.found ++ last.values) saving.options.start before after
 
 -- the text with which it is closed then
 abbrev pub closing_text : Saving → Course → Option (List ℕ)
 closing_text saving (HeldUp looked) = None
-closing_text saving (Read looks last stop) = Some (last_text saving.options.range.from (saving.found ++ last.values) saving.options.start)
+closing_text saving (Read looks last stop) =
+    if has_all stop then Some (last_text saving.options.range.from (saving.found ++ last.values) saving.options.start) else None
 
 -- it can't be closed with this text, if with any
 abbrev pub IsUnclosed : Option (List ℕ) → ShelfAt → ShelfAt → LookFault → Type 0

@@ -12,7 +12,7 @@ use Rattle.host_devices.specs.Turns.{most_turns}
 use Rattle.tape_values.specs.Told.{IsAsTold}
 use Rattle.host_devices.specs.declared.item.Item.{Item}
 use Rattle.console_lines.specs.Dialling.{Call, LineRequest, asked_once}
-use Rattle.reading_core.specs.Bound.{reading_bound}
+use Rattle.reading_core.specs.Bound.{life_bound}
 use Rattle.reading_core.specs.Invariant.{IsReader}
 use Rattle.reading_core.specs.Reader.{Reader, ended}
 use Rattle.reading_core.specs.declared.phase.End.{End}
@@ -43,7 +43,7 @@ pub record IsLookOf (reader : Change Reader) (stop : Option LookStop) (lines : C
   pub believed : IsBelievableBy stop reader.before reader.after said
   pub addresses : reader.after.addresses ≡ reader.before.addresses
   pub patience : reader.after.patience ≡ reader.before.patience
-  pub bound : reader.after.sent ≤ reading_bound (length reader.after.addresses) reader.after.patience
+  pub bound : reader.after.sent ≤ life_bound reader.before.manner.care (length reader.after.addresses) reader.after.patience
   pub kept : IsReader reader.after
 
 -- so it is of one of which all that was read was put away

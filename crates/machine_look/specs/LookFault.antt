@@ -4,8 +4,7 @@ use Rattle.std.specs.Io.KnownBytes.{Keeps}
 use Rattle.tape_image.specs.Plan.{PlanValue}
 use Rattle.tape_image.specs.Word.{WordValue}
 use Rattle.console_lines.specs.Dialling.{IsAskedInVain}
-use Rattle.reading_core.specs.Addresses.{addresses_of}
-use Rattle.reading_core.specs.Reader.{Reader, begun, ended}
+use Rattle.reading_core.specs.Reader.{Reader, ended}
 use Rattle.request_values.specs.Change.{Change, ◌⇒◌}
 use Rattle.request_values.specs.declared.range.AddressRange.{AddressRange}
 use Rattle.machine_look.specs.declared.look_fault.LookFault.{LookFault}
@@ -21,7 +20,8 @@ use Rattle.tape_shelf.specs.SavedTape.{room_for}
 use Rattle.tape_shelf.specs.Shelf.{ShelfStep, NotReserved, NotResumed, NotPut}
 use Rattle.tape_shelf.specs.ShelfAt.{HasDoneThere, ShelfAt}
 use Rattle.tape_shelf.specs.ShelfTold.{HasDone}
-use Rattle.machine_look.specs.Verify.{IsComparisonCutShort}
+use Rattle.machine_look.specs.Verify.{IsComparisonCutShort, verifier}
+use Rattle.machine_look.specs.declared.verifying.VerifyOptions.{VerifyOptions}
 
 -- what a place that takes no tape makes of the save
 abbrev pub fault_of_shelf : ShelfFault → LookFault
@@ -41,10 +41,10 @@ IsCompareFault words first console WriteOutput = IsComparisonCutShort words firs
 IsCompareFault words first console other = ⊥
 
 -- how `verify` comes to nothing: want of memory before the console is reached, or so
-abbrev pub IsVerifyFault : PlanValue → ℕ → Change ConsoleTold → LookFault → Type 0
-IsVerifyFault plan patience console Memory =
+abbrev pub IsVerifyFault : PlanValue → VerifyOptions → Change ConsoleTold → LookFault → Type 0
+IsVerifyFault plan options console Memory =
     (console.after.asked ≡ console.before.asked) × (console.after.lines ≡ console.before.lines) × Keeps console.before.out console.after.out
-IsVerifyFault plan patience console other = IsCompareFault plan.words (begun (addresses_of plan.words) [] patience) console other
+IsVerifyFault plan options console other = IsCompareFault plan.words (verifier plan options) console other
 
 -- the shelf could not be taken up: there is no room, or what an earlier save left can't be gone on with
 pub data TakesUpNothing (range : AddressRange) (fault : ShelfFault) : List ShelfStep → Type 0 where

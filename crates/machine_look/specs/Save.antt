@@ -1,5 +1,5 @@
 -- What `save` does (this project's own).
-use Rattle.std.specs.Prelude.{◌≡◌, ℕ, ◌+◌, ◌<◌, ◌≤◌, List, [], ◌∷◌, ◌++◌, length, Option, Some, None, IfSome}
+use Rattle.std.specs.Prelude.{◌≡◌, ℕ, ◌+◌, ◌<◌, ◌≤◌, Bool, true, false, List, [], ◌∷◌, ◌++◌, length, Option, Some, None, IfSome}
 use Rattle.std.specs.Io.KnownBytes.{Appends, Keeps}
 use Rattle.tape_values.specs.Tape.{plain_text}
 use Rattle.console_lines.specs.Console.{ConsoleTold}
@@ -9,6 +9,8 @@ use Rattle.console_lines.specs.Dialling.{Call, LineRequest}
 use Rattle.byte_io.specs.Output.{WritesAllBut}
 use Rattle.reading_core.specs.Reader.{Reader, ended}
 use Rattle.looking_engine.specs.Stopping.{LookStop, TellsEnd}
+use Rattle.looking_engine.specs.declared.stop.Stop.TheVariants.{Ended}
+use Rattle.reading_core.specs.declared.phase.End.TheVariants.{Complete, NoWord}
 use Rattle.request_values.specs.Change.{◌⇒◌}
 use Rattle.request_values.specs.declared.range.AddressRange.{AddressRange}
 use Rattle.sample_looks.specs.declared.looking.Looked.{Looked}
@@ -20,7 +22,7 @@ use Rattle.machine_look.specs.declared.saving.SaveOptions.{SaveOptions}
 use Rattle.tape_shelf.specs.declared.shelf.Shelf.{Ghosts as Shelf}
 use Rattle.tape_shelf.specs.declared.shelf.ShelfFault.{ShelfFault}
 use Rattle.tape_shelf.specs.declared.shelf.ShelfFault.TheVariants.{PartIsThere}
-use Rattle.tape_shelf.specs.SavedSteps.{full, not_all_added, not_put, puts}
+use Rattle.tape_shelf.specs.SavedSteps.{adds, full, not_all_added, not_put, puts}
 use Rattle.tape_shelf.specs.SavedTape.{room_for, words_in}
 use Rattle.machine_look.specs.SavedWords.{HoldsWhatWasRead}
 use Rattle.machine_look.specs.SaveReport.{save_end, held_end, save_report}
@@ -98,13 +100,28 @@ pub record IsSaveRead (stop : Option LookStop) (options : SaveOptions) (before a
 abbrev pub numbers_of : {stop : Option LookStop} {options : SaveOptions} {before after : SaveTold} → IsSaveRead stop options before after → List ℕ
 numbers_of read = read.found ++ read.last.values
 
--- what was found and what was read was put where the tape goes
+-- whether a reading that stopped so has all that can be had: every word, or each below the end of memory
+abbrev pub has_all : LookStop → Bool
+has_all (Ended Complete) = true
+has_all (Ended (NoWord address)) = true
+has_all other = false
+
+-- what was found and what was read is all that can be had, and was put where the tape goes
 pub record IsShelved (options : SaveOptions) (before after : SaveTold) : Type 0 where
   pub stop : LookStop
   pub read : IsSaveRead (Some stop) options before after
   pub end : TellsEnd stop (ended read.last.phase)
+  pub all : has_all stop ≡ true
   pub tape : IsTapeOf options (numbers_of read)
   pub is_put : HasDone (read.taking ++ puts options.range.from (numbers_of read) options.start) before.shelf after.shelf
+
+-- more could be had: the tape has not its place, and each full block of what was found and what was read is on the shelf, for a save that goes on
+pub record IsLeftInPart (options : SaveOptions) (before after : SaveTold) : Type 0 where
+  pub stop : LookStop
+  pub read : IsSaveRead (Some stop) options before after
+  pub end : TellsEnd stop (ended read.last.phase)
+  pub not_all : has_all stop ≡ false
+  pub is_left : HasDone (read.taking ++ adds options.range.from (numbers_of read) (full (numbers_of read))) before.shelf after.shelf
 
 -- looks held it up, and what is on the shelf is as it was
 pub record IsHeld (options : SaveOptions) (before after : SaveTold) : Type 0 where
@@ -118,6 +135,8 @@ pub record IsHeld (options : SaveOptions) (before after : SaveTold) : Type 0 whe
 -- a save is over, with these counts and this end
 pub data IsOver (options : SaveOptions) (before after : SaveTold) : SaveCounts → SaveEnd → Type 0 where
   Shelved : (s : IsShelved options before after)
+      → IsOver options before after (counts_read options s.read.found s.read.looks s.read.last) (save_end s.stop)
+  LeftInPart : (s : IsLeftInPart options before after)
       → IsOver options before after (counts_read options s.read.found s.read.looks s.read.last) (save_end s.stop)
   HeldUp : (h : IsHeld options before after)
       → IsOver options before after (counts_held options h.looked.reader) (held_end h.looked.finding h.looked.stop)
@@ -136,10 +155,11 @@ pub record IsSavedUnreported (options : SaveOptions) (before after : SaveTold) :
   pub missing : List ℕ
   pub reported : WritesAllBut before.out after.out (save_report counts end) missing
 
--- what was found and read could not have its place there, and nothing was reported
+-- what was found and read is all that can be had, and could not have its place there, and nothing was reported
 pub record IsUnput (fault : ShelfFault) (options : SaveOptions) (before after : SaveTold) : Type 0 where
   pub stop : LookStop
   pub read : IsSaveRead (Some stop) options before after
+  pub all : has_all stop ≡ true
   pub refused : HasDone
       (read.taking ++ not_put options.range.from (numbers_of read) options.start fault)
       before.shelf after.shelf

@@ -7,11 +7,12 @@ use Rattle.odt_machine.specs.Machine.{Machine}
 use Rattle.line_world.specs.Safe.{FirstStand}
 use Rattle.byte_io.specs.Output.{WritesAllBut}
 use Rattle.reading_core.specs.Addresses.{addresses_of}
-use Rattle.reading_core.specs.Reader.{Reader, begun, ended}
+use Rattle.reading_core.specs.Reader.{Reader, begun_in, ended, manner_of}
 use Rattle.looking_engine.specs.Stopping.{LookStop}
 use Rattle.request_values.specs.Change.{Change, ◌⇒◌}
 use Rattle.machine_look.specs.declared.verify_end.VerifyEnd.{VerifyEnd}
 use Rattle.machine_look.specs.declared.verify_end.VerifyEnd.TheVariants.{Same}
+use Rattle.machine_look.specs.declared.verifying.VerifyOptions.{VerifyOptions}
 use Rattle.machine_look.specs.Differences.{differences}
 use Rattle.console_lines.specs.Console.{ConsoleTold}
 use Rattle.machine_look.specs.Look.{AsksOnce, IsLook, IsLookOf, OverHonestLine}
@@ -21,18 +22,22 @@ use Rattle.machine_look.specs.VerifyReport.{difference_lines, verify_end, verify
 abbrev pub IsSameWith : List WordValue → Machine → Machine → Type 0
 IsSameWith words before now = (now.memory ≡ before.memory) × FirstStand words (length words) now.memory
 
+-- the host that is to look at a plan's words, each as often as is asked, and expects what the plan says
+abbrev pub verifier : PlanValue → VerifyOptions → Reader
+verifier plan options = begun_in (manner_of options.care plan.words) (addresses_of plan.words) [] options.patience
+
 -- a plan's words were looked at, and so it ended; where it ends as `Same` over an honest line, every word stands
-pub record IsVerified (plan : PlanValue) (patience : ℕ) (console : Change ConsoleTold) (end : VerifyEnd) : Type 0 where
+pub record IsVerified (plan : PlanValue) (options : VerifyOptions) (console : Change ConsoleTold) (end : VerifyEnd) : Type 0 where
   pub last : Reader
   pub stop : LookStop
-  pub look : IsLook (begun (addresses_of plan.words) [] patience ⇒ last) stop (console.before.lines ⇒ console.after.lines)
-  pub asked : AsksOnce (ended (begun (addresses_of plan.words) [] patience).phase) console.before.call console.before.asked console.after.asked
+  pub look : IsLook (verifier plan options ⇒ last) stop (console.before.lines ⇒ console.after.lines)
+  pub asked : AsksOnce (ended (verifier plan options).phase) console.before.call console.before.asked console.after.asked
   pub end_is : end ≡ verify_end (length (differences plan.words last.values)) stop
   pub stand : end ≡ Same → OverHonestLine look (IsSameWith plan.words)
 
 -- it was reported, too
-pub record IsVerifyReported (plan : PlanValue) (patience : ℕ) (console : Change ConsoleTold) (end : VerifyEnd) : Type 0 where
-  pub verified : IsVerified plan patience console end
+pub record IsVerifyReported (plan : PlanValue) (options : VerifyOptions) (console : Change ConsoleTold) (end : VerifyEnd) : Type 0 where
+  pub verified : IsVerified plan options console end
   pub reported : Appends console.before.out console.after.out (verify_report plan.words verified.last verified.stop)
 
 -- what is to be reported of a look: the differences, and behind the last of them how it ended

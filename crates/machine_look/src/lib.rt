@@ -31,4 +31,4 @@ pub use save_end::SaveEnd;
 pub use save_report::SaveCounts;
 pub use saving::{SaveOptions, save};
 pub use verify_end::VerifyEnd;
-pub use verifying::verify;
+pub use verifying::{VerifyOptions, verify};

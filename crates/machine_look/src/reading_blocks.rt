@@ -75,6 +75,7 @@ pub(crate) fn read_over<S: Shelf, R: Reach, O: Onlooker>(
     }
     let looks = looked.reader;
     let core = ReadingCore::in_room(addresses, room, options.patience - looks.spent());
+    let core = core.with_care(options.care);
     let behind = Behind::new(onlooker, found.len() as u32, looks.spent());
     let (core, stop) = read_behind(core, options.range.from(), found, shelf, &mut line, &behind);
     onlooker.ends();

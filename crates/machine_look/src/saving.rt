@@ -5,7 +5,7 @@ ghost use Rattle.console_lines.specs.Console.{console_told};
 ghost use Rattle.machine_look.specs.Course.{HasRoomForCounts, IsTapeClosed, IsUnclosed, closing_text, counts_of, end_of};
 ghost use Rattle.tape_shelf.specs.FoundPart.{FillBlocks};
 ghost use Rattle.machine_look.specs.LookFault.{IsKeepFault, IsSaveFault, TakesUpNothing};
-ghost use Rattle.machine_look.specs.Save.{IsSavedAndReported, TakesUp, save_told};
+ghost use Rattle.machine_look.specs.Save.{IsSavedAndReported, TakesUp, has_all, save_told};
 ghost use Rattle.tape_shelf.specs.SavedSteps.{closes, full};
 ghost use Rattle.tape_shelf.specs.SavedTape.{last_text};
 ghost use Rattle.tape_shelf.specs.Shelf.{ShelfStep};
@@ -20,6 +20,8 @@ use crate::save_report::{SaveCounts, held_end, save_end, save_report};
 use byte_io::write_and_flush;
 use console_lines::Reach;
 use host_devices::Onlooker;
+use looking_engine::Stop;
+use reading_core::{Care, End};
 use request_values::AddressRange;
 use std::alloc::Global;
 use std::io::Write;
@@ -36,6 +38,9 @@ pub struct SaveOptions {
 
     /// How many mishaps the host survives.
     pub patience: u32,
+
+    /// How often each word is looked at.
+    pub care: Care,
 }
 
 /// Reads the words of a range, changes none, adds each block of the tape of what was read to the shelf as soon
@@ -45,8 +50,9 @@ pub struct SaveOptions {
 /// nothing typed. Where an earlier save of the same words left blocks there, samples of their words are looked at
 /// first: where they stand, these blocks are added once more, and the words behind them are read; where one does
 /// not, or the looks do not come to their end, no word counts as read, and the shelf is as it was. The tape is
-/// closed, and has its place there, once the host has ended, with every word that was read by then, also where the
-/// machine has no more memory, the line failed or the host gave up; where no word was read, there is none.
+/// closed, and has its place there, where it is all that can be had: every word was read, or each below the end of
+/// memory. Where the line failed, the host gave up or the turns were over, the blocks stay on the shelf, and a later
+/// save of the same words goes on behind them.
 ///
 /// `IsThere`, `PartIsThere`, `NotOfSave` and `WriteTape` come before the console is reached; `IsThere` and `WriteTape` also
 /// where the tape can't have its place at the end, and `WriteTape` where a block can't be added: then the blocks
@@ -96,7 +102,7 @@ fn take_up<S: Shelf>(
     }
 }
 
-// What a course comes to, once its tape is closed.
+// What a course comes to, once its tape is closed, where that is all that can be had.
 fn conclude<S: Shelf>(
     options: SaveOptions,
     found: &[u16],
@@ -126,7 +132,9 @@ fn conclude<S: Shelf>(
         }
         Course::Read(looks, core, stop) => {
             let numbers = core.values();
-            close(options, found, numbers, shelf)?;
+            if has_all(stop) {
+                close(options, found, numbers, shelf)?;
+            }
             let counts = SaveCounts {
                 sent: looks.sent_count() + core.sent_count(),
                 spent: looks.spent() + core.spent(),
@@ -135,6 +143,16 @@ fn conclude<S: Shelf>(
             };
             Ok((counts, save_end(stop)))
         }
+    }
+}
+
+// Whether a reading that stopped so has all that can be had.
+fn has_all(stop: Stop<End>) -> bool
+    ensures { result ≡ has_all stop }
+{
+    match stop {
+        Stop::Ended(End::Complete | End::NoWord(_)) => true,
+        Stop::Ended(End::GaveUp) | Stop::LineFailed(_) | Stop::TurnsOver => false,
     }
 }
 

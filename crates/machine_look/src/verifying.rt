@@ -13,10 +13,20 @@ use crate::verify_report::{last_lines, verify_end};
 use byte_io::write_and_flush;
 use console_lines::Reach;
 use host_devices::Onlooker;
-use reading_core::ReadingCore;
+use reading_core::{Care, ReadingCore};
 use std::alloc::Global;
 use std::io::Write;
 use tape_image::Plan;
+
+/// How a plan is verified.
+#[derive(Clone, Copy, Debug, PartialEq, Eq)]
+pub struct VerifyOptions {
+    /// How often each word is looked at, where what the plan says is expected.
+    pub care: Care,
+
+    /// How many mishaps the host survives.
+    pub patience: u32,
+}
 
 /// Looks at every word of a plan, in the order of their addresses, changes none, and reports each one that
 /// differs, as soon as it was read, and in the end how far that came and how it ended.
@@ -29,18 +39,18 @@ use tape_image::Plan;
 pub fn verify<R: Reach, W: Write, O: Onlooker>(
     alloc: Global,
     plan: &Plan,
-    patience: u32,
+    options: VerifyOptions,
     console: &mut R,
     out: &mut W,
     onlooker: &O,
 ) -> Result<VerifyEnd, LookFault>
-    ensures ok { IfOk result (IsVerifyReported plan.now patience
+    ensures ok { IfOk result (IsVerifyReported plan.now options
         (console_told R.Reach W.Write console.old out.old ⇒ console_told R.Reach W.Write console.new out.new)) }
     ensures call { R.call console.new ≡ R.call console.old }
-    ensures err { IfErr result (IsVerifyFault plan.now patience
+    ensures err { IfErr result (IsVerifyFault plan.now options
         (console_told R.Reach W.Write console.old out.old ⇒ console_told R.Reach W.Write console.new out.new)) }
 {
-    let core = ReadingCore::of_plan(alloc, plan, patience)?;
+    let core = ReadingCore::of_plan(alloc, plan, options.care, options.patience)?;
     let words = plan.words();
     let (core, stop) = compare_over(core, words, console, out, onlooker)?;
     let differ = count_differences(words, core.values());

@@ -21,13 +21,15 @@ use Rattle.probe_report.specs.declared.judging.Verdict.{Verdict}
 use Rattle.probe_report.specs.declared.judging.Verdict.TheVariants.{Forgets, Stores, Unknown}
 use Rattle.machine_probe.specs.Runs.{OnLine}
 use Rattle.machine_memory.specs.declared.memory_options.MemoryOptions.{MemoryOptions}
+use Rattle.machine_memory.specs.BusCourse.{then_bus}
 use Rattle.machine_memory.specs.Course.{IsWithin, Standing, behind_test, behind_trial, by_first, by_stop, by_verdict, next_bank, test_next, try_next}
 use Rattle.probe_report.specs.Judging.{verdict_of}
 use Rattle.machine_memory.specs.Words.{words_of}
+use Rattle.machine_memory.specs.Turns.{most_turns}
 use Rattle.machine_probe.specs.Follow.{IsTriedOut, IsUntried}
 use Rattle.machine_memory.specs.declared.course.Place.TheVariants.{Trying, Testing}
 use Rattle.machine_memory.specs.Options.{probe_options}
-use Rattle.machine_memory.specs.Runs.{IsCutStep, IsTestLed, IsTestStep, IsTryStep, most_turns}
+use Rattle.machine_memory.specs.Runs.{IsCutStep, IsTestLed, IsTestStep, IsTryStep}
 
 -- ---- results
 
@@ -69,7 +71,7 @@ test_led options at first last stopped turns line line' begins limit s end fault
 }
 
 pub test_step : (options : MemoryOptions) (at : ℕ) (before after : Standing) (last : Tester) (stopped : Stop End) (line line' : Option (List Item)) → OnLine (IsTestLed options at last stopped) line line' →
-    after ≡ behind_test options.to before last stopped → OnLine (IsTestStep options at before after) line line'
+    after ≡ then_bus options.every (behind_test options.to before last stopped) → OnLine (IsTestStep options at before after) line line'
 test_step options at before after last stopped line line' led is = record { parts = led.parts; are = record { last = last; stop = stopped; test_led = led.are; after_is = is }; on_line = led.on_line }
 
 pub test_cut : (options : MemoryOptions) (at : ℕ) (last : Tester) (stopped : Stop End) (line line' : Option (List Item)) → OnLine (IsTestLed options at last stopped) line line' → OnLine (IsCutStep options (Testing at)) line line'
@@ -153,3 +155,20 @@ stop_within to s stop.TurnsOver word is = tt
 -- and behind a test
 pub test_within : (to : ℕ) (s : Standing) (t : Tester) (stopped : Stop End) → IsAddress to → IsWithin to (behind_test to s t stopped).place
 test_within to s t stopped is = stop_within to (record s { words = s.words ++ words_of t.addresses t.seen }) stopped (borrowed t) is
+
+-- ---- a trial tests no word
+
+first_words : (to : ℕ) (s : Standing) (f : Findings) (first : Sighting) → (by_first to s f first).words ≡ s.words
+first_words to s f (look.Number old) = refl
+first_words to s f look.NoWord = refl
+first_words to s f look.GaveUp = refl
+first_words to s f look.TurnsOver = refl
+first_words to s f (look.LineFailed fault) = refl
+
+verdict_words : (to : ℕ) (s : Standing) (f : Findings) (verdict : Verdict) → (by_verdict to s f verdict).words ≡ s.words
+verdict_words to s f Forgets = refl
+verdict_words to s f Stores = refl
+verdict_words to s f Unknown = first_words to s f f.first
+
+pub trial_words : (to : ℕ) (s : Standing) (f : Findings) → (behind_trial to s f).words ≡ s.words
+trial_words to s f = verdict_words to s f (verdict_of f)

@@ -1,6 +1,6 @@
 -- A test of memory between two hosts: what was found so far, and what comes next (this project's own).
-use Rattle.std.specs.Prelude.{ℕ, ◌+◌, ◌*◌, ◌/◌, Bool, true, nat_le, if◌then◌else◌, List, [], ◌∷◌, ◌++◌, Option, Some, None, ⊤}
-use Rattle.reading_core.specs.Addresses.{IsRange}
+use Rattle.std.specs.Prelude.{ℕ, ◌+◌, ◌*◌, ◌/◌, Bool, true, false, nat_le, if◌then◌else◌, List, [], ◌∷◌, ◌++◌, All, Option, Some, None, ⊤}
+use Rattle.reading_core.specs.Addresses.{IsAddress, IsRange}
 use Rattle.engine.specs.declared.stop.Stop.{Stop}
 use Rattle.engine.specs.declared.stop.Stop.TheVariants as stop
 use Rattle.memory_core.specs.declared.phase.End.{End}
@@ -10,6 +10,7 @@ use Rattle.memory_core.specs.Tester.{Tester, borrowed}
 use Rattle.memory_report.specs.declared.findings.TestEnd.{TestEnd}
 use Rattle.memory_report.specs.declared.findings.TestEnd.TheVariants.{Tested, NotTrusted, NoWord, GaveUp, TurnsOver, LineFailed}
 use Rattle.memory_report.specs.declared.findings.Word.{Word}
+use Rattle.memory_report.specs.Bus.{BusFound}
 use Rattle.probe_report.specs.declared.findings.TrialFindings.{TrialFindings}
 use Rattle.probe_report.specs.declared.findings.Findings.{Findings}
 use Rattle.probe_report.specs.declared.findings.Sighting.{Sighting}
@@ -21,22 +22,26 @@ use Rattle.probe_report.specs.declared.judging.Verdict.TheVariants.{Forgets, Sto
 use Rattle.probe_report.specs.Judging.{verdict_of}
 use Rattle.machine_probe.specs.Follow.{number_in}
 use Rattle.machine_memory.specs.declared.course.Place.{Place}
-use Rattle.machine_memory.specs.declared.course.Place.TheVariants.{Trying, Testing, Over}
+use Rattle.machine_memory.specs.declared.course.Place.TheVariants.{Trying, Testing, Marking, Looking, PuttingBack, LookingAgain, Over}
 use Rattle.machine_memory.specs.Words.{words_of}
 
--- the words that were tested, the addresses at which nothing answered, the word that may hold another number than before, and what comes next
+-- the words that were tested, the addresses at which nothing answered, what was found of the bus, the word that may hold another number than before, and what comes next
 pub record Standing : Type 0 where
   pub words : List Word
   pub gaps : List ℕ
+  pub bus : BusFound
   pub borrowed : Option Borrowed
   pub place : Place
 
-abbrev pub standing_of : List Word → List ℕ → Option Borrowed → Place → Standing
-standing_of words gaps borrowed place = record { words = words; gaps = gaps; borrowed = borrowed; place = place }
+abbrev pub standing_of : List Word → List ℕ → BusFound → Option Borrowed → Place → Standing
+standing_of words gaps bus borrowed place = record { words = words; gaps = gaps; bus = bus; borrowed = borrowed; place = place }
+
+abbrev pub untested_bus : BusFound
+untested_bus = record { at = None; touches = false; looked_at = 0; marked = []; returned = [] }
 
 -- at first the console is tried
 abbrev pub begun : ℕ → Standing
-begun from = standing_of [] [] None (Trying from)
+begun from = standing_of [] [] untested_bus None (Trying from)
 
 abbrev pub over : Standing → TestEnd → Option Borrowed → Standing
 over s end borrowed = record s { borrowed = borrowed; place = Over end }
@@ -123,4 +128,12 @@ behind_test to s t stopped = by_stop to (record s { words = s.words ++ words_of 
 abbrev pub IsWithin : ℕ → Place → Type 0
 IsWithin to (Trying address) = IsRange address to
 IsWithin to (Testing address) = IsRange address to
+IsWithin to (Marking word place) = IsAddress word.address
+IsWithin to (Looking word first) = IsAddress word.address × IsAddress first
+IsWithin to (PuttingBack word) = IsAddress word.address
+IsWithin to (LookingAgain word first) = IsAddress first
 IsWithin to (Over end) = ⊤
+
+-- the words that were tested have addresses
+abbrev pub AreWords : List Word → Type 0
+AreWords words = All (λ (word : Word). IsAddress word.address) words

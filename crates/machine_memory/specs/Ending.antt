@@ -1,8 +1,7 @@
 -- How a test of memory ended (this project's own).
-use Rattle.memory_report.specs.Report.{Found}
+use Rattle.memory_report.specs.Report.{Found, is_good}
 use Rattle.memory_report.specs.declared.findings.TestEnd.{TestEnd}
 use Rattle.memory_report.specs.declared.findings.TestEnd.TheVariants as test
-use Rattle.memory_report.specs.Words.{all_hold}
 use Rattle.machine_memory.specs.Course.{Standing}
 use Rattle.machine_memory.specs.declared.course.Place.{Place}
 use Rattle.machine_memory.specs.declared.course.Place.TheVariants.{Over}
@@ -12,7 +11,7 @@ use Rattle.machine_memory.specs.declared.memory_end.MemoryEnd.TheVariants.{Teste
 
 -- by what was found
 abbrev pub end_of : Found → TestEnd → MemoryEnd
-end_of f test.Tested = Tested (all_hold f.words)
+end_of f test.Tested = Tested (is_good f)
 end_of f test.NotTrusted = NotTrusted
 end_of f (test.NoWord address) = NoWord address
 end_of f test.GaveUp = GaveUp
@@ -29,4 +28,4 @@ end_at place = test.TurnsOver
 
 -- what was found, once the test is over
 abbrev pub found_at : MemoryOptions → Standing → Found
-found_at options s = record { from = options.from; to = options.to; words = s.words; gaps = s.gaps; borrowed = s.borrowed; end = end_at s.place }
+found_at options s = record { from = options.from; to = options.to; words = s.words; gaps = s.gaps; bus = s.bus; borrowed = s.borrowed; end = end_at s.place }

@@ -1,8 +1,12 @@
 pub mod Belief
+pub mod Bus
+pub mod BusCourse
+pub mod BusRuns
 pub mod Course
 pub mod Ending
 pub mod MemoryFault
 pub mod Options
 pub mod Runs
 pub mod Tested
+pub mod Turns
 pub mod Words

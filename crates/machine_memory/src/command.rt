@@ -30,7 +30,9 @@ use std::io::Write;
 ///
 /// First the console is tried at the first word, as `probe` does; where it stores digits at an illegal key nothing is tested.
 /// Then every so manieth word is read twice, turned over and put back. Where nothing answers the test goes on at the next bank
-/// of 4,096 words.
+/// of 4,096 words. Where each word of the range was tested, its bus is tested at the first word that holds: four numbers are
+/// deposited there, one after another, and while it holds the last the words that are one address line away are looked at.
+/// Then it gets its old number again.
 ///
 /// `Connect` comes before anything was sent. `WriteOutput` is a report that could not be written whole. `Memory` comes only
 /// where a growth was refused, with nothing reported.
@@ -93,6 +95,7 @@ fn put_report(course: Course, options: MemoryOptions, report: &mut Report) -> Me
     let Course {
         words,
         gaps,
+        bus,
         borrowed,
         place,
     } = course;
@@ -101,6 +104,7 @@ fn put_report(course: Course, options: MemoryOptions, report: &mut Report) -> Me
         to: options.to,
         words,
         gaps,
+        bus,
         borrowed,
         end: end_at(place),
     };
@@ -114,6 +118,6 @@ fn end_at(place: Place) -> TestEnd
 {
     match place {
         Place::Over(end) => end,
-        Place::Trying(_) | Place::Testing(_) => TestEnd::TurnsOver,
+        _ => TestEnd::TurnsOver,
     }
 }

@@ -10,7 +10,7 @@ ghost use Rattle.machine_memory.specs.Course.{test_next, try_next, unknown_behin
 use crate::words::push_words;
 use engine::Stop;
 use memory_core::{Borrowed, End, MemoryCore};
-use memory_report::{TestEnd, Word};
+use memory_report::{Bus, TestEnd, Word};
 use probe_report::{Findings as Tried, Sighting, TrialEnd, TrialFindings, Verdict, judge};
 use std::alloc::{AllocError, Global};
 use std::marker::Model;
@@ -27,6 +27,18 @@ pub enum Place {
     /// The words from this one on are tested.
     Testing(u16),
 
+    /// The number at this place of the bus test is deposited in this word, which held that one before.
+    Marking(Borrowed, u8),
+
+    /// The words from this address on that are one address line from this word are looked at, while it holds the mark.
+    Looking(Borrowed, u16),
+
+    /// The word gets its old number again.
+    PuttingBack(Borrowed),
+
+    /// The same words are looked at again.
+    LookingAgain(Borrowed, u16),
+
     /// Nothing: so it ended.
     Over(TestEnd),
 }
@@ -36,16 +48,18 @@ pub enum Place {
 pub(crate) struct Course {
     pub(crate) words: Vec<Word>,
     pub(crate) gaps: Vec<u16>,
+    pub(crate) bus: Bus,
     pub(crate) borrowed: Option<Borrowed>,
     pub(crate) place: Place,
 }
 
 impl Model for Course {
+    ghost use Rattle.memory_report.specs.Bus.{bus_of};
     ghost use Rattle.machine_memory.specs.Course.{Standing, standing_of};
 
     ghost Value = { Standing };
 
-    ghost view = { λ c. standing_of c.words.items c.gaps.items c.borrowed c.place };
+    ghost view = { λ c. standing_of c.words.items c.gaps.items (bus_of c.bus) c.borrowed c.place };
 }
 
 impl Course {
@@ -56,13 +70,20 @@ impl Course {
         Ok(Course {
             words: Vec::with_capacity(alloc, words)?,
             gaps: Vec::with_capacity(alloc, 8)?,
+            bus: Bus {
+                at: None,
+                touches: false,
+                looked_at: 0,
+                marked: Vec::with_capacity(alloc, 16)?,
+                returned: Vec::with_capacity(alloc, 16)?,
+            },
             borrowed: None,
             place: Place::Trying(from),
         })
     }
 
     // It ended so.
-    fn over(self, end: TestEnd, borrowed: Option<Borrowed>) -> Course
+    pub(crate) fn over(self, end: TestEnd, borrowed: Option<Borrowed>) -> Course
         ensures { result ≡ record self { borrowed = borrowed; place = Over end } }
     {
         Course {
@@ -79,6 +100,7 @@ impl Course {
         let Course {
             words,
             mut gaps,
+            bus,
             borrowed,
             place: _,
         } = self;
@@ -86,6 +108,7 @@ impl Course {
         Ok(Course {
             words,
             gaps,
+            bus,
             borrowed,
             place,
         })
@@ -98,6 +121,7 @@ impl Course {
         let Course {
             mut words,
             gaps,
+            bus,
             borrowed,
             place,
         } = self;
@@ -105,6 +129,7 @@ impl Course {
         Ok(Course {
             words,
             gaps,
+            bus,
             borrowed,
             place,
         })

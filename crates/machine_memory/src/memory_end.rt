@@ -8,7 +8,8 @@ use memory_report::{Findings, TestEnd};
 /// How a test of memory ended.
 #[derive(Clone, Copy, Debug, PartialEq, Eq)]
 pub enum MemoryEnd {
-    /// Every word that was asked for was tested, where its bank answers; and whether each of them holds what it is given.
+    /// Every word that was asked for was tested, where its bank answers; and whether each of them holds what it is given, no
+    /// data lines touch, and no two words are one.
     Tested(bool),
 
     /// The console stores digits at an illegal key: nothing was tested.
@@ -32,7 +33,7 @@ pub(crate) fn memory_end(findings: &Findings) -> MemoryEnd
     ensures { result ≡ memory_end (found_of findings.now) }
 {
     match findings.end {
-        TestEnd::Tested => MemoryEnd::Tested(findings.all_hold()),
+        TestEnd::Tested => MemoryEnd::Tested(findings.is_good()),
         TestEnd::NotTrusted => MemoryEnd::NotTrusted,
         TestEnd::NoWord(address) => MemoryEnd::NoWord(address),
         TestEnd::GaveUp => MemoryEnd::GaveUp,

@@ -3,11 +3,12 @@ ghost use Rattle.std.specs.Prelude.{◌≡◌, IfOk, OnErr};
 ghost use Rattle.reading_core.specs.Addresses.{IsRange};
 ghost use Rattle.machine_probe.specs.Runs.{OnLine};
 ghost use Rattle.machine_memory.specs.declared.course.Place.TheVariants.{Testing, Trying};
-ghost use Rattle.machine_memory.specs.Course.{IsWithin};
+ghost use Rattle.machine_memory.specs.Course.{AreWords, IsWithin};
 ghost use Rattle.machine_memory.specs.Options.{IsAsked};
 ghost use Rattle.machine_memory.specs.Runs.{IsCut, IsCutStep, IsRow, IsStep, IsTestStep, IsTryStep};
 
 use crate::behind::Behind;
+use crate::bus_steps::{look_again, look_around, mark_word, put_back};
 use crate::course::{Course, Place};
 use crate::memory_options::MemoryOptions;
 use host_devices::{Line, MOST_TURNS, Onlooker};
@@ -17,8 +18,8 @@ use memory_engine::{WordWatch, put_to_test};
 use std::alloc::{AllocError, Global};
 
 // More steps than a test has: in each of the seven banks the console is tried or words are tested, and once more where the
-// console forgets.
-const STEPS: u32 = 16;
+// console forgets; five numbers are deposited, and behind each of fifteen words nothing may answer, twice.
+const STEPS: u32 = 64;
 
 /// Leads the hosts of a test, one after another over the line, until it is over.
 ///
@@ -32,6 +33,7 @@ pub(crate) fn make_steps<L: Line, O: Onlooker + WordWatch>(
 ) -> Result<Course, AllocError>
     requires asked { IsAsked options }
     requires within { IsWithin options.to course.place }
+    requires words { AreWords course.words }
     ensures made { IfOk result (λ last. OnLine (IsRow options course last) (L.told line.old) (L.told line.new)) }
     ensures cut { OnErr result (OnLine (IsCut options course) (L.told line.old) (L.told line.new)) }
 {
@@ -52,13 +54,22 @@ fn step<L: Line, O: Onlooker + WordWatch>(
 ) -> Result<Course, AllocError>
     requires asked { IsAsked options }
     requires within { IsWithin options.to course.place }
+    requires words { AreWords course.words }
     ensures made { IfOk result (λ next. OnLine (IsStep options course next) (L.told line.old) (L.told line.new)) }
     ensures within { IfOk result (λ next. IsWithin options.to next.place) }
+    ensures words { IfOk result (λ next. AreWords next.words) }
     ensures cut { OnErr result (OnLine (IsCutStep options course.place) (L.told line.old) (L.told line.new)) }
 {
     match course.place {
         Place::Trying(at) => try_at(alloc, course, at, options, line),
         Place::Testing(at) => test_from(alloc, course, at, options, line, onlooker),
+        Place::Marking(word, place) => {
+            onlooker.borrows(word);
+            mark_word(alloc, course, word, place, options, line)
+        }
+        Place::Looking(word, first) => look_around(alloc, course, word, first, options, line),
+        Place::PuttingBack(word) => put_back(alloc, course, word, options, line),
+        Place::LookingAgain(word, first) => look_again(alloc, course, word, first, options, line),
         Place::Over(_) => Ok(course),
     }
 }
@@ -73,8 +84,10 @@ fn try_at<L: Line>(
 ) -> Result<Course, AllocError>
     requires asked { IsAsked options }
     requires within { IsRange at options.to }
+    requires words { AreWords course.words }
     ensures made { IfOk result (λ next. OnLine (IsTryStep options at course next) (L.told line.old) (L.told line.new)) }
     ensures within { IfOk result (λ next. IsWithin options.to next.place) }
+    ensures words { IfOk result (λ next. AreWords next.words) }
     ensures cut { OnErr result (OnLine (IsCutStep options (Trying at)) (L.told line.old) (L.told line.new)) }
 {
     let probe = ProbeOptions {
@@ -96,8 +109,10 @@ fn test_from<L: Line, O: Onlooker + WordWatch>(
 ) -> Result<Course, AllocError>
     requires asked { IsAsked options }
     requires within { IsRange at options.to }
+    requires words { AreWords course.words }
     ensures made { IfOk result (λ next. OnLine (IsTestStep options at course next) (L.told line.old) (L.told line.new)) }
     ensures within { IfOk result (λ next. IsWithin options.to next.place) }
+    ensures words { IfOk result (λ next. AreWords next.words) }
     ensures cut { OnErr result (OnLine (IsCutStep options (Testing at)) (L.told line.old) (L.told line.new)) }
 {
     let core = MemoryCore::of_range(alloc, at, options.to, options.every, options.patience)?;
@@ -106,5 +121,6 @@ fn test_from<L: Line, O: Onlooker + WordWatch>(
         tested: u32::try_from(course.words.len()).unwrap_or(u32::MAX),
     };
     let (core, stop) = put_to_test(core, line, MOST_TURNS, &behind, onlooker);
-    course.behind_test(&core, stop, options.to)
+    let next = course.behind_test(&core, stop, options.to)?;
+    Ok(next.then_bus(options.every))
 }

@@ -6,7 +6,7 @@ use Rattle.odt_machine.specs.Machine.{is_word}
 use Rattle.reading_core.specs.declared.phase.End.{End}
 use Rattle.reading_core.specs.declared.phase.End.TheVariants.{Complete, GaveUp, NoWord}
 use Rattle.reading_core.specs.declared.phase.Phase.{Phase}
-use Rattle.reading_core.specs.declared.phase.Phase.TheVariants.{Settle, Sync, Address, Slash, Before, Value, Close, Ended as Over}
+use Rattle.reading_core.specs.declared.phase.Phase.TheVariants.{Settle, Sync, Address, Slash, Before, Value, Close, Refused, Ended as Over}
 use Rattle.reading_core.specs.Invariant.{Basis, EndFits, PhaseFits, IsReader, basis_of}
 use Rattle.reading_core.specs.Reader.{Reader, address_nr, ended}
 use Rattle.looking_law.specs.Harmless.{HasCause, EndIsPaid, HoldsRead}
@@ -40,6 +40,7 @@ end_at Slash end b is fits = absurd (cc is)
 end_at Before end b is fits = absurd (cc is)
 end_at (Value value place) end b is fits = absurd (cc is)
 end_at (Close place) end b is fits = absurd (cc is)
+end_at (Refused place) end b is fits = absurd (cc is)
 
 pub paid_at : (phase : Phase) (end : End) (memory : List ℕ) (patience lost : ℕ) → ended phase ≡ Some end → HasCause phase memory patience lost → EndIsPaid end memory patience lost
 paid_at (Over over) end memory patience lost is cause = subst (λ e. EndIsPaid e memory patience lost) (same is) cause
@@ -53,6 +54,7 @@ paid_at Slash end memory patience lost is cause = absurd (cc is)
 paid_at Before end memory patience lost is cause = absurd (cc is)
 paid_at (Value value place) end memory patience lost is cause = absurd (cc is)
 paid_at (Close place) end memory patience lost is cause = absurd (cc is)
+paid_at (Refused place) end memory patience lost is cause = absurd (cc is)
 
 -- ---- how many words were read
 

@@ -8,5 +8,5 @@ mod Joins
 mod Noting
 pub mod OneLine
 mod OneWord
-mod PuttingBack
+pub mod PuttingBack
 pub mod Reports

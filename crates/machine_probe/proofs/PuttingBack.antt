@@ -45,7 +45,7 @@ loaded_at (Address visit place) b is fits = absurd (cc is)
 loaded_at (Slash visit) b is fits = absurd (cc is)
 loaded_at (Before visit) b is fits = absurd (cc is)
 loaded_at (Value visit value place) b is fits = absurd (cc is)
-loaded_at (Depositing value place) b is fits = absurd (cc is)
+loaded_at (Depositing deposit value place) b is fits = absurd (cc is)
 loaded_at (Return reason place) b is fits = absurd (cc is)
 loaded_at (Start place) b is fits = absurd (cc is)
 loaded_at Go b is fits = absurd (cc is)
@@ -84,7 +84,7 @@ holds_again address old patience plan last heard said of host led_to said_is sam
 
 -- ---- what was driven
 
-again_of : (stop : Stop) (address old patience turns : ℕ) (plan : PlanValue) (last : Core) (before after : SessionTold Kept) →
+pub again_of : (stop : Stop) (address old patience turns : ℕ) (plan : PlanValue) (last : Core) (before after : SessionTold Kept) →
     IsPlanOfWord address old plan → IsHost (begun plan 0 false patience) → IsHost last → last.plan ≡ plan → TellsEnd stop (ended last.phase) →
     (session : LoadSession turns (driving (begun plan 0 false patience) last (Some stop)) before after) → is_loaded stop ≡ true → HoldsAgain address old session.said
 again_of (Ended Loaded) address old patience turns plan last before after of first host same end session is =

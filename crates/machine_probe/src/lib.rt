@@ -23,5 +23,6 @@ pub use memory_end::find_end;
 pub use probe_fault::ProbeFault;
 pub use probe_options::ProbeOptions;
 pub use probing::probe;
+pub use putting_back::Deposit;
 pub use runs::try_console;
 pub use search::Search;

@@ -20,17 +20,17 @@ const BYTE: u16 = 256;
 
 /// A load of one word that was not begun, with all the memory that it takes.
 #[derive(Drop)]
-pub(crate) struct Deposit {
+pub struct Deposit {
     /// The host, at the beginning of its life.
-    pub(crate) core: HostCore,
+    pub core: HostCore,
 
     /// What keeps the one word, once it is verified.
-    pub(crate) keeper: MemoryKeep,
+    pub keeper: MemoryKeep,
 }
 
 impl Deposit {
-    /// A load that deposits the old number of the word and starts nothing. The error is want of memory.
-    pub(crate) fn new(alloc: Global, options: ProbeOptions, old: u16) -> Result<Deposit, AllocError>
+    /// A load that deposits this number in the word, as its old one, and starts nothing. The error is want of memory.
+    pub fn new(alloc: Global, options: ProbeOptions, old: u16) -> Result<Deposit, AllocError>
         requires { IsAddress options.address }
         ensures { IfOk result (IsDeposit options old) }
     {

@@ -4,7 +4,7 @@ use Rattle.std.proofs.Common.{◌≡◌, ℕ, ◌+◌, Bool, nat_lt, if◌then�
 use Rattle.host_core.specs.declared.heard.Heard.{Heard}
 use Rattle.octal.specs.Octal.{digit_of}
 use Rattle.host_core.specs.Console.{resynchronise}
-use Rattle.host_core.specs.declared.phase.Visit.TheVariants.{Look}
+use Rattle.memory_core.specs.declared.phase.Visit.TheVariants.{Look}
 use Rattle.host_core.proofs.Frame.{on_test}
 use Rattle.memory_core.specs.declared.phase.Phase.TheVariants.{Settle, Sync, Address, Ended}
 use Rattle.memory_core.specs.declared.phase.End.TheVariants.{Complete, GaveUp}

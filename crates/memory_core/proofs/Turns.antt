@@ -7,8 +7,8 @@ use Rattle.host_core.specs.Answers.{resynchronise_reply, return_reply, digit_ech
 use Rattle.host_core.specs.Console.{resynchronise, carriage_return}
 use Rattle.host_core.specs.declared.heard.Heard.{Heard}
 use Rattle.host_core.specs.declared.heard.Heard.TheVariants.{Got, Quiet}
-use Rattle.host_core.specs.declared.phase.Visit.{Visit}
-use Rattle.host_core.specs.declared.phase.Visit.TheVariants.{Look, Check}
+use Rattle.memory_core.specs.declared.phase.Visit.{Visit}
+use Rattle.memory_core.specs.declared.phase.Visit.TheVariants.{Look, Check}
 use Rattle.host_core.proofs.Frame.{on_test}
 use Rattle.host_core.proofs.Replies.{either, resynchronise_walk, return_walk, echo_walk, start_walk, rest_walk}
 use Rattle.host_core.proofs.Turns.{room_step, room_le, digit_below_eight}

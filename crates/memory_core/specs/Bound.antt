@@ -1,7 +1,7 @@
 -- How many characters a life can send.
 use Rattle.std.specs.Prelude.{ℕ, ◌+◌, ◌*◌, length}
-use Rattle.host_core.specs.declared.phase.Visit.{Visit}
-use Rattle.host_core.specs.declared.phase.Visit.TheVariants.{Look, Check}
+use Rattle.memory_core.specs.declared.phase.Visit.{Visit}
+use Rattle.memory_core.specs.declared.phase.Visit.TheVariants.{Look, Check}
 use Rattle.memory_core.specs.declared.phase.Phase.{Phase}
 use Rattle.memory_core.specs.declared.phase.Phase.TheVariants.{Settle, Sync, Address, Slash, Before, Value, Deposit, Return, Close, Ended}
 use Rattle.memory_core.specs.declared.stage.Stage.{Stage}

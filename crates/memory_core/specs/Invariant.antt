@@ -1,7 +1,7 @@
 -- What holds of every testing host, whatever it has heard.
 use Rattle.std.specs.Prelude.{◌≡◌, ℕ, ◌^◌, ◌<◌, ◌≤◌, List, length, ⊤}
-use Rattle.host_core.specs.declared.phase.Visit.{Visit}
-use Rattle.host_core.specs.declared.phase.Visit.TheVariants.{Look, Check}
+use Rattle.memory_core.specs.declared.phase.Visit.{Visit}
+use Rattle.memory_core.specs.declared.phase.Visit.TheVariants.{Look, Check}
 use Rattle.host_core.specs.Host.{IsPlace, value_room}
 use Rattle.reading_core.specs.Addresses.{AreAddresses}
 use Rattle.memory_core.specs.declared.phase.Phase.{Phase}

@@ -13,8 +13,8 @@ use Rattle.host_core.specs.declared.answers.Reading.{Reading}
 use Rattle.host_core.specs.declared.answers.Reading.TheVariants.{Digits, Number, NoMemory, NoReading}
 use Rattle.host_core.specs.declared.heard.Heard.{Heard}
 use Rattle.host_core.specs.declared.heard.Heard.TheVariants.{Got, Quiet}
-use Rattle.host_core.specs.declared.phase.Visit.{Visit}
-use Rattle.host_core.specs.declared.phase.Visit.TheVariants.{Look, Check}
+use Rattle.memory_core.specs.declared.phase.Visit.{Visit}
+use Rattle.memory_core.specs.declared.phase.Visit.TheVariants.{Look, Check}
 use Rattle.host_core.specs.Answers.{resynchronise_reply, return_reply, digit_echo, reading_start, reading_rest}
 use Rattle.host_core.specs.Console.{resynchronise, carriage_return, slash}
 use Rattle.memory_core.specs.Tester.{Tester, address_under_way}

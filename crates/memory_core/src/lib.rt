@@ -19,6 +19,6 @@ mod table;
 mod turn;
 
 pub use memory::MemoryCore;
-pub use phase::{End, Phase};
+pub use phase::{End, Phase, Visit};
 pub use seen::Seen;
 pub use stage::{Borrowed, Stage};

@@ -9,16 +9,16 @@ ghost use Rattle.memory_core.specs.MemoryTable.{KeyTests, ask, is_tested, next_w
 ghost use Rattle.memory_core.specs.Tester.{address_under_way, begun, borrowed, ended, tester_of};
 
 use crate::life::{LifeState, TesterStep};
-use crate::phase::{End, Phase};
+use crate::phase::{End, Phase, Visit};
 use crate::seen::Seen;
 use crate::stage::{Borrowed, Stage};
 use crate::table;
 use crate::turn::Turn;
+use host_core::Heard;
 use host_core::answers::{
     digit, digit_echo, reading_rest, reading_start, resynchronise_reply, return_reply,
 };
 use host_core::console::{CARRIAGE_RETURN, RESYNCHRONISE};
-use host_core::{Heard, Visit};
 use std::alloc::{AllocError, Global};
 use std::marker::Model;
 

@@ -3,11 +3,10 @@
 ghost use Rattle.std.specs.Prelude.{◌≡◌, ◌≤◌};
 ghost use Rattle.memory_core.specs.MemoryTable.{addressed, closed, deposited, read, reads, returned, second_look, slash_hears, synced, waits};
 
-use crate::phase::{End, Phase};
+use crate::phase::{End, Phase, Visit};
 use crate::seen::Seen;
 use crate::stage::Stage;
 use crate::turn::Turn;
-use host_core::Visit;
 use host_core::answers::{Echo, Reading, Reply};
 use host_core::console::{CARRIAGE_RETURN, RESYNCHRONISE, SLASH};
 

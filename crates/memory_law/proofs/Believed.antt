@@ -11,7 +11,7 @@ use Rattle.host_core.specs.declared.phase.End.TheVariants.{Loaded}
 use Rattle.tape_image.specs.Plan.{PlanValue, IsPlan}
 use Rattle.host_core.proofs.Turns.{begun_kept as load_begun_kept}
 use Rattle.line_world.specs.Invariant.{IsKept, InPhase}
-use Rattle.line_world.specs.Scene.{over}
+use Rattle.line_world.specs.Scene.{over, toll_of}
 use Rattle.line_world.specs.Site.{site, ground}
 use Rattle.line_world.specs.Wire.{Wire}
 use Rattle.line_world.proofs.Opening.{opening_kept}
@@ -90,9 +90,9 @@ as_long memory a (Returned old turned) now at = ap length at.0.stands ∙ length
 
 -- what the loading host's invariant says of an end
 ended : (memory : List ℕ) (t : Tester) (x : Wire) (end : End) → t.phase ≡ Ended end → (k : IsKeptTest memory t x) →
-    InPhase (phase_for t.stage (Ended end)) (ground (scene_for memory t k.account x)) (site (scene_for memory t k.account x)) x.down x.up k.account.patience k.account.spent k.account.lost
+    InPhase (phase_for t.stage (Ended end)) (ground (scene_for memory t k.account x)) (site (scene_for memory t k.account x)) x.down x.up k.account.patience k.account.spent (toll_of (scene_for memory t k.account x))
 ended memory t x end is k =
-    subst (λ phase. InPhase (phase_for t.stage phase) (ground (scene_for memory t k.account x)) (site (scene_for memory t k.account x)) x.down x.up k.account.patience k.account.spent k.account.lost) is k.kept.phase
+    subst (λ phase. InPhase (phase_for t.stage phase) (ground (scene_for memory t k.account x)) (site (scene_for memory t k.account x)) x.down x.up k.account.patience k.account.spent (toll_of (scene_for memory t k.account x))) is k.kept.phase
 
 cause_of : (memory : List ℕ) (t : Tester) (x : Wire) (phase : Phase) → t.phase ≡ phase → (k : IsKeptTest memory t x) → HasCause phase memory t.patience x.lost
 cause_of memory t x (Ended Complete) is k = tt

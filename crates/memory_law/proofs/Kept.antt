@@ -9,8 +9,9 @@ use Rattle.odt_machine.specs.KeyTable.{take_of}
 use Rattle.odt_machine.specs.Machine.{Machine, IsWide, is_word, word_at, stored}
 use Rattle.host_core.specs.declared.heard.Heard.{Heard}
 use Rattle.host_core.specs.declared.heard.Heard.TheVariants.{Got, Quiet as Silence}
-use Rattle.host_core.specs.declared.phase.Visit.{Visit}
-use Rattle.host_core.specs.declared.phase.Visit.TheVariants.{Look, Check}
+use Rattle.memory_core.specs.declared.phase.Visit.{Visit}
+use Rattle.memory_core.specs.declared.phase.Visit.TheVariants.{Look, Check}
+use Rattle.host_core.specs.declared.phase.Try.TheVariants.{Only}
 use Rattle.host_core.specs.declared.phase.Phase.TheVariants.{Value as LoadValue, Deposit as LoadDeposit, Return as LoadReturn}
 use Rattle.host_core.specs.declared.phase.Reason.TheVariants.{Close as Closes}
 use Rattle.host_core.specs.Core.{Core, word_nr}
@@ -18,15 +19,15 @@ use Rattle.host_core.specs.PhaseTable.{move}
 use Rattle.line_world.specs.declared.event.Event.TheVariants.{Take, Hear, LoseDown, LoseUp, Quiet}
 use Rattle.line_world.specs.Scene.{Scene, over}
 use Rattle.line_world.specs.Wire.{Wire, with_answer, without_down, without_up, heard, sent}
-use Rattle.line_world.specs.World.{takes, host_hears, times_out}
+use Rattle.line_world.specs.World.{loading, takes}
 use Rattle.line_world.specs.Site.{ground}
 use Rattle.line_world.specs.Invariant.{IsKept, OneWay}
 use Rattle.line_world.proofs.Events.{kept_event}
-use Rattle.line_world.proofs.Frame.{scene}
 use Rattle.line_world.proofs.Keys.{Stores}
 use Rattle.line_world.proofs.Stores.{same_or}
 use Rattle.line_world.proofs.Taking.{key_takes}
 use Rattle.honest_line.specs.Moves.{Moves, MovesTimes, MovesOn, Gives, Passes}
+use Rattle.honest_line.proofs.Leading.{hearing, waiting}
 use Rattle.honest_line.proofs.Passings.{passing_said}
 use Rattle.looking_law.proofs.Saying.{plan_for, words_for, word_for, merged_for}
 use Rattle.memory_core.specs.declared.phase.Phase.TheVariants.{Value}
@@ -44,7 +45,7 @@ use Rattle.memory_core.proofs.Turns.{kept as tester_kept}
 use Rattle.memory_law.specs.Testing.{dialogue, IsTrueOf}
 use Rattle.memory_law.proofs.Ahead.{ahead, ahead_asked, ahead_is, only_ahead, stored_own, stored_twice, stored_there, stored_wide}
 use Rattle.memory_law.proofs.Mirror.{Account, Follows, IsPlain, IsWhole, core_for, scene_for, given, phase_for, follows, plain_or_whole, plain_silence}
-use Rattle.memory_law.proofs.Switches.{HasRead, at_word, has_read, deposit_kept, close_kept}
+use Rattle.memory_law.proofs.Switches.{HasRead, at_word, has_read, deposit_kept, close_kept, calm, scene, visit_for}
 
 -- ---- what memory is
 
@@ -121,7 +122,7 @@ stored_by_stage memory a (Returned old turned) other now now' same at stores = (
 
 -- a store of the plan's word
 stored_is : (memory now' : List ℕ) (t : Tester) (m : Machine) → MemoryIs memory (address_under_way t) t.stage m.memory →
-    Stores (record { machine = m; plan = plan_for (given memory (address_under_way t) t.stage) (ahead t); going = false }) now' → MemoryIs memory (address_under_way t) t.stage now'
+    Stores (record { machine = m; plan = plan_for (given memory (address_under_way t) t.stage) (ahead t); going = false; careful = false }) now' → MemoryIs memory (address_under_way t) t.stage now'
 stored_is memory now' t m at (inl same) = subst (MemoryIs memory (address_under_way t) t.stage) (sym same) at
 stored_is memory now' t m at (inr (i, inside, lies, stores)) =
     let other : List ℕ = given memory (address_under_way t) t.stage in
@@ -140,7 +141,7 @@ takes_kept : (memory : List ℕ) (t : Tester) (x y : Wire) (c : ℕ) (rest : Lis
 takes_kept memory t x y c rest is now k =
     let core : Core = core_for memory t k.account in
     let there : IsKept (scene x.machine core (c ∷ rest) x.up k.account.lost) = subst (λ down. IsKept (scene x.machine core down x.up k.account.lost)) is k.kept in
-    let stores : Stores (ground (scene x.machine core (c ∷ rest) x.up k.account.lost)) (take_of x.machine c).memory = (key_takes x.machine core c rest x.up k.account.lost there).memory in
+    let stores : Stores (ground (scene x.machine core (c ∷ rest) x.up k.account.lost)) (take_of x.machine c).memory = (key_takes x.machine core c rest x.up (calm k.account.lost) there).memory in
     subst (IsKeptTest memory t) (sym now) record {
       account = k.account;
       kept = subst IsKept (taking core (with_lost x k.account.lost) c rest x.down is) (kept_event (scene_for memory t k.account x) Take k.kept);
@@ -188,12 +189,6 @@ pub moves_kept : (memory : List ℕ) (t : Tester) (x y : Wire) → MovesOn x y �
 moves_kept memory t x y moves k = times_kept memory t moves.0 x y moves.1 k
 
 -- ---- a thing heard, at which the loading host does the same
-
-hearing : (core : Core) (x : Wire) (c : ℕ) (rest up : List ℕ) → up ≡ c ∷ rest → unwrap_or (host_hears (over core x) up) (over core x) ≡ over (move core (Got c)).next (sent (heard x rest) (option_to_list (move core (Got c)).key))
-hearing core x c rest up is = rw is refl
-
-waiting : (core : Core) (x : Wire) (down up : List ℕ) → down ≡ [] → up ≡ [] → unwrap_or (times_out (over core x) down up) (over core x) ≡ over (move core Silence).next (sent (heard x up) (option_to_list (move core Silence).key))
-waiting core x down up none empty = rw (none, empty) refl
 
 tests_alike : (before spent patience all limit : ℕ) → all ≡ before + spent → limit ≡ before + patience → nat_lt spent patience ≡ nat_lt all limit
 tests_alike before spent patience all limit one two = rw (one, two) (alike before spent patience)
@@ -244,13 +239,13 @@ plain_hearing : (memory : List ℕ) (t : Tester) (x : Wire) (c : ℕ) (rest : Li
     IsKeptTest memory (ask t (Got c)).next (sent (heard x rest) (option_to_list (ask t (Got c)).key))
 plain_hearing memory t x c rest is k plain =
     plain_step memory t x (heard x rest) (Got c) k plain refl refl
-    (subst IsKept (hearing (core_for memory t k.account) (with_lost x k.account.lost) c rest x.up is) (kept_event (scene_for memory t k.account x) Hear k.kept))
+    (subst IsKept (hearing loading (core_for memory t k.account) (with_lost x k.account.lost) c rest x.up is) (kept_event (scene_for memory t k.account x) Hear k.kept))
 
 plain_waiting : (memory : List ℕ) (t : Tester) (x : Wire) → x.down ≡ [] → x.up ≡ [] → IsKeptTest memory t x → IsPlain (turn_of t Silence) →
     IsKeptTest memory (ask t Silence).next (sent (heard x x.up) (option_to_list (ask t Silence).key))
 plain_waiting memory t x none empty k plain =
     plain_step memory t x (heard x x.up) Silence k plain refl refl
-    (subst IsKept (waiting (core_for memory t k.account) (with_lost x k.account.lost) x.down x.up none empty) (kept_event (scene_for memory t k.account x) Quiet k.kept))
+    (subst IsKept (waiting loading (core_for memory t k.account) (with_lost x k.account.lost) x.down x.up none empty) (kept_event (scene_for memory t k.account x) Quiet k.kept))
 
 -- ---- the last character of a reading
 
@@ -299,13 +294,13 @@ at_hand memory t x c rest is k w =
     let a : ℕ = address_under_way t in
     let fits : PhaseFits (Value w.visit w.value 6) (basis_of t) = subst (λ phase. PhaseFits phase (basis_of t)) w.phase k.tester.fits in
     let other : List ℕ = given memory a t.stage in
-    let one : IsKept (scene x.machine (at_word (plan_for other (ahead t)) k.account.patience k.account.spent k.account.sent (LoadValue w.visit w.value 6)) x.down x.up k.account.lost) =
+    let one : IsKept (scene x.machine (at_word (plan_for other (ahead t)) k.account.patience k.account.spent k.account.sent (LoadValue (visit_for (number_of t.stage) w.visit) w.value 6)) x.down x.up k.account.lost) =
     subst (λ phase. IsKept (scene x.machine (at_word (plan_for other (ahead t)) k.account.patience k.account.spent k.account.sent (phase_for t.stage phase)) x.down x.up k.account.lost)) w.phase k.kept in
-    let two : IsKept (scene x.machine (at_word (plan_for other (a ∷ [])) k.account.patience k.account.spent k.account.sent (LoadValue w.visit w.value 6)) x.down x.up k.account.lost) =
-    subst (λ addresses. IsKept (scene x.machine (at_word (plan_for other addresses) k.account.patience k.account.spent k.account.sent (LoadValue w.visit w.value 6)) x.down x.up k.account.lost)) (ahead_is t fits.0) one in
-    let three : IsKept (scene x.machine (at_word (plan_for other (a ∷ [])) k.account.patience k.account.spent k.account.sent (LoadValue w.visit w.value 6)) x.down (32 ∷ rest) k.account.lost) =
-    subst (λ up. IsKept (scene x.machine (at_word (plan_for other (a ∷ [])) k.account.patience k.account.spent k.account.sent (LoadValue w.visit w.value 6)) x.down up k.account.lost)) (is ∙ ap (λ d. d ∷ rest) w.blank) two in
-    let read = has_read x.machine other a k.account.patience k.account.spent k.account.sent k.account.lost w.value w.visit x.down rest three in
+    let two : IsKept (scene x.machine (at_word (plan_for other (a ∷ [])) k.account.patience k.account.spent k.account.sent (LoadValue (visit_for (number_of t.stage) w.visit) w.value 6)) x.down x.up k.account.lost) =
+    subst (λ addresses. IsKept (scene x.machine (at_word (plan_for other addresses) k.account.patience k.account.spent k.account.sent (LoadValue (visit_for (number_of t.stage) w.visit) w.value 6)) x.down x.up k.account.lost)) (ahead_is t fits.0) one in
+    let three : IsKept (scene x.machine (at_word (plan_for other (a ∷ [])) k.account.patience k.account.spent k.account.sent (LoadValue (visit_for (number_of t.stage) w.visit) w.value 6)) x.down (32 ∷ rest) k.account.lost) =
+    subst (λ up. IsKept (scene x.machine (at_word (plan_for other (a ∷ [])) k.account.patience k.account.spent k.account.sent (LoadValue (visit_for (number_of t.stage) w.visit) w.value 6)) x.down up k.account.lost)) (is ∙ ap (λ d. d ∷ rest) w.blank) two in
+    let read = has_read x.machine other a (number_of t.stage) k.account.patience k.account.spent k.account.sent k.account.lost w.value w.visit x.down rest three in
     record {
       read = read;
       has_word = fits.0;
@@ -323,16 +318,16 @@ deposits_kept memory t x visit value rest next k hand tester touched at =
     let patience : ℕ = t.patience - t.spent in
     let small : number < 65536 = number_small next touched tester.numbers in
     let same : given memory a next ≡ stored memory a number = given_touched memory a next touched in
-    let new : IsKept (scene x.machine (at_word (plan_for (given memory a next) (a ∷ [])) patience 0 9 (LoadDeposit number 1)) (digit_of number 1 ∷ []) [] 0) =
+    let new : IsKept (scene x.machine (at_word (plan_for (given memory a next) (a ∷ [])) patience 0 9 (LoadDeposit Only number 1)) (digit_of number 1 ∷ []) [] 0) =
     deposit_kept x.machine (given memory a next) a patience number k.kept.machine (subst IsWide (sym same) (stored_wide memory a number k.wide small)) (k.tester.asked.each (length t.seen) 0 hand.has_word)
     (omega (arith, k.tester.long)) small hand.read.mode hand.read.lies (ap (λ m. word_at m a) same ∙ stored_there memory a number hand.there) in
-    let with_plan : IsKept (scene x.machine (at_word (plan_for (given memory a next) (ahead t)) patience 0 9 (LoadDeposit number 1)) (digit_of number 1 ∷ []) [] 0) =
-    subst (λ addresses. IsKept (scene x.machine (at_word (plan_for (given memory a next) addresses) patience 0 9 (LoadDeposit number 1)) (digit_of number 1 ∷ []) [] 0)) (sym (ahead_is t hand.has_word)) new in
-    let with_down : IsKept (scene x.machine (at_word (plan_for (given memory a next) (ahead t)) patience 0 9 (LoadDeposit number 1)) (x.down ++ digit_of number 1 ∷ []) [] 0) =
-    subst (λ down. IsKept (scene x.machine (at_word (plan_for (given memory a next) (ahead t)) patience 0 9 (LoadDeposit number 1)) (down ++ digit_of number 1 ∷ []) [] 0)) (sym hand.down) with_plan in
+    let with_plan : IsKept (scene x.machine (at_word (plan_for (given memory a next) (ahead t)) patience 0 9 (LoadDeposit Only number 1)) (digit_of number 1 ∷ []) [] 0) =
+    subst (λ addresses. IsKept (scene x.machine (at_word (plan_for (given memory a next) addresses) patience 0 9 (LoadDeposit Only number 1)) (digit_of number 1 ∷ []) [] 0)) (sym (ahead_is t hand.has_word)) new in
+    let with_down : IsKept (scene x.machine (at_word (plan_for (given memory a next) (ahead t)) patience 0 9 (LoadDeposit Only number 1)) (x.down ++ digit_of number 1 ∷ []) [] 0) =
+    subst (λ down. IsKept (scene x.machine (at_word (plan_for (given memory a next) (ahead t)) patience 0 9 (LoadDeposit Only number 1)) (down ++ digit_of number 1 ∷ []) [] 0)) (sym hand.down) with_plan in
     record {
       account = record { patience = patience; spent = 0; sent = 9; lost = 0 };
-      kept = subst (λ up. IsKept (scene x.machine (at_word (plan_for (given memory a next) (ahead t)) patience 0 9 (LoadDeposit number 1)) (x.down ++ digit_of number 1 ∷ []) up 0)) (sym hand.read.none) with_down;
+      kept = subst (λ up. IsKept (scene x.machine (at_word (plan_for (given memory a next) (ahead t)) patience 0 9 (LoadDeposit Only number 1)) (x.down ++ digit_of number 1 ∷ []) up 0)) (sym hand.read.none) with_down;
       tester = tester;
       counted =
           let counted = from_here t x 9 k.account k.counted k.kept.spent k.tester.patient in

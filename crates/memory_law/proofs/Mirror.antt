@@ -7,15 +7,17 @@ use Rattle.tape_image.specs.Word.{WordValue}
 use Rattle.odt_machine.specs.Machine.{stored}
 use Rattle.host_core.specs.declared.heard.Heard.{Heard}
 use Rattle.host_core.specs.declared.heard.Heard.TheVariants.{Got, Quiet}
-use Rattle.host_core.specs.declared.phase.Visit.{Visit}
-use Rattle.host_core.specs.declared.phase.Visit.TheVariants.{Look, Check}
+use Rattle.host_core.specs.declared.phase.Try.TheVariants.{Only}
+use Rattle.host_core.specs.declared.phase.Visit.TheVariants.{Look as LoadLook, Check as LoadCheck}
+use Rattle.memory_core.specs.declared.phase.Visit.{Visit}
+use Rattle.memory_core.specs.declared.phase.Visit.TheVariants.{Look, Check}
 use Rattle.host_core.specs.declared.phase.Phase.{Phase as LoadPhase}
 use Rattle.host_core.specs.declared.phase.Phase.TheVariants.{Settle as LoadSettle, Sync as LoadSync, Address as LoadAddress, Slash as LoadSlash, Before as LoadBefore, Value as LoadValue, Deposit as LoadDeposit, Return as LoadReturn, Ended as LoadEnded}
 use Rattle.host_core.specs.declared.phase.Reason.TheVariants.{Store, Close as Closes}
 use Rattle.host_core.specs.declared.phase.End.{End as LoadEnd}
 use Rattle.host_core.specs.declared.phase.End.TheVariants.{Loaded, GaveUp as LoadGaveUp, NoWord as LoadNoWord}
 use Rattle.host_core.specs.declared.turn.Turn.{Turn as LoadTurn}
-use Rattle.host_core.specs.declared.turn.Turn.TheVariants.{Listen as LoadListen, Key as LoadKey, ReadBack as LoadReadBack, Next as LoadNext, Stop as LoadStop, Stray as LoadStray, Timeout as LoadTimeout}
+use Rattle.host_core.specs.declared.turn.Turn.TheVariants.{Listen as LoadListen, Key as LoadKey, Revisit as LoadRevisit, Next as LoadNext, Stop as LoadStop, Stray as LoadStray, Timeout as LoadTimeout}
 use Rattle.host_core.specs.declared.answers.Reading.TheVariants.{Number}
 use Rattle.host_core.specs.Answers.{resynchronise_reply, return_reply, digit_echo, reading_start, reading_rest}
 use Rattle.host_core.specs.Core.{Core, word_under_way}
@@ -37,6 +39,7 @@ use Rattle.memory_core.specs.MemoryTable.{TesterStep, ask, taken, turn_of, hears
 use Rattle.memory_core.specs.Stage.{number_of}
 use Rattle.memory_core.specs.Tester.{Tester, address_under_way}
 use Rattle.memory_law.proofs.Ahead.{ahead, more_words, under_way}
+use Rattle.memory_law.proofs.Switches.{visit_for}
 
 -- ---- the same of the loading host
 
@@ -48,12 +51,12 @@ end_for (NoWord a) = LoadNoWord a
 abbrev pub phase_for : Stage → Phase → LoadPhase
 phase_for stage Settle = LoadSettle
 phase_for stage (Sync place) = LoadSync place
-phase_for stage (Address visit place) = LoadAddress visit place
-phase_for stage (Slash visit) = LoadSlash visit
-phase_for stage (Before visit) = LoadBefore visit
-phase_for stage (Value visit value place) = LoadValue visit value place
-phase_for stage (Deposit place) = LoadDeposit (number_of stage) place
-phase_for stage (Return place) = LoadReturn Store place
+phase_for stage (Address visit place) = LoadAddress (visit_for (number_of stage) visit) place
+phase_for stage (Slash visit) = LoadSlash (visit_for (number_of stage) visit)
+phase_for stage (Before visit) = LoadBefore (visit_for (number_of stage) visit)
+phase_for stage (Value visit value place) = LoadValue (visit_for (number_of stage) visit) value place
+phase_for stage (Deposit place) = LoadDeposit Only (number_of stage) place
+phase_for stage (Return place) = LoadReturn (Store Only (number_of stage)) place
 phase_for stage (Close place) = LoadReturn Closes place
 phase_for stage (Ended end) = LoadEnded (end_for end)
 
@@ -74,6 +77,7 @@ pub record Account : Type 0 where
 -- the loading host whose plan is that memory will hold the number at the address under way
 abbrev pub core_for : List ℕ → Tester → Account → Core
 core_for memory t a = record {
+  careful = false;
   plan = plan_for (given memory (address_under_way t) t.stage) (ahead t);
   verified = 0;
   going = false;
@@ -97,7 +101,7 @@ Agrees stage (LooksAgain first) turn = Unit {0}
 Agrees stage Differs turn = Unit {0}
 Agrees stage (Deposits next) turn = Unit {0}
 Agrees stage (Tested word) turn = Unit {0}
-Agrees stage ReadBack turn = turn ≡ LoadReadBack
+Agrees stage ReadBack turn = turn ≡ LoadRevisit (LoadCheck Only (number_of stage))
 Agrees stage Next turn = turn ≡ LoadNext
 Agrees stage (Stop end) turn = turn ≡ LoadStop (end_for end)
 Agrees stage Stray turn = turn ≡ LoadStray
@@ -106,9 +110,9 @@ Agrees stage Timeout turn = turn ≡ LoadTimeout
 sync_agrees : (stage : Stage) (place c : ℕ) → Agrees stage (synced (resynchronise_reply place c)) (load_synced (resynchronise_reply place c))
 sync_agrees stage place c = resynchronise_walk (λ r. Agrees stage (synced r) (load_synced r)) place c refl (λ _ _. refl) (λ _. refl)
 
-address_agrees : (stage : Stage) (address : ℕ) (visit : Visit) (place c : ℕ) → Agrees stage (addressed visit place (digit_echo address place c)) (load_address_hears address visit place c)
+address_agrees : (stage : Stage) (address : ℕ) (visit : Visit) (place c : ℕ) → Agrees stage (addressed visit place (digit_echo address place c)) (load_address_hears address (visit_for (number_of stage) visit) place c)
 address_agrees stage address visit place c =
-    echo_walk (λ e. Agrees stage (addressed visit place e) (load_echoed e (LoadAddress visit (place + 1)) (LoadKey 47 (LoadSlash visit)))) address place c refl (λ _ _. refl) (λ _ _. refl)
+    echo_walk (λ e. Agrees stage (addressed visit place e) (load_echoed e (LoadAddress (visit_for (number_of stage) visit) (place + 1)) (LoadKey 47 (LoadSlash (visit_for (number_of stage) visit))))) address place c refl (λ _ _. refl) (λ _ _. refl)
 
 read_agrees : (stage : Stage) (visit : Visit) (value : ℕ) (turn : LoadTurn) → Agrees stage (read stage visit value) turn
 read_agrees Unseen Look value turn = tt
@@ -119,29 +123,29 @@ read_agrees (Turned old) Check value turn = tt
 read_agrees (Returned old turned) Look value turn = tt
 read_agrees (Returned old turned) Check value turn = tt
 
-before_agrees : (stage : Stage) (word : WordValue) (visit : Visit) (c : ℕ) → Agrees stage (reads word.address stage visit (reading_start c)) (load_reads word visit (reading_start c))
-before_agrees stage word visit c = start_walk (λ r. Agrees stage (reads word.address stage visit r) (load_reads word visit r)) c refl refl refl (λ _ _. refl)
+before_agrees : (stage : Stage) (word : WordValue) (visit : Visit) (c : ℕ) → Agrees stage (reads word.address stage visit (reading_start c)) (load_reads false word (visit_for (number_of stage) visit) (reading_start c))
+before_agrees stage word visit c = start_walk (λ r. Agrees stage (reads word.address stage visit r) (load_reads false word (visit_for (number_of stage) visit) r)) c refl refl refl (λ _ _. refl)
 
-value_agrees : (stage : Stage) (word : WordValue) (visit : Visit) (value place c : ℕ) → Agrees stage (reads word.address stage visit (reading_rest value place c)) (load_reads word visit (reading_rest value place c))
+value_agrees : (stage : Stage) (word : WordValue) (visit : Visit) (value place c : ℕ) → Agrees stage (reads word.address stage visit (reading_rest value place c)) (load_reads false word (visit_for (number_of stage) visit) (reading_rest value place c))
 value_agrees stage word visit value place c =
-    rest_walk (λ r. Agrees stage (reads word.address stage visit r) (load_reads word visit r)) value place c refl (λ _ _ _. refl) (λ _ _ _. refl)
-    (λ _ _. read_agrees stage visit value (load_reads word visit (Number value)))
+    rest_walk (λ r. Agrees stage (reads word.address stage visit r) (load_reads false word (visit_for (number_of stage) visit) r)) value place c refl (λ _ _ _. refl) (λ _ _ _. refl)
+    (λ _ _. read_agrees stage visit value (load_reads false word (visit_for (number_of stage) visit) (Number value)))
 
-deposit_agrees : (stage : Stage) (place c : ℕ) → Agrees stage (deposited place (digit_echo (number_of stage) place c)) (load_deposit_hears (number_of stage) place c)
+deposit_agrees : (stage : Stage) (place c : ℕ) → Agrees stage (deposited place (digit_echo (number_of stage) place c)) (load_deposit_hears Only (number_of stage) place c)
 deposit_agrees stage place c =
-    echo_walk (λ e. Agrees stage (deposited place e) (load_echoed e (LoadDeposit (number_of stage) (place + 1)) (LoadKey 13 (LoadReturn Store 0)))) (number_of stage) place c refl (λ _ _. refl) (λ _ _. refl)
+    echo_walk (λ e. Agrees stage (deposited place e) (load_echoed e (LoadDeposit Only (number_of stage) (place + 1)) (LoadKey 13 (LoadReturn (Store Only (number_of stage)) 0)))) (number_of stage) place c refl (λ _ _. refl) (λ _ _. refl)
 
-return_agrees : (stage : Stage) (place c : ℕ) → Agrees stage (returned (return_reply place c)) (load_returns Store (return_reply place c))
-return_agrees stage place c = return_walk (λ r. Agrees stage (returned r) (load_returns Store r)) place c refl (λ _ _. refl) (λ _. refl)
+return_agrees : (stage : Stage) (place c : ℕ) → Agrees stage (returned (return_reply place c)) (load_returns (Store Only (number_of stage)) (return_reply place c))
+return_agrees stage place c = return_walk (λ r. Agrees stage (returned r) (load_returns (Store Only (number_of stage)) r)) place c refl (λ _ _. refl) (λ _. refl)
 
 close_agrees : (stage : Stage) (place c : ℕ) → Agrees stage (closed (return_reply place c)) (load_returns Closes (return_reply place c))
 close_agrees stage place c = return_walk (λ r. Agrees stage (closed r) (load_returns Closes r)) place c refl (λ _ _. refl) (λ _. refl)
 
-slash_agrees : (stage : Stage) (visit : Visit) (test : Bool) → Agrees stage (if test then Listen (Before visit) else Stray) (if test then LoadListen (LoadBefore visit) else LoadStray)
+slash_agrees : (stage : Stage) (visit : Visit) (test : Bool) → Agrees stage (if test then Listen (Before visit) else Stray) (if test then LoadListen (LoadBefore (visit_for (number_of stage) visit)) else LoadStray)
 slash_agrees stage visit true = refl
 slash_agrees stage visit false = refl
 
-hears_agree : (stage : Stage) (word : WordValue) (start : ℕ) (phase : Phase) (c : ℕ) → Agrees stage (hears word.address stage phase c) (load_hears word start (phase_for stage phase) c)
+hears_agree : (stage : Stage) (word : WordValue) (start : ℕ) (phase : Phase) (c : ℕ) → Agrees stage (hears word.address stage phase c) (load_hears false word start (phase_for stage phase) c)
 hears_agree stage word start Settle c = refl
 hears_agree stage word start (Sync place) c = sync_agrees stage place c
 hears_agree stage word start (Address visit place) c = address_agrees stage word.address visit place c
@@ -153,7 +157,7 @@ hears_agree stage word start (Return place) c = return_agrees stage place c
 hears_agree stage word start (Close place) c = close_agrees stage place c
 hears_agree stage word start (Ended end) c = refl
 
-waits_agree : (stage : Stage) (phase : Phase) → Agrees stage (waits phase) (load_waits (phase_for stage phase))
+waits_agree : (stage : Stage) (phase : Phase) → Agrees stage (waits phase) (load_waits false (phase_for stage phase))
 waits_agree stage Settle = refl
 waits_agree stage (Sync place) = refl
 waits_agree stage (Address visit place) = refl
@@ -224,7 +228,7 @@ taken_follows memory t a ReadBack load plain agrees same =
 taken_follows memory t a Next load plain agrees same =
     let core = core_for memory t a in
     subst (λ l. Follows memory t a (load_taken core l) (taken t Next)) (sym agrees)
-    (both_tests memory t a (nat_lt 0 (length core.plan.words)) (nat_lt (length t.seen) (length t.addresses)) (load_sends core (digit_of (word_under_way core).address 1) (LoadAddress Look 1)) (load_listens core (LoadEnded Loaded))
+    (both_tests memory t a (nat_lt 0 (length core.plan.words)) (nat_lt (length t.seen) (length t.addresses)) (load_sends core (digit_of (word_under_way core).address 1) (LoadAddress LoadLook 1)) (load_listens core (LoadEnded Loaded))
     (sends t (digit_of (address_under_way t) 1) (Address Look 1)) (listens t (Ended Complete))
     (more_words (given memory (address_under_way t) t.stage) (nat_lt (length t.seen) (length t.addresses)) (address_under_way t))
     record { account = more_sent a; next = refl; key = ap (λ address. Some (digit_of address 1)) (under_way (given memory (address_under_way t) t.stage) t); lost = refl; patience = refl; spent = refl; stage = refl; seen = refl }

@@ -1,3 +1,4 @@
+pub mod Bus
 pub mod Report
 pub mod Verdict
 pub mod Words

@@ -1,5 +1,5 @@
 -- The text of what a test of memory found: a function of what was read (this project's own).
-use Rattle.std.specs.Prelude.{ℕ, zero, suc, ◌+◌, ◌-◌, ◌*◌, ◌==◌, ◌&&◌, nat_lt, if◌then◌else◌, List, [], ◌++◌}
+use Rattle.std.specs.Prelude.{ℕ, zero, Bool, not, suc, ◌+◌, ◌-◌, ◌*◌, ◌==◌, ◌&&◌, nat_lt, if◌then◌else◌, List, [], ◌++◌}
 use Rattle.std.specs.Prelude.{Option, Some, None, length, take, codes, decimal}
 use Rattle.std.specs.List.{filter, flat_map}
 use Rattle.octal.specs.Octal.{octal_text}
@@ -12,7 +12,8 @@ use Rattle.memory_report.specs.declared.findings.TestEnd.TheVariants.{Tested, No
 use Rattle.memory_report.specs.declared.findings.Word.{Word}
 use Rattle.memory_report.specs.declared.verdict.Verdict.{Verdict}
 use Rattle.memory_report.specs.declared.verdict.Verdict.TheVariants.{Holds, ReadsZero, ReadsOne, Fails}
-use Rattle.memory_report.specs.Words.{bad_in, bank_of, column, count_bad, gap_in, is_bad, tested_in}
+use Rattle.memory_report.specs.Bus.{BusFound, bus_of, is_same, same_words}
+use Rattle.memory_report.specs.Words.{all_hold, bad_in, bank_of, column, count_bad, gap_in, is_bad, tested_in}
 
 -- ---- the picture
 
@@ -95,6 +96,34 @@ count_lines tested bad = codes "tested " ++ decimal tested ++ codes " words, " +
 abbrev pub words_text : List Word → List ℕ
 words_text words = bad_words_text words ++ more_lines (count_bad words) ++ count_lines (length words) (count_bad words)
 
+-- ---- the bus
+
+abbrev pub touch_text : Bool → List ℕ
+touch_text touches = if touches then line (codes "data lines touch") else []
+
+abbrev pub same_text : ℕ → ℕ → List ℕ
+same_text at other = octal_text at ++ codes " and " ++ octal_text other ++ line (codes " are one word")
+
+-- one of them, where fewer than eight are shown
+abbrev pub same_shown_text : ℕ → BusFound → ℕ → ℕ → List ℕ
+same_shown_text at b shown other = if nat_lt shown 8 && is_same b other then same_text at other else []
+
+abbrev pub same_shown_also : BusFound → ℕ → ℕ → ℕ
+same_shown_also b shown other = if nat_lt shown 8 && is_same b other then shown + 1 else shown
+
+-- the first eight words that are one with it
+abbrev pub same_words_text : ℕ → BusFound → List ℕ
+same_words_text at b = flat_map (same_text at) (take 8 (same_words b))
+
+abbrev pub bus_text_at : BusFound → Option ℕ → List ℕ
+bus_text_at b None = []
+bus_text_at b (Some at) =
+    touch_text b.touches ++ same_words_text at b
+    ++ codes "tested the bus at " ++ octal_text at ++ codes ", beside " ++ decimal b.looked_at ++ line (codes " words")
+
+abbrev pub bus_text : BusFound → List ℕ
+bus_text b = bus_text_at b b.at
+
 -- ---- the end
 
 abbrev pub borrowed_text : Option Borrowed → List ℕ
@@ -120,13 +149,20 @@ pub record Found : Type 0 where
   pub to : ℕ
   pub words : List Word
   pub gaps : List ℕ
+  pub bus : BusFound
   pub borrowed : Option Borrowed
   pub end : TestEnd
 
 abbrev pub found_of : Findings → Found
-found_of f = record { from = f.from; to = f.to; words = f.words.items; gaps = f.gaps.items; borrowed = f.borrowed; end = f.end }
+found_of f = record { from = f.from; to = f.to; words = f.words.items; gaps = f.gaps.items; bus = bus_of f.bus; borrowed = f.borrowed; end = f.end }
 
 abbrev pub memory_text : Found → List ℕ
 memory_text f =
     line columns_text ++ rows_text f.words f.gaps (bank_of f.from) (bank_of f.to - bank_of f.from + 1) ++ words_text f.words
-    ++ borrowed_text f.borrowed ++ end_text f.end
+    ++ bus_text f.bus ++ borrowed_text f.borrowed ++ end_text f.end
+
+-- ---- the verdict
+
+-- each word that was tested holds, no data lines touch, and no two words are one
+abbrev pub is_good : Found → Bool
+is_good f = all_hold f.words && not f.bus.touches && length (same_words f.bus) == 0

@@ -11,7 +11,7 @@ use memory_core::Borrowed;
 
 /// Puts the word that may hold another number now, if there is one.
 pub(crate) fn push_borrowed(text: &mut Report, borrowed: Option<Borrowed>)
-    requires room { array_vec_len text.old ≤ 1800 }
+    requires room { array_vec_len text.old ≤ 2100 }
     ensures items { text.new.items ≡ text.old.items ++ borrowed_text borrowed }
     ensures length { array_vec_len text.new ≤ array_vec_len text.old + 47 }
 {
@@ -26,7 +26,7 @@ pub(crate) fn push_borrowed(text: &mut Report, borrowed: Option<Borrowed>)
 
 /// Puts how the test ended.
 pub(crate) fn push_end(text: &mut Report, end: TestEnd)
-    requires room { array_vec_len text.old ≤ 1900 }
+    requires room { array_vec_len text.old ≤ 2200 }
     ensures items { text.new.items ≡ text.old.items ++ end_text end }
 {
     push_bytes(text, b"end ");
@@ -35,7 +35,7 @@ pub(crate) fn push_end(text: &mut Report, end: TestEnd)
 }
 
 fn push_name(text: &mut Report, end: TestEnd)
-    requires room { array_vec_len text.old ≤ 1950 }
+    requires room { array_vec_len text.old ≤ 2250 }
     ensures items { text.new.items ≡ text.old.items ++ end_name end }
     ensures length { array_vec_len text.new ≤ array_vec_len text.old + 13 }
 {
@@ -50,7 +50,7 @@ fn push_name(text: &mut Report, end: TestEnd)
 }
 
 fn push_no_word(text: &mut Report, address: u16)
-    requires room { array_vec_len text.old ≤ 1950 }
+    requires room { array_vec_len text.old ≤ 2250 }
     ensures items { text.new.items ≡ text.old.items ++ (codes "NoWord " ++ octal_text address) }
     ensures length { array_vec_len text.new ≤ array_vec_len text.old + 13 }
 {

@@ -1,7 +1,10 @@
 ghost use Rattle.std.specs.Prelude.{◌≡◌, ◌≤◌, length};
+ghost use Rattle.memory_report.specs.Bus.{bus_of, is_same, same_words};
+ghost use Rattle.memory_report.specs.Report.{found_of, is_good};
 ghost use Rattle.memory_report.specs.Words.{all_hold, is_bad};
 
 use crate::bank::count_bad;
+use crate::bus_text::count_same;
 use host_devices::LineFault;
 use memory_core::{Borrowed, Seen};
 
@@ -47,6 +50,26 @@ pub enum TestEnd {
     LineFailed(LineFault),
 }
 
+/// What was found of a bus at one word that holds: whether its data lines touch, and which words its address lines do not
+/// tell from it.
+#[derive(Drop)]
+pub struct Bus {
+    /// The word at which it was tested, if it was.
+    pub at: Option<u16>,
+
+    /// Whether a number would not stand there though each of its bits can, by itself.
+    pub touches: bool,
+
+    /// How many words were looked at while that word held a mark, each one address line away.
+    pub looked_at: u32,
+
+    /// Those that read the mark.
+    pub marked: Vec<u16>,
+
+    /// Those that read what the word had held before, once that was put back.
+    pub returned: Vec<u16>,
+}
+
 /// What a test of memory found.
 #[derive(Drop)]
 pub struct Findings {
@@ -62,6 +85,9 @@ pub struct Findings {
     /// The addresses at which nothing answered: at each of them the rest of its bank was left out.
     pub gaps: Vec<u16>,
 
+    /// What was found of the bus.
+    pub bus: Bus,
+
     /// The word under way at the end and what it held, where it may hold another number now.
     pub borrowed: Option<Borrowed>,
 
@@ -70,10 +96,10 @@ pub struct Findings {
 }
 
 impl Findings {
-    /// Whether each tested word holds what it was given.
-    pub fn all_hold(&self) -> bool
-        ensures { result ≡ all_hold self.now.words.items }
+    /// Whether each tested word holds what it was given, no data lines touch, and no two words are one.
+    pub fn is_good(&self) -> bool
+        ensures { result ≡ is_good (found_of self.now) }
     {
-        count_bad(&self.words) == 0
+        count_bad(&self.words) == 0 && !self.bus.touches && count_same(&self.bus) == 0
     }
 }

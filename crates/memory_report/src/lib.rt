@@ -1,4 +1,5 @@
-//! The report of a memory test: a picture of the board, the words that do not hold, and how the test ended.
+//! The report of a memory test: a picture of the board, the words that do not hold, what was found of
+//! the bus, and how the test ended.
 //!
 //! A row of the picture is a bank of 4,096 words, a column a bit of a word, which is a chip of a board. What stands there is
 //! a verdict of all tested words of the bank. The bits of a word are all good exactly where it held what it was given
@@ -8,12 +9,13 @@
 
 mod bad_words;
 mod bank;
+mod bus_text;
 mod end_text;
 mod findings;
 mod picture;
 mod report;
 mod verdict;
 
-pub use findings::{Findings, TestEnd, Word};
+pub use findings::{Bus, Findings, TestEnd, Word};
 pub use report::{Report, push_report};
 pub use verdict::{Verdict, dots_mean_that_it_holds};

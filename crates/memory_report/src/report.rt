@@ -4,6 +4,7 @@ ghost use Rattle.memory_report.specs.Report.{found_of, memory_text};
 
 use crate::bad_words::push_words;
 use crate::bank::bank_of;
+use crate::bus_text::push_bus;
 use crate::end_text::{push_borrowed, push_end};
 use crate::findings::Findings;
 use crate::picture::push_rows;
@@ -35,6 +36,7 @@ pub fn push_report(text: &mut Report, findings: &Findings)
         bank_of(findings.to),
     );
     push_words(text, &findings.words);
+    push_bus(text, &findings.bus);
     push_borrowed(text, findings.borrowed);
     push_end(text, findings.end);
 }

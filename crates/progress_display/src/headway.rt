@@ -11,8 +11,10 @@ use host_devices::Sight;
 // More characters than these a console answers to no key.
 const MOST_ANSWERED: u32 = 32;
 
-// How many words tell a pace.
+// How many words tell a pace, and in how many milliseconds: one mishap takes two seconds.
 const TELLING: u32 = 8;
+
+const TELLING_TIME: u64 = 10_000;
 
 // How long a pace is measured before what was earlier is forgotten, in milliseconds.
 const MEASURED: u64 = 30_000;
@@ -202,9 +204,14 @@ impl Headway {
             || self.means != earlier.means
     }
 
-    /// Whether so many words were done that their pace tells of the rest.
-    pub(crate) fn has_pace(self) -> bool {
-        self.done.saturating_sub(self.done_before) >= TELLING
+    /// Whether so many words were done, in so long a time, that their pace tells of the rest.
+    pub(crate) fn has_pace(self, now: Option<u64>) -> bool {
+        match elapsed(self.from.time, now) {
+            Some(time) => {
+                self.done.saturating_sub(self.done_before) >= TELLING && time >= TELLING_TIME
+            }
+            None => false,
+        }
     }
 
     /// What is shown of it at a time, in milliseconds of the clock, where the clock has one.

@@ -10,6 +10,7 @@
 
 mod headway;
 mod last_word;
+mod overheard;
 mod pace;
 mod progress_line;
 mod showing;

@@ -4,6 +4,7 @@ ghost use Rattle.progress_display.specs.ProgressText.{above_line, forecast_text,
 
 use crate::headway::Headway;
 use crate::last_word::{LastWord, NOTHING_SAID};
+use crate::overheard::Overheard;
 use crate::pace::is_due;
 use crate::showing::{Forecast, GoingOn, KeptIn, Showing, TestedWord};
 use arrayvec::ArrayString;
@@ -25,7 +26,8 @@ type LineText = ArrayString<160>;
 /// Shows, while a load or a reading goes on, how many words are done of all, the mishaps, and the time
 /// left at the pace so far: one line, at most ten times a second. A terminal that has fewer columns cuts
 /// it, so that it never wraps. Where it takes two minutes or more, a line above it says so once, as soon as
-/// the pace is known. What can't be written is left out.
+/// the pace is known; and where the line that is listened to is not silent for ten seconds, what it says. What can't be
+/// written is left out.
 #[derive(Drop)]
 pub struct ProgressLine<'a, C: Clock, E: Print> {
     clock: &'a C,
@@ -40,6 +42,11 @@ pub struct ProgressLine<'a, C: Clock, E: Print> {
 
     // Whether the line above it is still to be written.
     is_forecast_due: Cell<bool>,
+
+    // What is heard while the line is listened to until it is silent, and whether that was told.
+    overheard: Cell<Overheard>,
+
+    is_overheard_told: Cell<bool>,
 }
 
 impl<'a, C: Clock, E: Print> ProgressLine<'a, C, E> {
@@ -53,6 +60,8 @@ impl<'a, C: Clock, E: Print> ProgressLine<'a, C, E> {
             shown: Cell::new(None),
             kept_in,
             is_forecast_due: Cell::new(true),
+            overheard: Cell::new(Overheard::NOTHING),
+            is_overheard_told: Cell::new(false),
         }
     }
 
@@ -103,14 +112,14 @@ impl<'a, C: Clock, E: Print> ProgressLine<'a, C, E> {
         };
         if due {
             let showing = headway.showing(now);
-            self.forecast(headway, showing.seconds_left);
+            self.forecast(headway, now, showing.seconds_left);
             self.put(showing_line(showing), now);
         }
     }
 
     // Says once how long it takes, as soon as the pace is known, where that is long.
-    fn forecast(&self, headway: Headway, seconds_left: Option<u64>) {
-        if !self.is_forecast_due.get() || !headway.has_pace() {
+    fn forecast(&self, headway: Headway, now: Option<u64>, seconds_left: Option<u64>) {
+        if !self.is_forecast_due.get() || !headway.has_pace(now) {
             return;
         }
         self.is_forecast_due.set(false);
@@ -121,6 +130,22 @@ impl<'a, C: Clock, E: Print> ProgressLine<'a, C, E> {
         let goes_on = self.kept_in != KeptIn::Nothing;
         if let Some(line) = forecast_line(Forecast { minutes, goes_on }) {
             self.say(line.as_str());
+        }
+    }
+
+    // Keeps what is heard while the line is listened to, and says it once, where it does not fall silent.
+    fn overhear(&self, headway: Headway, sight: Sight) {
+        if !headway.is_listening() {
+            self.overheard.set(Overheard::NOTHING);
+            return;
+        }
+        let overheard = self.overheard.get().hearing(sight.heard, self.now());
+        self.overheard.set(overheard);
+        if overheard.is_long() && !self.is_overheard_told.get() {
+            self.is_overheard_told.set(true);
+            if let Some(text) = overheard_text(overheard) {
+                self.say(text.as_str());
+            }
         }
     }
 
@@ -155,6 +180,7 @@ impl<C: Clock, E: Print> Onlooker for ProgressLine<'_, C, E> {
         self.last_word.set(self.last_word.get().seeing(sight));
         let earlier = self.headway.get();
         let headway = earlier.seeing(sight);
+        self.overhear(headway, sight);
         if headway.is_news(earlier) {
             self.keep(headway);
         } else {
@@ -192,6 +218,15 @@ fn going_on_line(going_on: GoingOn) -> Option<LineText>
     let mut line = LineText::new();
     match write!(line, "\r\x1b[?7l{going_on}\x1b[K\x1b[?7h") {
         Ok(()) => Some(line),
+        Err(_) => None,
+    }
+}
+
+// What is written to say what was overheard; none where that has no room.
+fn overheard_text(overheard: Overheard) -> Option<ArrayString<256>> {
+    let mut text = ArrayString::new();
+    match write!(text, "\r{overheard}\x1b[K\n") {
+        Ok(()) => Some(text),
         Err(_) => None,
     }
 }

@@ -2,7 +2,7 @@
 use Rattle.std.specs.Prelude.{ℕ, ◌+◌, ◌≤◌, List, [], ◌∷◌, ◌++◌, length, option_to_list}
 use Rattle.host_core.specs.declared.heard.Heard.{Heard}
 use Rattle.reading_core.specs.Reader.{Reader}
-use Rattle.reading_core.specs.Bound.{reading_bound}
+use Rattle.reading_core.specs.Bound.{life_bound}
 use Rattle.reading_core.specs.ReadingTable.{ask}
 
 -- the reader that a list of heard things makes
@@ -17,4 +17,4 @@ replay r (heard ∷ more) = option_to_list (ask r heard).key ++ replay (ask r he
 
 -- whatever is heard, this life sends no more characters than the bound, those that it has sent included
 abbrev pub KeepsBound : Reader → Type 0
-KeepsBound r = (heard : List Heard) → r.sent + length (replay r heard) ≤ reading_bound (length r.addresses) r.patience
+KeepsBound r = (heard : List Heard) → r.sent + length (replay r heard) ≤ life_bound r.manner.care (length r.addresses) r.patience

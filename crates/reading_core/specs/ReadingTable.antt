@@ -1,8 +1,10 @@
 -- The table of a host that only looks: what it does on what it hears (this project's choice). It types one
 -- character at a time and waits in a phase for what the console has to answer (host_core's Answers). Of a word it
--- types the address, `/`, and after the six digits that memory holds CR, which closes the word as it was.
+-- types the address, `/`, and after the six digits that memory holds CR, which closes the word as it was. A number
+-- that it doubts it takes only where a second look, right behind the first, reads the same.
 use Rattle.std.specs.Prelude.{ℕ, ◌+◌, Bool, true, false, ◌==◌, nat_lt, if◌then◌else◌, List, [], ◌∷◌, ◌++◌, length, Option, Some, None}
 use Rattle.octal.specs.Octal.{digit_of}
+use Rattle.tape_image.specs.Word.{WordValue, merged}
 use Rattle.host_core.specs.declared.answers.Reply.{Reply}
 use Rattle.host_core.specs.declared.answers.Reply.TheVariants.{On, Over, Wrong}
 use Rattle.host_core.specs.declared.answers.Echo.{Echo}
@@ -13,12 +15,15 @@ use Rattle.host_core.specs.declared.heard.Heard.{Heard}
 use Rattle.host_core.specs.declared.heard.Heard.TheVariants.{Got, Quiet}
 use Rattle.host_core.specs.Answers.{resynchronise_reply, return_reply, digit_echo, reading_start, reading_rest}
 use Rattle.host_core.specs.Console.{resynchronise, carriage_return, slash}
-use Rattle.reading_core.specs.Reader.{Reader, address_under_way}
+use Rattle.host_core.specs.Core.{word_nr}
+use Rattle.reading_core.specs.Reader.{Reader, address_under_way, looks_twice}
+use Rattle.reading_core.specs.declared.care.Care.{Care}
+use Rattle.reading_core.specs.declared.care.Care.TheVariants.{Once, Twice, TwiceWhereOther}
 use Rattle.reading_core.specs.declared.phase.Phase.{Phase}
-use Rattle.reading_core.specs.declared.phase.Phase.TheVariants.{Settle, Sync, Address, Slash, Before, Value, Close, Ended}
+use Rattle.reading_core.specs.declared.phase.Phase.TheVariants.{Settle, Sync, Address, Slash, Before, Value, Close, Refused, Ended}
 use Rattle.reading_core.specs.declared.phase.End.TheVariants.{Complete, GaveUp, NoWord}
 use Rattle.reading_core.specs.declared.turn.Turn.{Turn}
-use Rattle.reading_core.specs.declared.turn.Turn.TheVariants.{Listen, Key, Read, Next, Stop, Stray, Timeout}
+use Rattle.reading_core.specs.declared.turn.Turn.TheVariants.{Listen, Key, Read, Again, Next, Stop, Stray, Timeout}
 
 -- behind the answer to `Z` comes the next word
 abbrev pub synced : Reply → Turn
@@ -36,12 +41,43 @@ addressed place NoEcho = Stray
 abbrev pub slash_hears : ℕ → Turn
 slash_hears c = if c == slash then Listen Before else Stray
 
--- a reading of the word at an address: it goes on, it is whole, or there is no memory
-abbrev pub reads : ℕ → Reading → Turn
-reads address (Digits value count) = Listen (Value value count)
-reads address (Number value) = Read value
-reads address NoMemory = Stop (NoWord address)
-reads address NoReading = Stray
+-- the word that is looked at: its address, how it is read, what is expected of it, and what an earlier look read
+pub record Target : Type 0 where
+  pub address : ℕ
+  pub care : Care
+  pub expected : WordValue
+  pub earlier : Option ℕ
+
+-- the word under way
+abbrev pub target_of : Reader → Target
+target_of r = record {
+  address = address_under_way r;
+  care = r.manner.care;
+  expected = word_nr r.manner.expected (length r.values);
+  earlier = r.earlier;
+}
+
+-- whether a number has to be read twice, where this is expected of its word
+abbrev pub doubts : Care → WordValue → ℕ → Bool
+doubts Once word number = false
+doubts Twice word number = true
+doubts TwiceWhereOther word number = if merged word number == number then false else true
+
+-- a whole number, behind an earlier look or none
+abbrev pub judged : Option ℕ → Bool → ℕ → Turn
+judged None doubted number = if doubted then Again number else Read number
+judged (Some first) doubted number = if number == first then Read number else Stray
+
+-- a `?` in the place of a reading; a host that looks twice believes it only with the rest of the refusal behind it
+abbrev pub questioned : Bool → ℕ → Turn
+questioned twice address = if twice then Listen (Refused 0) else Stop (NoWord address)
+
+-- a reading of the word: it goes on, it is whole, or there is no memory
+abbrev pub reads : Target → Reading → Turn
+reads t (Digits value count) = Listen (Value value count)
+reads t (Number value) = judged t.earlier (doubts t.care t.expected value) value
+reads t NoMemory = questioned (looks_twice t.care) t.address
+reads t NoReading = Stray
 
 -- behind the answer to the CR that closes the word comes the next
 abbrev pub closed : Reply → Turn
@@ -49,16 +85,23 @@ closed (On place) = Listen (Close place)
 closed Over = Next
 closed Wrong = Stray
 
--- a character is heard, where the word at `address` is under way
-abbrev pub hears : ℕ → Phase → ℕ → Turn
-hears address Settle c = Listen Settle
-hears address (Sync place) c = synced (resynchronise_reply place c)
-hears address (Address place) c = addressed place (digit_echo address place c)
-hears address Slash c = slash_hears c
-hears address Before c = reads address (reading_start c)
-hears address (Value value place) c = reads address (reading_rest value place c)
-hears address (Close place) c = closed (return_reply place c)
-hears address (Ended end) c = Listen (Ended end)
+-- behind the whole refusal of `/` there is no memory at the address
+abbrev pub refused : ℕ → Reply → Turn
+refused address (On place) = Listen (Refused place)
+refused address Over = Stop (NoWord address)
+refused address Wrong = Stray
+
+-- a character is heard, where this word is under way
+abbrev pub hears : Target → Phase → ℕ → Turn
+hears t Settle c = Listen Settle
+hears t (Sync place) c = synced (resynchronise_reply place c)
+hears t (Address place) c = addressed place (digit_echo t.address place c)
+hears t Slash c = slash_hears c
+hears t Before c = reads t (reading_start c)
+hears t (Value value place) c = reads t (reading_rest value place c)
+hears t (Close place) c = closed (return_reply place c)
+hears t (Refused place) c = refused t.address (return_reply place c)
+hears t (Ended end) c = Listen (Ended end)
 
 -- nothing is heard for the quiet time
 abbrev pub waits : Phase → Turn
@@ -89,14 +132,15 @@ next_word r =
 abbrev pub taken : Reader → Turn → ReaderStep
 taken r (Listen phase) = listens r phase
 taken r (Key key phase) = sends r key phase
-taken r (Read value) = sends (record r { values = r.values ++ value ∷ [] }) carriage_return (Close 0)
+taken r (Read value) = sends (record r { values = r.values ++ value ∷ []; earlier = None }) carriage_return (Close 0)
+taken r (Again value) = sends (record r { earlier = Some value }) carriage_return (Close 0)
 taken r Next = next_word r
 taken r (Stop end) = listens r (Ended end)
 taken r Stray =
-    if nat_lt r.spent r.patience then listens (record r { spent = r.spent + 1 }) Settle
+    if nat_lt r.spent r.patience then listens (record r { spent = r.spent + 1; earlier = None }) Settle
     else listens r (Ended GaveUp)
 taken r Timeout =
-    if nat_lt r.spent r.patience then sends (record r { spent = r.spent + 1 }) resynchronise (Sync 0)
+    if nat_lt r.spent r.patience then sends (record r { spent = r.spent + 1; earlier = None }) resynchronise (Sync 0)
     else listens r (Ended GaveUp)
 
 -- the numbers read so far, after a turn
@@ -111,7 +155,7 @@ is_read _ = false
 
 -- the turn that the table gives for a reader
 abbrev pub turn_of : Reader → Heard → Turn
-turn_of r (Got c) = hears (address_under_way r) r.phase c
+turn_of r (Got c) = hears (target_of r) r.phase c
 turn_of r Quiet = waits r.phase
 
 -- one step of the reading host

@@ -36,6 +36,9 @@ pub enum Phase {
     /// The answer to the CR that closes the word, from place 0 to 3.
     Close(u8),
 
+    /// The rest of a refusal of `/`, behind its `?`, from place 0 to 3.
+    Refused(u8),
+
     /// Nothing more: the life is over.
     Ended(End),
 }

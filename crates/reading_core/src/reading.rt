@@ -1,48 +1,57 @@
 ghost use Rattle.std.specs.Prelude.{◌≡◌, ◌+◌, ◌^◌, ◌<◌, ◌≤◌, [], true, length, vec_capacity, IfOk, Some};
 ghost use Rattle.host_core.specs.declared.heard.Heard.TheVariants.{Got};
 ghost use Rattle.reading_core.specs.Addresses.{AreAddresses, IsRange, addresses_between, addresses_of};
-ghost use Rattle.reading_core.specs.Bound.{reading_bound};
+ghost use Rattle.reading_core.specs.Bound.{life_bound};
 ghost use Rattle.reading_core.specs.Invariant.{IsReader, HasWord, basis_of};
 ghost use Rattle.reading_core.specs.Laws.{KeepsBound};
-ghost use Rattle.reading_core.specs.Reader.{address_under_way, begun, ended, reader_of, restarted};
-ghost use Rattle.reading_core.specs.ReadingTable.{ask, is_read, next_word, taken, turn_of, values_after};
+ghost use Rattle.reading_core.specs.Reader.{address_under_way, begun, begun_in, ended, looks_twice, manner_of, reader_of, restarted};
+ghost use Rattle.reading_core.specs.ReadingTable.{ask, doubts, is_read, judged, next_word, questioned, reads, taken, target_of, turn_of, values_after};
 
+use crate::care::Care;
 use crate::life::{LifeState, ReaderStep};
 use crate::phase::{End, Phase};
 use crate::table;
 use crate::turn::Turn;
 use host_core::answers::{
-    digit, digit_echo, reading_rest, reading_start, resynchronise_reply, return_reply,
+    Reading, digit, digit_echo, reading_rest, reading_start, resynchronise_reply, return_reply,
 };
-use host_core::console::{CARRIAGE_RETURN, RESYNCHRONISE};
+use host_core::console::RESYNCHRONISE;
 use host_core::{Heard, Plan};
 use std::alloc::{AllocError, Global};
 use std::marker::Model;
+use tape_image::{Word, merge};
 
 /// A host that reads the words at a list of addresses and changes none: it says which character to
 /// type next.
 ///
-/// The constructors and each `restart` begin a life. Contracts see a record of the addresses, the
-/// numbers read at the first of them, the patience, the mishaps spent, the characters sent and the
-/// phase. Only the constructors take memory.
+/// The constructors and each `restart` begin a life. Contracts see a record of the addresses, how
+/// their words are read, the numbers read at the first of them, the patience, the mishaps spent, the
+/// characters sent, an earlier look and the phase. Only the constructors take memory.
 #[derive(Drop)]
 pub struct ReadingCore {
     addresses: Vec<u16>,
+    care: Care,
+    expected: Vec<Word>,
     values: Vec<u16>,
     patience: u32,
     life: LifeState,
 }
 
 impl Model for ReadingCore {
+    ghost use Rattle.std.specs.Coded.{codes};
     ghost use Rattle.std.specs.Prelude.{◌≤◌, length, vec_capacity};
-    ghost use Rattle.reading_core.specs.Reader.{Reader, reader_of};
+    ghost use Rattle.tape_image.specs.Word.{word_code};
+    ghost use Rattle.reading_core.specs.Reader.{Reader, manner_of, reader_of};
     ghost use Rattle.reading_core.specs.Invariant.{IsReader};
 
     ghost Value = { Reader };
 
-    ghost view = { λ c. reader_of c.addresses.items c.values.items c.patience c.life };
+    ghost coded = { Prim.hlevel (codes, word_code) };
 
-    ghost invariant = { λ c. IsReader (reader_of c.addresses.items c.values.items c.patience c.life) × (length c.addresses.items ≤ vec_capacity c.values) };
+    ghost view = { λ c. reader_of c.addresses.items (manner_of c.care c.expected.items) c.values.items c.patience c.life };
+
+    ghost invariant = { λ c. IsReader (reader_of c.addresses.items (manner_of c.care c.expected.items) c.values.items c.patience c.life)
+        × (length c.addresses.items ≤ vec_capacity c.values) };
 }
 
 impl ReadingCore {
@@ -66,13 +75,25 @@ impl ReadingCore {
         ensures begun { result ≡ begun addresses.items [] patience }
         ensures kept { IsReader result }
     {
+        let expected = Vec::new(*room.allocator());
         let life = LifeState::begun(addresses.len(), 0);
         ReadingCore {
             addresses,
+            care: Care::Once,
+            expected,
             values: room,
             patience,
             life,
         }
+    }
+
+    /// The same host, that looks at each word so often. Nothing is expected of the words.
+    pub fn with_care(self, care: Care) -> ReadingCore
+        requires { self ≡ begun self.addresses [] self.patience }
+        ensures begun { result ≡ begun_in (manner_of care []) self.addresses [] self.patience }
+        ensures kept { IsReader result }
+    {
+        ReadingCore { care, ..self }
     }
 
     /// A host that reads the words from the first address to the last, both included. The one error
@@ -95,18 +116,31 @@ impl ReadingCore {
         ReadingCore::new(alloc, addresses, patience)
     }
 
-    /// A host that reads the words of the plan, whole ones, in the order of their addresses. The one
-    /// error is want of memory, for the addresses or the numbers.
-    pub fn of_plan(alloc: Global, plan: &Plan, patience: u32) -> Result<ReadingCore, AllocError>
-        ensures begun { IfOk result (λ core. core ≡ begun (addresses_of plan.now.words) [] patience) }
+    /// A host that reads the words of the plan, whole ones, in the order of their addresses, looks at
+    /// each so often, and expects what the plan says. The one error is want of memory, for the
+    /// addresses, the words or the numbers.
+    pub fn of_plan(
+        alloc: Global,
+        plan: &Plan,
+        care: Care,
+        patience: u32,
+    ) -> Result<ReadingCore, AllocError>
+        ensures begun { IfOk result (λ core. core ≡ begun_in (manner_of care plan.now.words) (addresses_of plan.now.words) [] patience) }
         ensures kept { IfOk result IsReader }
     {
         let words = plan.words();
         let mut addresses = Vec::with_capacity(alloc, words.len())?;
+        let mut expected = Vec::with_capacity(alloc, words.len())?;
         for word in words {
             addresses.push(word.address())?;
+            expected.push(*word)?;
         }
-        ReadingCore::new(alloc, addresses, patience)
+        let core = ReadingCore::new(alloc, addresses, patience)?;
+        Ok(ReadingCore {
+            care,
+            expected,
+            ..core
+        })
     }
 
     /// The addresses to be read, rising.
@@ -134,12 +168,13 @@ impl ReadingCore {
     }
 
     /// The characters sent in this life so far, also the first `Z`. Whatever is heard, they never pass
-    /// the reading bound, which for all of memory and the largest patience is 38,654,935,040.
+    /// the bound of a life, which for all of memory, the largest patience and two looks at each word is
+    /// 73,014,902,784.
     pub fn sent_count(&self) -> u64
         ensures value { result ≡ self.now.sent }
-        ensures bound { result ≤ reading_bound (length self.now.addresses) self.now.patience }
+        ensures bound { result ≤ life_bound self.now.manner.care (length self.now.addresses) self.now.patience }
         ensures later { KeepsBound self.now }
-        ensures most { result ≤ 38654935040 }
+        ensures most { result ≤ 73014902784 }
         ensures kept { IsReader self.now }
     {
         self.life.sent
@@ -174,7 +209,8 @@ impl ReadingCore {
         ensures kept { IsReader self.new }
         ensures same_addresses { self.new.addresses ≡ self.old.addresses }
         ensures same_patience { self.new.patience ≡ self.old.patience }
-        ensures bound { self.new.sent ≤ reading_bound (length self.new.addresses) self.new.patience }
+        ensures same_manner { self.new.manner ≡ self.old.manner }
+        ensures bound { self.new.sent ≤ life_bound self.new.manner.care (length self.new.addresses) self.new.patience }
     {
         let turn = self.turn(heard);
         let ReaderStep { life, key } = self.taken(turn);
@@ -202,13 +238,61 @@ impl ReadingCore {
             Phase::Sync(place) => table::synced(resynchronise_reply(place, c)),
             Phase::Address(place) => table::addressed(place, digit_echo(self.address(), place, c)),
             Phase::Slash => table::slash(c),
-            Phase::Before => table::reads(self.address(), reading_start(c)),
-            Phase::Value(value, place) => table::reads(
-                self.address(),
-                reading_rest(value, place, c),
-            ),
+            Phase::Before => self.reads(reading_start(c)),
+            Phase::Value(value, place) => self.reads(reading_rest(value, place, c)),
             Phase::Close(place) => table::closed(return_reply(place, c)),
+            Phase::Refused(place) => table::refused(self.address(), return_reply(place, c)),
             Phase::Ended(end) => Turn::Listen(Phase::Ended(end)),
+        }
+    }
+
+    // A reading of the word under way: it goes on, it is whole, or there is no memory.
+    fn reads(&self, reading: Reading) -> Turn
+        requires { HasWord (basis_of self.now) }
+        ensures { result ≡ reads (target_of self.now) reading }
+    {
+        match reading {
+            Reading::Digits(value, count) => Turn::Listen(Phase::Value(value, count)),
+            Reading::Number(value) => self.judged(value),
+            Reading::NoMemory => self.questioned(),
+            Reading::NoReading => Turn::Stray,
+        }
+    }
+
+    // A whole number, behind an earlier look or none.
+    fn judged(&self, number: u16) -> Turn
+        ensures { result ≡ judged self.now.earlier (doubts self.now.manner.care (target_of self.now).expected number) number }
+    {
+        match self.life.earlier {
+            None if self.doubts(number) => Turn::Again(number),
+            None => Turn::Read(number),
+            Some(first) if number == first => Turn::Read(number),
+            Some(_) => Turn::Stray,
+        }
+    }
+
+    // Whether a number at the address under way has to be read twice.
+    fn doubts(&self, number: u16) -> bool
+        ensures { result ≡ doubts self.now.manner.care (target_of self.now).expected number }
+    {
+        match self.care {
+            Care::Once => false,
+            Care::Twice => true,
+            Care::TwiceWhereOther => match self.expected.get(self.values.len()) {
+                Some(word) => merge(*word, number) != number,
+                None => false,
+            },
+        }
+    }
+
+    // A `?` in the place of a reading.
+    fn questioned(&self) -> Turn
+        requires { HasWord (basis_of self.now) }
+        ensures { result ≡ questioned (looks_twice self.now.manner.care) (address_under_way self.now) }
+    {
+        match self.care {
+            Care::Once => Turn::Stop(End::NoWord(self.address())),
+            Care::Twice | Care::TwiceWhereOther => Turn::Listen(Phase::Refused(0)),
         }
     }
 
@@ -223,14 +307,16 @@ impl ReadingCore {
     // What the turn does to the life, and the character that it sends.
     fn taken(&self, turn: Turn) -> ReaderStep
         requires { IsReader (taken self.now turn).next }
-        ensures next { reader_of self.now.addresses (values_after self.now.values turn) self.now.patience result.life ≡ (taken self.now turn).next }
+        ensures next { reader_of self.now.addresses self.now.manner (values_after self.now.values turn) self.now.patience result.life
+            ≡ (taken self.now turn).next }
         ensures key { result.key ≡ (taken self.now turn).key }
     {
         let life = self.life;
         match turn {
             Turn::Listen(phase) => life.listens(phase),
             Turn::Key(key, phase) => life.sends(key, phase),
-            Turn::Read(_) => life.sends(CARRIAGE_RETURN, Phase::Close(0)),
+            Turn::Read(_) => life.closes(None),
+            Turn::Again(number) => life.closes(Some(number)),
             Turn::Next => self.next_word(),
             Turn::Stop(end) => life.listens(Phase::Ended(end)),
             Turn::Stray if life.spent < self.patience => life.with_mishap().listens(Phase::Settle),
@@ -244,7 +330,7 @@ impl ReadingCore {
     // The next word, or nothing more.
     fn next_word(&self) -> ReaderStep
         requires { self.now.sent + 1 < 2 ^ 64 }
-        ensures next { reader_of self.now.addresses self.now.values self.now.patience result.life ≡ (next_word self.now).next }
+        ensures next { reader_of self.now.addresses self.now.manner self.now.values self.now.patience result.life ≡ (next_word self.now).next }
         ensures key { result.key ≡ (next_word self.now).key }
     {
         if self.values.len() < self.addresses.len() {

@@ -1,11 +1,11 @@
 // The table of a host that only looks: for each phase, what it does on what the console answers.
 
 ghost use Rattle.std.specs.Prelude.{◌≡◌, ◌≤◌};
-ghost use Rattle.reading_core.specs.ReadingTable.{addressed, closed, reads, slash_hears, synced, waits};
+ghost use Rattle.reading_core.specs.ReadingTable.{addressed, closed, refused, slash_hears, synced, waits};
 
 use crate::phase::{End, Phase};
 use crate::turn::Turn;
-use host_core::answers::{Echo, Reading, Reply};
+use host_core::answers::{Echo, Reply};
 use host_core::console::{RESYNCHRONISE, SLASH};
 
 /// Behind the answer to `Z` comes the next word.
@@ -41,18 +41,6 @@ pub(crate) fn slash(c: u8) -> Turn
     }
 }
 
-/// A reading of the word at an address: it goes on, it is whole, or there is no memory.
-pub(crate) fn reads(address: u16, reading: Reading) -> Turn
-    ensures { result ≡ reads address reading }
-{
-    match reading {
-        Reading::Digits(value, count) => Turn::Listen(Phase::Value(value, count)),
-        Reading::Number(value) => Turn::Read(value),
-        Reading::NoMemory => Turn::Stop(End::NoWord(address)),
-        Reading::NoReading => Turn::Stray,
-    }
-}
-
 /// Behind the answer to the CR that closes the word comes the next.
 pub(crate) fn closed(reply: Reply) -> Turn
     ensures { result ≡ closed reply }
@@ -60,6 +48,17 @@ pub(crate) fn closed(reply: Reply) -> Turn
     match reply {
         Reply::On(place) => Turn::Listen(Phase::Close(place)),
         Reply::Over => Turn::Next,
+        Reply::Wrong => Turn::Stray,
+    }
+}
+
+/// Behind the whole refusal of `/` there is no memory at the address.
+pub(crate) fn refused(address: u16, reply: Reply) -> Turn
+    ensures { result ≡ refused address reply }
+{
+    match reply {
+        Reply::On(place) => Turn::Listen(Phase::Refused(place)),
+        Reply::Over => Turn::Stop(End::NoWord(address)),
         Reply::Wrong => Turn::Stray,
     }
 }

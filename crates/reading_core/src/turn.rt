@@ -12,6 +12,9 @@ pub enum Turn {
     /// This number is what the word under way holds: it counts as read, and the word is closed.
     Read(u16),
 
+    /// This number is not believed yet: the word is closed and looked at once more.
+    Again(u16),
+
     /// At the prompt, between words: the next word, or the end.
     Next,
 

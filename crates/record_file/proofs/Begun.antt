@@ -7,7 +7,7 @@ use Rattle.std.proofs.lemmas.List.{take_all}
 use Rattle.std.specs.Prelude.{IfSome, MatchOption, option_map}
 use Rattle.std.specs.Result.{IfOk, IfErr}
 use Rattle.host_devices.proofs.Told.{tells_join, tells_none}
-use Rattle.record_file.specs.Beginning.{Course, Replaced, GivenUp, course, new_name, NewRecord, new_record, IsRenaming, Whole, Unsynced, NotRenamed, Moved, IsWriting, NotHeld, NoRoom, NotWritten, Written, IsBeside, OutOfReach, NoMemory, NoFolder, AtFolder, IsLetGo, IsWrittenOver, IsNotWrittenOver, IsBegun, Beside, InPlace, IsNotBegun, NotBeside, NotInPlace}
+use Rattle.record_file.specs.Beginning.{Course, Replaced, GivenUp, course, IsBeside, Whole, Unsynced, NotRenamed, Stopped, IsLetGo, IsWrittenOver, IsNotWrittenOver, IsBegun, Beside, InPlace, IsNotBegun, NotBeside, NotInPlace}
 use Rattle.record_file.specs.Closing.{IsRecordClosed}
 use Rattle.host_devices.specs.Told.{HasAsked}
 use Rattle.record_file.specs.DiskStep.{DiskStep}
@@ -123,27 +123,12 @@ unread name a b c found held after is kind h l = (
 
 -- ---- what remains
 
-renamed_remains : (of : NewRecord) (made : Made) (way : Course) (after : Made) (steps : List DiskStep) → IsRenaming of made way after steps
-    → way ≡ Replaced → after ≡ Before
-renamed_remains of made way after steps (Whole left l) is = refl
-renamed_remains of made way after steps (Unsynced left l) is = refl
-renamed_remains of made way after steps (NotRenamed left removed) is = absurd (cc is)
-renamed_remains of made way after steps (Moved found removed) is = absurd (cc is)
-
-written_remains : (name folder text : List ℕ) (made : Made) (way : Course) (after : Made) (steps : List DiskStep) → IsWriting name folder text made way after steps
-    → way ≡ Replaced → after ≡ Before
-written_remains name folder text made way after steps (NotHeld making m) is = absurd (cc is)
-written_remains name folder text made way after steps (NoRoom making m) is = absurd (cc is)
-written_remains name folder text made way after steps (NotWritten making removed m) is = absurd (cc is)
-written_remains name folder text made way after steps (Written way' made' making renaming m r) is =
-    renamed_remains (new_record name (new_name name) folder text) made way' made' renaming r is
-
 beside_remains : (name text : List ℕ) (made : Made) (way : Course) (after : Made) (steps : List DiskStep) → IsBeside name text made way after steps
     → way ≡ Replaced → after ≡ Before
-beside_remains name text made way after steps OutOfReach is = absurd (cc is)
-beside_remains name text made way after steps NoMemory is = absurd (cc is)
-beside_remains name text made way after steps (NoFolder folder f) is = absurd (cc is)
-beside_remains name text made way after steps (AtFolder folder way' made' writing f w) is = written_remains name folder text made way' made' writing w is
+beside_remains name text made way after steps (Whole before left folder l f) is = refl
+beside_remains name text made way after steps (Unsynced before left folder l) is = refl
+beside_remains name text made way after steps (NotRenamed same l f) is = absurd (cc is)
+beside_remains name text made way after steps (Stopped same l) is = absurd (cc is)
 
 -- a new record in the old one's place leaves that as one that was there
 pub replaced_remains : {K : Type 0} (name text : List ℕ) (made after : Made) (a b : Option (List DiskStep)) (kept : Option K) (keeper : K) → kept ≡ Some keeper

@@ -4,7 +4,6 @@ use Rattle.std.specs.List.{starts_with}
 use Rattle.std.specs.Prelude.{Contains}
 use Rattle.load_record.specs.declared.version.Version.{Version}
 use Rattle.load_record.specs.declared.version.Version.TheVariants.{First, Second}
-use Rattle.load_record.specs.Lines.{header}
 use Rattle.load_record.proofs.Runs.{begins, begins_with}
 use Rattle.record_file.specs.InPlace.{IsFrontOf}
 use Rattle.record_file.specs.OldRecord.{BeginsHeader, HoldsNoRecord}

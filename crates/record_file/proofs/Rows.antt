@@ -1,10 +1,10 @@
 -- Rows of the tables of what is asked, by what came of a call.
-use Rattle.std.proofs.Common.{◌≡◌, ℕ, ◌+◌, ◌<◌, ◌≤◌, ◌⊎◌, inl, inr, ◌∙◌, sym, ap, subst, refl, List, [], ◌∷◌, ◌++◌, length, Bool, true, false, Option, Some, None, Result, Ok, Err}
-use Rattle.record_file.specs.Beginning.{IsLeftover, Left, Strange as StrangeNew, Taken, IsMaking, Fresh, Again, IsMakingHeld, new_name, Course, NotReplaced, GivenUp, Replaced, new_record, IsRenaming, Whole, Unsynced, NotRenamed, Moved, IsFileCut, CutAndSynced, NotCut, IsLetGo, Goes, LeadsElsewhere, Stays, StaysBehindLink, IsWriting, NotHeld as NotHeldNew, NoRoom, NotWritten, Written, IsBeside, IsMadeReady, ReadyDevice, ReadyFile, IsUnready, MovedAway, IsAllWritten, IsWrittenOver, Device as OverDevice, PlainFile as OverFile, AtFolder, course, IsPlaceSynced, FolderShut, may_be_shut}
-use Rattle.record_file.specs.Course.{is_done, was_made, renamed}
+use Rattle.std.proofs.Common.{◌≡◌, ℕ, ◌+◌, ◌<◌, ◌≤◌, ◌⊎◌, inl, inr, ◌∙◌, sym, ap, subst, refl, List, [], ◌∷◌, ◌++◌, length, append_assoc, Bool, true, false, Option, Some, None, Result, Ok, Err}
+use Rattle.record_file.specs.Beginning.{new_name, Course, NotReplaced, GivenUp, Replaced, course, IsBeside, Whole, Unsynced, NotRenamed, Stopped, IsFileCut, CutAndSynced, NotCut, IsLetGo, Goes, LeadsElsewhere, Stays, StaysBehindLink, IsMadeReady, ReadyDevice, ReadyFile, IsAllWritten, IsWrittenOver, Device as OverDevice, PlainFile as OverFile, IsPlaceSynced, FolderOpened, FolderShut}
+use Rattle.record_file.specs.Course.{renamed, was_made}
 use Rattle.host_devices.proofs.Told.{tells_join}
 use Rattle.host_devices.specs.Told.{HasAsked, Tells}
-use Rattle.record_file.specs.DiskStep.{DiskStep, LedTo, Look, LookAtName, FindSoleFile, Open, Hold, Rename, Remove, SyncFolder, Cut, SyncFile, Did, Failed, step_by, answered, IsNameSeen, Seen, Unseen, IsLookAtName, SeenThere, UnseenThere}
+use Rattle.record_file.specs.DiskStep.{DiskStep, DiskRequest, LedTo, Look, LookAtName, FindSoleFile, Open, Hold, Link, Rename, Remove, SyncFolder, Cut, SyncFile, Did, Failed, step_by, answered, IsNameSeen, Seen, Unseen, IsLookAtName, SeenThere, UnseenThere, AreAside, HasFailed, LeaveAllBut, held_behind}
 use Rattle.record_file.specs.Folder.{IsFolderOf}
 use Rattle.record_file.specs.Holding.{hold_steps, IsHeld, PlainFile, Device, Unknown, InUse, Moved as HeldMoved, DeviceMoved, IsFound, IsMade, Linked, Appeared, LeadsNowhere, IsOpened, Found, Strange, IsTry, Taken as TakenIn, NotHeld, AreVain, OneMore, IsHeldAtLast, IsNotHeld}
 use Rattle.record_file.specs.declared.disk.Access.TheVariants.{ReadOnly, New, Created}
@@ -12,7 +12,7 @@ use Rattle.load_record.specs.Keeper.{Lasts}
 use Rattle.std.specs.Bool.{then_some}
 use Rattle.std.specs.Io.KnownBytes.{Appends}
 use Rattle.std.specs.Prelude.{IfSome, OnSome}
-use Rattle.std.specs.Result.{IsErr, IfOk, IfErr}
+use Rattle.std.specs.Result.{IsErr, IfOk, IfErr, OnOk}
 use Rattle.record_file.specs.Taking.{made_of, tried, device_of, IsMadeSo, OnHeld}
 use Rattle.record_file.specs.declared.held_file.HeldFile.{HeldFile}
 use Rattle.record_file.specs.declared.held_file.OpenTry.{OpenTry}
@@ -50,24 +50,122 @@ moved name true (Err error) = DeviceMoved false
 moved name false (Ok value) = HeldMoved true
 moved name false (Err error) = HeldMoved false
 
-pub left : (new : List ℕ) (held : Bool) → IsLeftover new held (Did (LookAtName new) ∷ Did (Open ReadOnly new) ∷ step_by (Hold new) held ∷ [])
-left new true = Left
-left new false = Taken
+-- ---- steps that leave each file but one as it is
 
-pub strange_new : {A E : Type 0} (new : List ℕ) (look : Result A E) → IsLeftover new false (answered (LookAtName new) look ∷ [])
-strange_new new (Ok value) = StrangeNew true
-strange_new new (Err error) = StrangeNew false
+pub both_but : (own : List ℕ) (held : Bool) (xs ys : List DiskStep) → LeaveAllBut own held xs → LeaveAllBut own (held_behind held xs) ys → LeaveAllBut own held (xs ++ ys)
+both_but own held [] ys first then = then
+both_but own held (Did (Open New n) ∷ xs) ys first then = (first.0, both_but own false xs ys first.1 then)
+both_but own held (Did (Open Created n) ∷ xs) ys first then = absurd first
+both_but own held (Did (Open access n) ∷ xs) ys first then = both_but own false xs ys first then
+both_but own held (Did (Hold n) ∷ xs) ys first then = (first.0, both_but own true xs ys first.1 then)
+both_but own held (Did (Link from to) ∷ xs) ys first then = absurd first
+both_but own held (Did (Rename from to left) ∷ xs) ys first then = absurd first
+both_but own held (Did (Remove n) ∷ xs) ys first then = (first.0, first.1, both_but own false xs ys first.2 then)
+both_but own held (Did (Cut wrote n) ∷ xs) ys first then = absurd first
+both_but own held (Failed (Remove n) ∷ xs) ys first then = both_but own false xs ys first then
+both_but own held (x ∷ xs) ys first then = both_but own held xs ys first then
 
-pub fresh : {A E : Type 0} (new : List ℕ) (making : Result A E) → IsMaking new (is_done making) (answered (Open New new) making ∷ [])
-fresh new (Ok file) = Fresh true
-fresh new (Err error) = Fresh false
+held_join : (held : Bool) (xs ys : List DiskStep) → held_behind held (xs ++ ys) ≡ held_behind (held_behind held xs) ys
+held_join held [] ys = refl
+held_join held (Did (Open access n) ∷ xs) ys = held_join false xs ys
+held_join held (Did (Hold n) ∷ xs) ys = held_join true xs ys
+held_join held (Did (Remove n) ∷ xs) ys = held_join false xs ys
+held_join held (Failed (Remove n) ∷ xs) ys = held_join false xs ys
+held_join held (x ∷ xs) ys = held_join held xs ys
 
-pub again : {A B E F : Type 0} (new : List ℕ) (removal : Result A E) (making : Result B F) (steps : List DiskStep) → IsLeftover new true steps
-    → IsMaking new (is_done making) (Failed (Open New new) ∷ (steps ++ answered (Remove new) removal ∷ answered (Open New new) making ∷ []))
-again new (Ok u) (Ok file) steps l = Again steps true true l
-again new (Ok u) (Err error) steps l = Again steps true false l
-again new (Err e) (Ok file) steps l = Again steps false true l
-again new (Err e) (Err error) steps l = Again steps false false l
+-- what is held behind steps is held behind them whatever was held before
+held_more : (held : Bool) (xs : List DiskStep) → held_behind false xs ≡ true → held_behind held xs ≡ true
+held_more held [] is = absurd (cc is)
+held_more held (Did (Open access n) ∷ xs) is = is
+held_more held (Did (Hold n) ∷ xs) is = is
+held_more held (Did (Remove n) ∷ xs) is = is
+held_more held (Failed (Remove n) ∷ xs) is = is
+held_more held (x ∷ xs) is = held_more held xs is
+
+pub both_aside : (own : List ℕ) (two : Bool) (xs ys : List DiskStep) → AreAside own false xs → AreAside own two ys → AreAside own two (xs ++ ys)
+both_aside own two xs ys p q =
+    ((λ held. both_but own held xs ys (p.0 held) (q.0 (held_behind held xs))), held_join false xs ys ∙ ap (λ held. held_behind held ys) p.1 ∙ q.1)
+
+-- behind a file that is held
+abbrev pub GoesHeld : List ℕ → List DiskStep → Type 0
+GoesHeld own steps = LeaveAllBut own true steps × (held_behind true steps ≡ false)
+
+pub held_but : (own : List ℕ) (xs ys : List DiskStep) → LeaveAllBut own false xs × (held_behind false xs ≡ true) → GoesHeld own ys
+    → LeaveAllBut own false (xs ++ ys) × (held_behind false (xs ++ ys) ≡ false)
+held_but own xs ys p q =
+    (both_but own false xs ys p.0 (subst (λ h. LeaveAllBut own h ys) (sym p.1) q.0), held_join false xs ys ∙ ap (λ held. held_behind held ys) p.1 ∙ q.1)
+
+pub failed_behind : (xs ys : List DiskStep) → HasFailed ys → HasFailed (xs ++ ys)
+failed_behind [] ys f = f
+failed_behind (Failed request ∷ xs) ys f = tt
+failed_behind (Did request ∷ xs) ys f = failed_behind xs ys f
+failed_behind (LedTo name target ∷ xs) ys f = failed_behind xs ys f
+
+pub but_join : (own : List ℕ) (two : Bool) (a b c : Option (List DiskStep)) → HasAsked a b (AreAside own false) → HasAsked b c (AreAside own two) → HasAsked a c (AreAside own two)
+but_join own two a b c p q = (p.0 ++ q.0, tells_join a b c p.0 q.0 p.1 q.1, both_aside own two p.0 q.0 p.2 q.2)
+
+-- before the new file is made
+pub aside_first : (own name folder : List ℕ) (a b c : Option (List DiskStep)) → Tells a b (Did (FindSoleFile name) ∷ []) → Tells b c (Did (Open ReadOnly folder) ∷ [])
+    → HasAsked a c (AreAside own false)
+aside_first own name folder a b c s t =
+    (Did (FindSoleFile name) ∷ Did (Open ReadOnly folder) ∷ [], tells_join a b c (Did (FindSoleFile name) ∷ []) (Did (Open ReadOnly folder) ∷ []) s t, ((λ held. tt), refl))
+
+pub at_folder : (own folder : List ℕ) (b c : Option (List DiskStep)) → Tells b c (Did (Open ReadOnly folder) ∷ []) → HasAsked b c (AreAside own false)
+at_folder own folder b c t = (Did (Open ReadOnly folder) ∷ [], t, ((λ held. tt), refl))
+
+-- the same, where something failed in the second part
+pub failed_join : (own : List ℕ) (a b c : Option (List DiskStep)) → HasAsked a b (AreAside own false) → HasAsked b c (λ steps. AreAside own false steps × HasFailed steps)
+    → HasAsked a c (λ steps. AreAside own false steps × HasFailed steps)
+failed_join own a b c p q = (p.0 ++ q.0, tells_join a b c p.0 q.0 p.1 q.1, (both_aside own false p.0 q.0 p.2 q.2.0, failed_behind p.0 q.0 q.2.1))
+
+pub left : (new : List ℕ) (held : Bool) → AreAside new held (Did (LookAtName new) ∷ Did (Open ReadOnly new) ∷ step_by (Hold new) held ∷ [])
+left new true = ((λ was. (refl, tt)), refl)
+left new false = ((λ was. tt), refl)
+
+pub looked_at : {A E : Type 0} (own name : List ℕ) (look : Result A E) → AreAside own false (answered (LookAtName name) look ∷ [])
+looked_at own name (Ok value) = ((λ held. tt), refl)
+looked_at own name (Err error) = ((λ held. tt), refl)
+
+pub fresh : {A E : Type 0} (own : List ℕ) (making : Result A E) → AreAside own false (answered (Open New own) making ∷ [])
+fresh own (Ok file) = ((λ held. (refl, tt)), refl)
+fresh own (Err error) = ((λ held. tt), refl)
+
+again_so : {A B E F : Type 0} (own : List ℕ) (removal : Result A E) (making : Result B F) → GoesHeld own (answered (Remove own) removal ∷ answered (Open New own) making ∷ [])
+again_so own (Ok u) (Ok file) = ((refl, refl, (refl, tt)), refl)
+again_so own (Ok u) (Err error) = ((refl, refl, tt), refl)
+again_so own (Err e) (Ok file) = ((refl, tt), refl)
+again_so own (Err e) (Err error) = (tt, refl)
+
+-- a file that was left goes, and another is made: whatever was held before
+pub again : {A B E F : Type 0} (own : List ℕ) (removal : Result A E) (making : Result B F) (a b c : Option (List DiskStep)) → HasAsked a b (AreAside own true)
+    → Tells b c (answered (Remove own) removal ∷ answered (Open New own) making ∷ []) → HasAsked a c (AreAside own false)
+again own removal making a b c p t = (
+  p.0 ++ (answered (Remove own) removal ∷ answered (Open New own) making ∷ []),
+  tells_join a b c p.0 (answered (Remove own) removal ∷ answered (Open New own) making ∷ []) p.1 t,
+  (
+    (λ held. both_but own held p.0 _ (p.2.0 held) (subst (λ h. LeaveAllBut own h (answered (Remove own) removal ∷ answered (Open New own) making ∷ [])) (sym (held_more held p.0 p.2.1)) (again_so own removal making).0)),
+    held_join false p.0 _ ∙ ap (λ h. held_behind h (answered (Remove own) removal ∷ answered (Open New own) making ∷ [])) p.2.1 ∙ (again_so own removal making).1,
+  ),
+)
+
+pub goes_again : {A E : Type 0} (own name : List ℕ) (removal : Result A E) → own ≡ name → GoesHeld name (answered (Remove own) removal ∷ [])
+goes_again own name (Ok u) is = ((is, refl, tt), refl)
+goes_again own name (Err e) is = (tt, refl)
+
+pub then_held : (own : List ℕ) → AreAside own true (Did (Hold own) ∷ [])
+then_held own = ((λ held. (refl, tt)), refl)
+
+pub not_held_then : (own : List ℕ) → AreAside own false (Failed (Hold own) ∷ [])
+not_held_then own = ((λ held. tt), refl)
+
+seen_but : (own name : List ℕ) (found : Bool) (steps : List DiskStep) → IsNameSeen name found steps → AreAside own false steps
+seen_but own name found steps Seen = ((λ held. tt), refl)
+seen_but own name found steps (Unseen true) = ((λ held. tt), refl)
+seen_but own name found steps (Unseen false) = ((λ held. tt), refl)
+
+place_but : (own name : List ℕ) (made : Made) (steps : List DiskStep) → IsPlaceSynced name made steps → AreAside own false steps
+place_but own name made steps (FolderOpened target folder f) = ((λ held. tt), refl)
+place_but own name made steps (FolderShut target folder f was) = ((λ held. tt), refl)
 
 pub goes : {A E : Type 0} (name : List ℕ) (made : Made) (removal : Result A E) (steps : List DiskStep) → made ≡ Here → IsNameSeen name true steps
     → IsLetGo name made (steps ++ answered (Remove name) removal ∷ [])
@@ -95,42 +193,43 @@ left_as None None left text step h t = (None, tt, tt)
 left_as None (Some x) left text step h t = absurd t
 left_as (Some x) b left text step h t = (left, h, t)
 
-pub whole : (name new folder text : List ℕ) (made : Made) (left : Option (List ℕ)) (steps : List DiskStep) (a b c d : Option (List DiskStep))
-    → OnSome a (Lasts left (Some text)) → Tells a b steps → Tells b c (Did (Rename new name left) ∷ []) → Tells c d (Did (SyncFolder folder) ∷ [])
-    → IsNameSeen name true steps → HasAsked a d (IsRenaming (new_record name new folder text) made Replaced Before)
-whole name new folder text made left steps a b c d h t r s Seen =
-    let l = left_as b c left text (λ left'. Did (Rename new name left')) (still (Lasts left (Some text)) a b (Did (Look name) ∷ []) t h) r in (
-      Did (Look name) ∷ Did (Rename new name l.0) ∷ Did (SyncFolder folder) ∷ [],
-      tells_join a b d (Did (Look name) ∷ []) (Did (Rename new name l.0) ∷ Did (SyncFolder folder) ∷ []) t
-          (tells_join b c d (Did (Rename new name l.0) ∷ []) (Did (SyncFolder folder) ∷ []) l.2 s),
-      Whole l.0 l.1,
+pub whole : (name new folder text : List ℕ) (before : List DiskStep) (made : Made) (left : Option (List ℕ)) (steps : List DiskStep) (a b c d : Option (List DiskStep)) → IsFolderOf name folder
+    → new ≡ new_name name → AreAside (new_name name) true before → OnSome a (Lasts left (Some text)) → Tells a b steps → Tells b c (Did (Rename new name left) ∷ [])
+    → Tells c d (Did (SyncFolder folder) ∷ []) → IsNameSeen name true steps → HasAsked a d (λ list. IsBeside name text made Replaced Before (Did (FindSoleFile name) ∷ (before ++ list)))
+whole name new folder text before made left steps a b c d f is aside h t r s Seen =
+    let l = left_as b c left text (λ left'. Did (Rename (new_name name) name left')) (still (Lasts left (Some text)) a b (Did (Look name) ∷ []) t h)
+    (subst (λ n. Tells b c (Did (Rename n name left) ∷ [])) is r) in (
+      Did (Look name) ∷ Did (Rename (new_name name) name l.0) ∷ Did (SyncFolder folder) ∷ [],
+      tells_join a b d (Did (Look name) ∷ []) (Did (Rename (new_name name) name l.0) ∷ Did (SyncFolder folder) ∷ []) t
+          (tells_join b c d (Did (Rename (new_name name) name l.0) ∷ []) (Did (SyncFolder folder) ∷ []) l.2 s),
+      Whole before l.0 folder (aside.0 false, aside.1, l.1) f,
     )
 
-pub unsynced : (name new folder text : List ℕ) (made : Made) (left : Option (List ℕ)) (steps : List DiskStep) (a b c d : Option (List DiskStep))
-    → OnSome a (Lasts left (Some text)) → Tells a b steps → Tells b c (Did (Rename new name left) ∷ []) → Tells c d (Failed (SyncFolder folder) ∷ [])
-    → IsNameSeen name true steps → HasAsked a d (IsRenaming (new_record name new folder text) made GivenUp Before)
-unsynced name new folder text made left steps a b c d h t r s Seen =
-    let l = left_as b c left text (λ left'. Did (Rename new name left')) (still (Lasts left (Some text)) a b (Did (Look name) ∷ []) t h) r in (
-      Did (Look name) ∷ Did (Rename new name l.0) ∷ Failed (SyncFolder folder) ∷ [],
-      tells_join a b d (Did (Look name) ∷ []) (Did (Rename new name l.0) ∷ Failed (SyncFolder folder) ∷ []) t
-          (tells_join b c d (Did (Rename new name l.0) ∷ []) (Failed (SyncFolder folder) ∷ []) l.2 s),
-      Unsynced l.0 l.1,
+pub unsynced : (name new folder text : List ℕ) (before : List DiskStep) (made : Made) (left : Option (List ℕ)) (steps : List DiskStep) (a b c d : Option (List DiskStep)) → new ≡ new_name name
+    → AreAside (new_name name) true before → OnSome a (Lasts left (Some text)) → Tells a b steps → Tells b c (Did (Rename new name left) ∷ [])
+    → Tells c d (Failed (SyncFolder folder) ∷ []) → IsNameSeen name true steps → HasAsked a d (λ list. IsBeside name text made GivenUp Before (Did (FindSoleFile name) ∷ (before ++ list)))
+unsynced name new folder text before made left steps a b c d is aside h t r s Seen =
+    let l = left_as b c left text (λ left'. Did (Rename (new_name name) name left')) (still (Lasts left (Some text)) a b (Did (Look name) ∷ []) t h)
+    (subst (λ n. Tells b c (Did (Rename n name left) ∷ [])) is r) in (
+      Did (Look name) ∷ Did (Rename (new_name name) name l.0) ∷ Failed (SyncFolder folder) ∷ [],
+      tells_join a b d (Did (Look name) ∷ []) (Did (Rename (new_name name) name l.0) ∷ Failed (SyncFolder folder) ∷ []) t
+          (tells_join b c d (Did (Rename (new_name name) name l.0) ∷ []) (Failed (SyncFolder folder) ∷ []) l.2 s),
+      Unsynced before l.0 folder (aside.0 false, aside.1, l.1),
     )
 
-pub not_renamed : {A E : Type 0} (name new folder text : List ℕ) (made : Made) (left : Option (List ℕ)) (removal : Result A E) (steps : List DiskStep) → IsNameSeen name true steps
-    → IsRenaming (new_record name new folder text) made NotReplaced made (steps ++ Failed (Rename new name left) ∷ answered (Remove new) removal ∷ [])
-not_renamed name new folder text made left (Ok u) steps Seen = NotRenamed left true
-not_renamed name new folder text made left (Err e) steps Seen = NotRenamed left false
+pub not_renamed : {A E : Type 0} (name new text : List ℕ) (before : List DiskStep) (made : Made) (left : Option (List ℕ)) (removal : Result A E) (steps : List DiskStep)
+    → new ≡ new_name name → AreAside (new_name name) true before → IsNameSeen name true steps
+    → IsBeside name text made NotReplaced made (Did (FindSoleFile name) ∷ (before ++ (steps ++ Failed (Rename new name left) ∷ answered (Remove new) removal ∷ [])))
+not_renamed name new text before made left removal steps is aside Seen =
+    NotRenamed _ (held_but (new_name name) before _ (aside.0 false, aside.1) (goes_again new (new_name name) removal is)) (failed_behind before _ tt)
 
-pub moved_away : {A E : Type 0} (name new folder text : List ℕ) (made : Made) (removal : Result A E) (steps : List DiskStep) → IsNameSeen name false steps
-    → IsRenaming (new_record name new folder text) made GivenUp made (steps ++ answered (Remove new) removal ∷ [])
-moved_away name new folder text made (Ok u) steps (Unseen found) = Moved found true
-moved_away name new folder text made (Err e) steps (Unseen found) = Moved found false
-
-not_written : {A E : Type 0} (name folder text : List ℕ) (made : Made) (removal : Result A E) (steps : List DiskStep) → IsMakingHeld (new_name name) true steps
-    → IsWriting name folder text made GivenUp made (steps ++ answered (Remove (new_name name)) removal ∷ [])
-not_written name folder text made (Ok u) steps h = NotWritten steps true h
-not_written name folder text made (Err e) steps h = NotWritten steps false h
+pub moved_away : {A E : Type 0} (name new text : List ℕ) (before : List DiskStep) (made : Made) (removal : Result A E) (steps : List DiskStep) → new ≡ new_name name
+    → AreAside (new_name name) true before → IsNameSeen name false steps
+    → IsBeside name text made GivenUp made (Did (FindSoleFile name) ∷ (before ++ (steps ++ answered (Remove new) removal ∷ [])))
+moved_away name new text before made removal steps is aside (Unseen true) =
+    Stopped _ (held_but (new_name name) before _ (aside.0 false, aside.1) (goes_again new (new_name name) removal is))
+moved_away name new text before made removal steps is aside (Unseen false) =
+    Stopped _ (held_but (new_name name) before _ (aside.0 false, aside.1) (goes_again new (new_name name) removal is))
 
 -- a text that was written to a new file, and lasts there, is what the file has on the disk
 pub on_disk : (a : Option (List DiskStep)) (fresh wrote left : Option (List ℕ)) (text : List ℕ) → OnSome a (fresh ≡ Some []) → Appends fresh wrote text
@@ -210,58 +309,58 @@ pub out_of_reach : (name : List ℕ) (device : Bool) → device ≡ false → Is
 out_of_reach name device is = subst (λ d. IsWayFound name d InPlace (Failed (FindSoleFile name) ∷ [])) (sym is) OutOfReach
 
 -- ---- where the file stands
-pub folder_shut : (name place target folder : List ℕ) (made : Made) (done : Bool) → place ≡ target → done ≡ may_be_shut made → IsFolderOf place folder
-    → IsPlaceSynced name made done (LedTo name target ∷ Failed (Open ReadOnly folder) ∷ [])
-folder_shut name place target folder made done same is f =
-    subst (λ d. IsPlaceSynced name made d (LedTo name target ∷ Failed (Open ReadOnly folder) ∷ [])) (sym is)
-    (FolderShut target folder (subst (λ p. IsFolderOf p folder) same f))
+pub folder_shut : {A E : Type 0} (name place target folder : List ℕ) (made : Made) (a b : Option (List DiskStep)) (done : Result A E) → place ≡ target → OnOk done (made ≡ Before)
+    → IsFolderOf place folder → Tells a b (LedTo name target ∷ Failed (Open ReadOnly folder) ∷ []) → OnOk done (HasAsked a b (IsPlaceSynced name made))
+folder_shut name place target folder made a b (Ok value) same is f t = (_, t, FolderShut target folder (subst (λ p. IsFolderOf p folder) same f) is)
+folder_shut name place target folder made a b (Err fault) same is f t = tt
 
 -- of a file that is known to be the same kind as before
-pub same_place : (name : List ℕ) (before after : Made × Bool) (synced : Bool) (a b : Option (List DiskStep)) → after ≡ before
-    → HasAsked a b (IsPlaceSynced name after.0 synced) → HasAsked a b (IsPlaceSynced name before.0 synced)
-same_place name before after synced a b is h = subst (λ kind. HasAsked a b (IsPlaceSynced name kind.0 synced)) is h
+pub same_place : (name : List ℕ) (before after : Made × Bool) (a b : Option (List DiskStep)) → after ≡ before
+    → HasAsked a b (IsPlaceSynced name after.0) → HasAsked a b (IsPlaceSynced name before.0)
+same_place name before after a b is h = subst (λ kind. HasAsked a b (IsPlaceSynced name kind.0)) is h
 
 -- ---- what came of a part
 
-pub beside_at_folder : (name folder text : List ℕ) (made : Made) (way : Course) (after : Made) (a b c d : Option (List DiskStep)) → IsFolderOf name folder
-    → Tells a b (Did (FindSoleFile name) ∷ []) → Tells b c (Did (Open ReadOnly folder) ∷ []) → HasAsked c d (IsWriting name folder text made way after)
+-- the steps before it, and those of the renaming
+pub beside_behind : (name text : List ℕ) (made : Made) (way : Course) (after : Made) (a b c d : Option (List DiskStep)) → Tells a b (Did (FindSoleFile name) ∷ [])
+    → (first : HasAsked b c (AreAside (new_name name) true)) → HasAsked c d (λ steps. IsBeside name text made way after (Did (FindSoleFile name) ∷ (first.0 ++ steps)))
     → HasAsked a d (IsBeside name text made way after)
-beside_at_folder name folder text made way after a b c d f h o w = (
-  Did (FindSoleFile name) ∷ Did (Open ReadOnly folder) ∷ w.0,
-  tells_join a b d (Did (FindSoleFile name) ∷ []) (Did (Open ReadOnly folder) ∷ w.0) h (tells_join b c d (Did (Open ReadOnly folder) ∷ []) w.0 o w.1),
-  AtFolder folder way after w.0 f w.2,
+beside_behind name text made way after a b c d s p q = (
+  Did (FindSoleFile name) ∷ (p.0 ++ q.0),
+  tells_join a b d (Did (FindSoleFile name) ∷ []) (p.0 ++ q.0) s (tells_join b c d p.0 q.0 p.1 q.1),
+  q.2,
 )
 
-pub not_held_new : (name new folder text : List ℕ) (made : Made) (a b : Option (List DiskStep)) → new ≡ new_name name → HasAsked a b (IsMakingHeld new false)
-    → HasAsked a b (IsWriting name folder text made NotReplaced made)
-not_held_new name new folder text made a b is m = (m.0, m.1, NotHeldNew m.0 (subst (λ n. IsMakingHeld n false m.0) is m.2))
+pub not_renamed_for : (name new text : List ℕ) (made : Made) (a b : Option (List DiskStep)) → new ≡ new_name name
+    → HasAsked a b (λ steps. AreAside new false steps × HasFailed steps) → HasAsked a b (IsBeside name text made NotReplaced made)
+not_renamed_for name new text made a b is h = (h.0, h.1, NotRenamed h.0 (subst (λ n. LeaveAllBut n false h.0) is (h.2.0.0 false), h.2.0.1) h.2.1)
 
-pub no_room : (name new folder text : List ℕ) (made : Made) (a b : Option (List DiskStep)) → new ≡ new_name name → HasAsked a b (IsMakingHeld new false)
-    → HasAsked a b (IsWriting name folder text made GivenUp made)
-no_room name new folder text made a b is m = (m.0, m.1, NoRoom m.0 (subst (λ n. IsMakingHeld n false m.0) is m.2))
+pub stopped : (name new text : List ℕ) (made : Made) (a b : Option (List DiskStep)) → new ≡ new_name name → HasAsked a b (AreAside new false)
+    → HasAsked a b (IsBeside name text made GivenUp made)
+stopped name new text made a b is h = (h.0, h.1, Stopped h.0 (subst (λ n. LeaveAllBut n false h.0) is (h.2.0 false), h.2.1))
 
-pub unwritten : {A E : Type 0} (name new folder text : List ℕ) (made : Made) (a b c : Option (List DiskStep)) (removal : Result A E) → new ≡ new_name name
-    → HasAsked a b (IsMakingHeld new true) → Tells b c (answered (Remove new) removal ∷ []) → HasAsked a c (IsWriting name folder text made GivenUp made)
-unwritten name new folder text made a b c removal is m r = (
-  m.0 ++ answered (Remove (new_name name)) removal ∷ [],
-  tells_join a b c m.0 (answered (Remove (new_name name)) removal ∷ []) m.1
-      (subst (λ n. Tells b c (answered (Remove n) removal ∷ [])) is r),
-  not_written name folder text made removal m.0 (subst (λ n. IsMakingHeld n true m.0) is m.2),
-)
+-- what was written is taken away again
+pub taken_back : {A E : Type 0} (own : List ℕ) (removal : Result A E) (a b c d : Option (List DiskStep)) → HasAsked a b (AreAside own false) → HasAsked b c (AreAside own true)
+    → Tells c d (answered (Remove own) removal ∷ []) → (steps : List DiskStep) × Tells a d steps × LeaveAllBut own false steps × (held_behind false steps ≡ false)
+taken_back own removal a b c d p q t = let both = both_aside own true p.0 q.0 p.2 q.2 in
+    let all = held_but own (p.0 ++ q.0) (answered (Remove own) removal ∷ []) (both.0 false, both.1) (goes_again own own removal refl) in (
+      (p.0 ++ q.0) ++ answered (Remove own) removal ∷ [],
+      tells_join a c d (p.0 ++ q.0) (answered (Remove own) removal ∷ []) (tells_join a b c p.0 q.0 p.1 q.1) t,
+      all.0,
+      all.1,
+    )
 
-pub written : (name new folder text : List ℕ) (made : Made) (way : Course) (after : Made) (a b c : Option (List DiskStep)) → new ≡ new_name name
-    → HasAsked a b (IsMakingHeld new true) → HasAsked b c (IsRenaming (new_record name new folder text) made way after) → HasAsked a c (IsWriting name folder text made way after)
-written name new folder text made way after a b c is m r =
-    (m.0 ++ r.0, tells_join a b c m.0 r.0 m.1 r.1, Written way after m.0 r.0 (subst (λ n. IsMakingHeld n true m.0) is m.2) (subst (λ n. IsRenaming (new_record name n folder text) made way after r.0) is r.2))
+pub stopped_back : (name new text : List ℕ) (made : Made) (a d : Option (List DiskStep)) → new ≡ new_name name
+    → (steps : List DiskStep) × Tells a d steps × LeaveAllBut new false steps × (held_behind false steps ≡ false) → HasAsked a d (IsBeside name text made GivenUp made)
+stopped_back name new text made a d is h = (h.0, h.1, Stopped h.0 (subst (λ n. LeaveAllBut n false h.0) is h.2, h.3))
+
+pub but_new : (name new : List ℕ) (holds : Bool) (a b : Option (List DiskStep)) → new ≡ new_name name → HasAsked a b (AreAside new holds) → HasAsked a b (AreAside (new_name name) holds)
+but_new name new holds a b is h = (h.0, h.1, subst (λ n. AreAside n holds h.0) is h.2)
 
 -- what a new file was asked, where it is known what came of it
-pub held_none : {A : Type 0} (new : List ℕ) (a b : Option (List DiskStep)) (kept : Option A) → kept ≡ None → HasAsked a b (IsMakingHeld new (was_made {E = RecordFault} (Ok kept)))
-    → HasAsked a b (IsMakingHeld new false)
-held_none new a b kept is h = subst (λ k. HasAsked a b (IsMakingHeld new (was_made {E = RecordFault} (Ok k)))) is h
-
-pub held_some : {A : Type 0} (new : List ℕ) (a b : Option (List DiskStep)) (kept : Option A) (file : A) → kept ≡ Some file
-    → HasAsked a b (IsMakingHeld new (was_made {E = RecordFault} (Ok kept))) → HasAsked a b (IsMakingHeld new true)
-held_some new a b kept file is h = subst (λ k. HasAsked a b (IsMakingHeld new (was_made {E = RecordFault} (Ok k)))) is h
+pub made_some : {A : Type 0} (new : List ℕ) (a b : Option (List DiskStep)) (kept : Option A) (file : A) → kept ≡ Some file
+    → HasAsked a b (AreAside new (was_made {E = RecordFault} (Ok kept))) → HasAsked a b (AreAside new true)
+made_some new a b kept file is h = subst (λ k. HasAsked a b (AreAside new (was_made {E = RecordFault} (Ok k)))) is h
 
 pub beside_failed : {A E : Type 0} (name text : List ℕ) (made after : Made) (a b : Option (List DiskStep)) (result : Result (Option A) E) → IsErr result
     → HasAsked a b (IsBeside name text made GivenUp after) → HasAsked a b (IsBeside name text made (course result) after)
@@ -279,22 +378,19 @@ beside_kept name text made after a b kept false keeper is h = subst (λ k. HasAs
 pub ready_device : (name : List ℕ) (made : Made) (device : Bool) → device ≡ true → IsMadeReady name made device []
 ready_device name made device is = subst (λ d. IsMadeReady name made d []) (sym is) ReadyDevice
 
-looked : (name : List ℕ) (made : Made) (steps look : List DiskStep) → IsPlaceSynced name made true steps → IsNameSeen name true look
+looked : (name : List ℕ) (made : Made) (steps look : List DiskStep) → IsPlaceSynced name made steps → IsNameSeen name true look
     → IsMadeReady name made false (steps ++ look)
 looked name made steps look s Seen = ReadyFile steps s
 
 pub ready_file : (name : List ℕ) (made : Made) (device : Bool) (a b c : Option (List DiskStep)) → device ≡ false
-    → HasAsked a b (IsPlaceSynced name made true) → HasAsked b c (IsNameSeen name true) → HasAsked a c (IsMadeReady name made device)
+    → HasAsked a b (IsPlaceSynced name made) → HasAsked b c (IsNameSeen name true) → HasAsked a c (IsMadeReady name made device)
 ready_file name made device a b c is h l =
     (h.0 ++ l.0, tells_join a b c h.0 l.0 h.1 l.1, subst (λ d. IsMadeReady name made d (h.0 ++ l.0)) (sym is) (looked name made h.0 l.0 h.2 l.2))
 
-looked_in_vain : (name : List ℕ) (made : Made) (steps look : List DiskStep) → IsPlaceSynced name made true steps → IsNameSeen name false look
-    → IsUnready name made (steps ++ look)
-looked_in_vain name made steps look s (Unseen found) = MovedAway found steps s
-
-pub unready_file : (name : List ℕ) (made : Made) (a b c : Option (List DiskStep)) → HasAsked a b (IsPlaceSynced name made true)
-    → HasAsked b c (IsNameSeen name false) → HasAsked a c (IsUnready name made)
-unready_file name made a b c h l = (h.0 ++ l.0, tells_join a b c h.0 l.0 h.1 l.1, looked_in_vain name made h.0 l.0 h.2 l.2)
+pub unready_file : (own name : List ℕ) (made : Made) (a b c : Option (List DiskStep)) → HasAsked a b (IsPlaceSynced name made)
+    → HasAsked b c (IsNameSeen name false) → HasAsked a c (AreAside own false)
+unready_file own name made a b c h l =
+    (h.0 ++ l.0, tells_join a b c h.0 l.0 h.1 l.1, both_aside own false h.0 l.0 (place_but own name made h.0 h.2) (seen_but own name false l.0 l.2))
 
 pub not_cut : (before wrote : Option (List ℕ)) (text : List ℕ) (size : ℕ) (a b : Option (List DiskStep)) → IsAllWritten before text wrote → size ≡ length text
     → Tells a b (Failed (Cut wrote size) ∷ []) → HasAsked a b (IsFileCut before text false)

@@ -1,9 +1,10 @@
 -- What is asked of a system of files for a record, and for the tape of a save.
-use Rattle.std.specs.Prelude.{ℕ, List, [], ◌∷◌, Bool, true, false, Option, Result, Ok, Err}
+use Rattle.std.specs.Prelude.{◌≡◌, ℕ, List, [], ◌∷◌, Bool, true, false, Option, Result, Ok, Err, ⊤}
 use Rattle.std.specs.Io.KnownBytes.{Keeps}
 use Rattle.std.specs.Path.{path_buf_bytes}
 use Rattle.std.specs.declared.path.buf.PathBuf.{PathBuf}
 use Rattle.record_file.specs.declared.disk.Access.{Access}
+use Rattle.record_file.specs.declared.disk.Access.TheVariants.{New, Created}
 
 -- what a name leads to is looked at, or what stands under it, or whether that is a plain file without another name, or an open file of which
 -- this much was written, or which name it leads to; a file is opened or made; it is held by this program alone, or given a second name, or
@@ -54,6 +55,40 @@ pub data IsNameSeen (name : List ℕ) : Bool → List DiskStep → Type 0 where
 pub data IsLookAtName (name : List ℕ) : Bool → List DiskStep → Type 0 where
   SeenThere : IsLookAtName name true (Did (LookAtName name) ∷ [])
   UnseenThere : (found : Bool) → IsLookAtName name false (step_by (LookAtName name) found ∷ [])
+
+-- whether the file that was opened last is held, and nobody tried to take it away
+abbrev pub held_behind : Bool → List DiskStep → Bool
+held_behind held [] = held
+held_behind held (Did (Open access name) ∷ more) = held_behind false more
+held_behind held (Did (Hold name) ∷ more) = held_behind true more
+held_behind held (Did (Remove name) ∷ more) = held_behind false more
+held_behind held (Failed (Remove name) ∷ more) = held_behind false more
+held_behind held (step ∷ more) = held_behind held more
+
+-- steps leave each file as it is but one of this name, which is made, held, and taken away only where nobody else holds it
+abbrev pub LeaveAllBut : List ℕ → Bool → List DiskStep → Type 0
+LeaveAllBut own held [] = ⊤
+LeaveAllBut own held (Did (Open New name) ∷ more) = (name ≡ own) × LeaveAllBut own false more
+LeaveAllBut own held (Did (Open Created name) ∷ more) = ⊥
+LeaveAllBut own held (Did (Open access name) ∷ more) = LeaveAllBut own false more
+LeaveAllBut own held (Did (Hold name) ∷ more) = (name ≡ own) × LeaveAllBut own true more
+LeaveAllBut own held (Did (Link from to) ∷ more) = ⊥
+LeaveAllBut own held (Did (Rename from to left) ∷ more) = ⊥
+LeaveAllBut own held (Did (Remove name) ∷ more) = (name ≡ own) × (held ≡ true) × LeaveAllBut own false more
+LeaveAllBut own held (Did (Cut written length) ∷ more) = ⊥
+LeaveAllBut own held (Failed (Remove name) ∷ more) = LeaveAllBut own false more
+LeaveAllBut own held (step ∷ more) = LeaveAllBut own held more
+
+-- so do these, whatever was held before; and behind them that file is held, or not
+abbrev pub AreAside : List ℕ → Bool → List DiskStep → Type 0
+AreAside own holds steps = ((held : Bool) → LeaveAllBut own held steps) × (held_behind false steps ≡ holds)
+
+-- something that was asked failed
+abbrev pub HasFailed : List DiskStep → Type 0
+HasFailed [] = ⊥
+HasFailed (Failed request ∷ more) = ⊤
+HasFailed (Did request ∷ more) = HasFailed more
+HasFailed (LedTo name target ∷ more) = HasFailed more
 
 -- the file of each name holds what it held, as far as that was told
 abbrev pub HoldStill : (List ℕ → Option (List ℕ)) → (List ℕ → Option (List ℕ)) → Type 0

@@ -1,5 +1,5 @@
 -- What came of opening and holding the file of a record.
-use Rattle.std.specs.Prelude.{◌≡◌, ℕ, List, Bool, Option, Some, None, ⊤}
+use Rattle.std.specs.Prelude.{◌≡◌, Bool, Option, Some, None, ⊤}
 use Rattle.record_file.specs.declared.held_file.HeldFile.{HeldFile}
 use Rattle.record_file.specs.declared.held_file.OpenTry.{OpenTry}
 use Rattle.record_file.specs.declared.held_file.OpenTry.TheVariants.{Opened}

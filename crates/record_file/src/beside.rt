@@ -1,9 +1,7 @@
 //! A file beside another, which comes to that one's name once it is written.
-ghost use Rattle.std.specs.Prelude.{◌≡◌, [], ◌∷◌, IfOk, OnSome, Some};
-ghost use Rattle.record_file.specs.Beginning.{IsLeftover, IsMaking};
-ghost use Rattle.record_file.specs.Course.{is_done};
+ghost use Rattle.std.specs.Prelude.{◌≡◌, [], false, IfErr, IfOk, OnSome, Some};
 ghost use Rattle.host_devices.specs.Told.{HasAsked};
-ghost use Rattle.record_file.specs.DiskStep.{Failed, Open};
+ghost use Rattle.record_file.specs.DiskStep.{AreAside, HasFailed};
 ghost use Rattle.record_file.specs.Folder.{IsFolderOf};
 
 use crate::disk::{Access, Disk};
@@ -28,7 +26,8 @@ pub fn folder_of(name: &str) -> &str
 pub fn make_new<D: Disk>(disk: &mut D, name: &str) -> io::Result<D::File>
     ensures named { IfOk result (λ file. D.is_opened_as file name.now) }
     ensures fresh { IfOk result (λ file. OnSome (D.asked disk.new) (D.File.contents file ≡ Some [])) }
-    ensures asked { HasAsked (D.asked disk.old) (D.asked disk.new) (IsMaking name.now (is_done result)) }
+    ensures asked { HasAsked (D.asked disk.old) (D.asked disk.new) (AreAside name.now false) }
+    ensures failed { IfErr result (λ _. HasAsked (D.asked disk.old) (D.asked disk.new) (λ steps. AreAside name.now false steps × HasFailed steps)) }
 {
     match disk.open(Access::New, name) {
         Err(error) if error.kind() == ErrorKind::AlreadyExists => make_again(disk, name, error),
@@ -41,7 +40,7 @@ pub fn make_new<D: Disk>(disk: &mut D, name: &str) -> io::Result<D::File>
 fn make_again<D: Disk>(disk: &mut D, name: &str, error: io::Error) -> io::Result<D::File>
     ensures named { IfOk result (λ file. D.is_opened_as file name.now) }
     ensures fresh { IfOk result (λ file. OnSome (D.asked disk.new) (D.File.contents file ≡ Some [])) }
-    ensures asked { HasAsked (D.asked disk.old) (D.asked disk.new) (λ steps. IsMaking name.now (is_done result) (Failed (Open Access.New name.now) ∷ steps)) }
+    ensures asked { HasAsked (D.asked disk.old) (D.asked disk.new) (AreAside name.now false) }
 {
     if !is_left(disk, name) {
         return Err(error);
@@ -52,7 +51,7 @@ fn make_again<D: Disk>(disk: &mut D, name: &str, error: io::Error) -> io::Result
 
 // Whether a file was left by a program that is over: nobody holds it.
 fn is_left<D: Disk>(disk: &mut D, name: &str) -> bool
-    ensures asked { HasAsked (D.asked disk.old) (D.asked disk.new) (IsLeftover name.now result) }
+    ensures asked { HasAsked (D.asked disk.old) (D.asked disk.new) (AreAside name.now result) }
 {
     match disk.look_at_name(name) {
         Ok(metadata) if metadata.is_file() => match disk.open(Access::ReadOnly, name) {

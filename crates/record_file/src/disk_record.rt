@@ -1,14 +1,15 @@
 //! A record that is begun anew: the old one is replaced whole, or written over where it is.
-ghost use Rattle.std.specs.Prelude.{◌≡◌, [], false, length, List, ℕ, Option, Some, IfOk, IfErr, IfSome, OnOk, OnSome};
+ghost use Rattle.std.specs.Prelude.{◌≡◌, [], ◌∷◌, ◌++◌, false, true, length, List, ℕ, None, Option, Some, IfOk, IfErr, IfSome, OnOk, OnSome};
 ghost use Rattle.std.specs.Io.KnownBytes.{Appends};
 ghost use Rattle.host_devices.specs.declared.fault.KeepFault.TheVariants as keep;
 ghost use Rattle.load_record.specs.declared.version.Version.TheVariants.{Second};
 ghost use Rattle.load_record.specs.Keeper.{Lasts};
 ghost use Rattle.load_record.specs.RecordText.{record_text};
-ghost use Rattle.record_file.specs.Beginning.{course, new_record, IsAllWritten, IsMakingHeld, IsRenaming, IsBeside, IsPlaceSynced, may_be_shut};
-ghost use Rattle.record_file.specs.Beginning.{IsFileCut, IsMadeReady, IsUnready, IsWrittenOver, IsNotWrittenOver};
-ghost use Rattle.record_file.specs.Course.{is_done, was_made, renamed};
+ghost use Rattle.record_file.specs.Beginning.{course, new_name, IsAllWritten, IsBeside, IsFileCut, IsMadeReady, IsPlaceSynced, IsWrittenOver, IsNotWrittenOver};
+ghost use Rattle.record_file.specs.Course.{is_done, renamed, was_made};
 ghost use Rattle.record_file.specs.DiskRecord.{HasBegun};
+ghost use Rattle.record_file.specs.DiskStep.{DiskStep, AreAside, Did, FindSoleFile, HasFailed};
+ghost use Rattle.record_file.specs.Folder.{IsFolderOf};
 ghost use Rattle.host_devices.specs.Told.{HasAsked};
 ghost use Rattle.record_file.specs.InPlace.{ChangesNoByte, HasRead, MayBeWrittenOver};
 ghost use Rattle.record_file.specs.RecordFault.{IsUnbegun};
@@ -95,9 +96,10 @@ fn replace<D: Disk>(
     ensures device { held.new.device ≡ held.old.device }
     ensures standing { held.new.standing ≡ held.old.standing }
     ensures old_record { held.new.file ≡ held.old.file }
-    ensures asked { (dir text : List ℕ) → D.is_opened_as folder.now dir → OnSome (D.asked disk.old) (Lasts (D.File.on_disk new.now) (Some text))
-        → HasAsked (D.asked disk.old) (D.asked disk.new)
-        (IsRenaming (new_record name.now beside.now dir text) held.old.made (renamed result) held.new.made) }
+    ensures asked { (dir text : List ℕ) (before : List DiskStep) → D.is_opened_as folder.now dir → IsFolderOf name.now dir → beside.now ≡ new_name name.now
+        → OnSome (D.asked disk.old) (Lasts (D.File.on_disk new.now) (Some text)) → AreAside (new_name name.now) true before
+        → HasAsked (D.asked disk.old) (D.asked disk.new) (λ steps. IsBeside name.now text held.old.made (renamed result) held.new.made
+        (Did (FindSoleFile name.now) ∷ (before ++ steps))) }
 {
     if !is_named(disk, name, held) {
         let _ = disk.remove(beside);
@@ -170,7 +172,7 @@ fn make_ready<D: Disk>(
     ensures made { held.new.made ≡ held.old.made }
     ensures device { held.new.device ≡ held.old.device }
     ensures asked { IfOk result (λ _. HasAsked (D.asked disk.old) (D.asked disk.new) (IsMadeReady name.now held.old.made held.old.device)) }
-    ensures failed { IfErr result (λ _. HasAsked (D.asked disk.old) (D.asked disk.new) (IsUnready name.now held.old.made)) }
+    ensures failed { IfErr result (λ _. HasAsked (D.asked disk.old) (D.asked disk.new) (AreAside (new_name name.now) false)) }
 {
     if held.device {
         return Ok(0);
@@ -215,7 +217,8 @@ fn sync_place<D: Disk>(
     made: Made,
 ) -> Result<(), RecordFault>
     ensures fault { IfErr result IsUnbegun }
-    ensures asked { HasAsked (D.asked disk.old) (D.asked disk.new) (IsPlaceSynced name.now made (is_done result)) }
+    ensures asked { OnOk result (HasAsked (D.asked disk.old) (D.asked disk.new) (IsPlaceSynced name.now made)) }
+    ensures failed { IfErr result (λ _. HasAsked (D.asked disk.old) (D.asked disk.new) (AreAside (new_name name.now) false)) }
 {
     let Ok(target) = disk.resolve(alloc, name) else {
         return Err(RecordFault::Write);
@@ -232,7 +235,7 @@ fn sync_place<D: Disk>(
 // What comes of a file whose folder can't be opened: one that this load did not make is written all the same.
 fn without_folder(made: Made) -> Result<(), RecordFault>
     ensures fault { IfErr result IsUnbegun }
-    ensures done { is_done result ≡ may_be_shut made }
+    ensures done { OnOk result (made ≡ Made.Before) }
 {
     match made {
         Made::Before => Ok(()),
@@ -245,7 +248,8 @@ fn without_folder(made: Made) -> Result<(), RecordFault>
 fn make_beside<D: Disk>(disk: &mut D, name: &str) -> Result<Option<D::File>, RecordFault>
     ensures fault { IfErr result IsUnbegun }
     ensures fresh { IfOk result (λ made. IfSome made (λ file. OnSome (D.asked disk.new) (D.File.contents file ≡ Some []))) }
-    ensures asked { HasAsked (D.asked disk.old) (D.asked disk.new) (IsMakingHeld name.now (was_made result)) }
+    ensures asked { HasAsked (D.asked disk.old) (D.asked disk.new) (AreAside name.now (was_made result)) }
+    ensures failed { IfOk result (λ made. made ≡ None → HasAsked (D.asked disk.old) (D.asked disk.new) (λ steps. AreAside name.now false steps × HasFailed steps)) }
 {
     match make_new(disk, name) {
         Ok(file) => {

@@ -139,6 +139,7 @@ pub(crate) fn load_one_word(
         patience: 8,
         recheck,
         fast: false,
+        careful: false,
     };
     Some(match load(alloc, plan, options, around, out, &Unwatched) {
         Ok(outcome) => Ok(Stopped {

@@ -4,6 +4,7 @@ ghost use Rattle.reading_core.specs.Addresses.{IsAddress};
 
 use crate::options::LoadOptions;
 use crate::range::AddressRange;
+use reading_core::Care;
 use tape_image::Start;
 
 /// A load into a real machine.
@@ -33,6 +34,9 @@ pub struct Load<'a> {
 pub struct Look<'a> {
     /// The line to the console: the path of a device, which has a slash, or HOST:PORT.
     pub line: &'a str,
+
+    /// How often a word is looked at where it is verified or saved.
+    pub care: Care,
 
     /// How many mishaps the host survives.
     pub patience: u32,

@@ -16,4 +16,7 @@ pub struct LoadOptions {
 
     /// Whether a stub in the machine takes the words, where one serves.
     pub fast: bool,
+
+    /// Whether the host is careful, as one at a line that changes characters.
+    pub careful: bool,
 }

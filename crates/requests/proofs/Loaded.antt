@@ -16,9 +16,9 @@ use Rattle.requests.specs.Planning.{IsPlanned}
 use Rattle.input_files.specs.Opening.{Name}
 
 -- where the console's line leads is known from before a load
-module _ (load : PlannedLoad) (before : Scene) (setting : Setting) (asked : Option (List LineRequest)) (disk : Option RecordDisk) (call call' : Call) where
+module _ (load : PlannedLoad) (before : Scene) (setting : Setting) (asked : Option (List LineRequest)) (call call' : Call) where
   abbrev after : Call → Scene
-  after leads = record { setting = setting; asked = asked; call = leads; disk = disk }
+  after leads = record { setting = setting; asked = asked; call = leads }
 
   pub loaded_as : (status : Status) → IsLoadOver load (before ⇒ after call) status → IsLoadOver load (before ⇒ after call') status
   loaded_as status h = record {
@@ -26,31 +26,35 @@ module _ (load : PlannedLoad) (before : Scene) (setting : Setting) (asked : Opti
     between = h.between;
     reported = h.reported;
     ended = record { listened = h.ended.listened; status_is = h.ended.status_is };
-    no_more = record { around_same = h.no_more.around_same; asked_same = h.no_more.asked_same; disk_same = h.no_more.disk_same };
+    no_more = record { around_same = h.no_more.around_same; asked_same = h.no_more.asked_same };
   }
 
   pub failed_as : (failure : Failure) → IsLoadFailure load (before ⇒ after call) failure → IsLoadFailure load (before ⇒ after call') failure
   failed_as failure =
       ⊎_elim
-      (λ h. inl (record { fault = h.fault; is_so = record { fault = h.is_so.fault; asked = h.is_so.asked; disk = h.is_so.disk }; is_called = h.is_called }))
+      (λ h. inl (record { fault = h.fault; is_so = record { fault = h.is_so.fault; asked = h.is_so.asked }; is_called = h.is_called }))
       (λ h. inr (record {
         ending = h.ending;
         between = h.between;
         reported = h.reported;
         is_so = ⊎_elim (λ unheard. inl (record { failed = unheard.failed; given_back = unheard.given_back; nothing_written = unheard.nothing_written })) inr h.is_so;
-        no_more = record { around_same = h.no_more.around_same; asked_same = h.no_more.asked_same; disk_same = h.no_more.disk_same };
+        no_more = record { around_same = h.no_more.around_same; asked_same = h.no_more.asked_same };
       }))
 
 -- a disk of which this is known is one with a new record
-new_is : (b : RecordDisk) (name : List ℕ) (asked : Option (List DiskStep)) → b.asked ≡ asked → b.name ≡ name → b.known ≡ None → b ≡ new_record name asked
-new_is b name asked p q r =
-    ap (λ x. record b { asked = x }) p ∙ ap (λ x. record b { asked = asked; name = x }) q ∙ ap (λ x. record b { asked = asked; name = name; known = x }) r
+new_is : (b : RecordDisk) (name : List ℕ) (asked : Option (List DiskStep)) (holds : Option (List ℕ)) → b.asked ≡ asked → b.name ≡ name → b.known ≡ None → b.holds ≡ holds
+    → b ≡ new_record name asked holds
+new_is b name asked holds p q r h = λ i. record { asked = p i; name = q i; known = r i; holds = h i }
 
 -- so the record is new that a file has
 pub first_is : (file : Option Name) (name : Name) (known : Moment) (b : RecordDisk) → file ≡ Some name → b.asked ≡ known.asked.outside.disk → b.name ≡ name.now
-    → b.known ≡ None → Some b ≡ first_record file known
-first_is file name known b is p q r =
-    subst (λ file. Some b ≡ first_record file known) (sym is) (ap Some (new_is b name.now known.asked.outside.disk p q r))
+    → b.known ≡ None → b.holds ≡ known.holds name.now → Some b ≡ first_record file known
+first_is file name known b is p q r h =
+    subst (λ file. Some b ≡ first_record file known) (sym is) (ap Some (new_is b name.now known.asked.outside.disk (known.holds name.now) p q r h))
+
+-- what a file of this name holds is on the same disk
+pub same_held : {D : Type 0} (holds : D → List ℕ → Option (List ℕ)) (disk disk' : D) (name name' : List ℕ) → disk ≡ disk' → name ≡ name' → holds disk name ≡ holds disk' name'
+same_held holds disk disk' name name' p q = λ i. holds (p i) (q i)
 
 -- a load within its surroundings is one of the tapes, where their plan is known, and what their record was before and behind it
 module _ (names : List Name) (load : Load) (before after : Moment) (plan : PlanValue) (planned : IsPlanned names (intake_at before) (intake_at after) plan)
@@ -71,7 +75,7 @@ module _ (names : List Name) (load : Load) (before after : Moment) (plan : PlanV
     plan = plan;
     planned = planned;
     last = last;
-    loaded = loaded_as (planned_load (starting plan load.start) load) (begun (first_record load.record before)) there.setting there.asked last call' there.call status
+    loaded = loaded_as (planned_load (starting plan load.start) load) (begun (first_record load.record before)) there.setting there.asked call' there.call status
         (subst (λ d. IsLoadOver (planned_load (starting plan load.start) load) (begun d ⇒ reached) status) is_first
         (subst (λ s. IsLoadOver (planned_load s load) (begun first ⇒ reached) status) same h));
     let_go = let_go;
@@ -85,7 +89,7 @@ module _ (names : List Name) (load : Load) (before after : Moment) (plan : PlanV
     plan = plan;
     planned = planned;
     last = last;
-    failed = failed_as (planned_load (starting plan load.start) load) (begun (first_record load.record before)) there.setting there.asked last call' there.call failure
+    failed = failed_as (planned_load (starting plan load.start) load) (begun (first_record load.record before)) there.setting there.asked call' there.call failure
         (subst (λ d. IsLoadFailure (planned_load (starting plan load.start) load) (begun d ⇒ reached) failure) is_first
         (subst (λ s. IsLoadFailure (planned_load s load) (begun first ⇒ reached) failure) same h));
     let_go = let_go;

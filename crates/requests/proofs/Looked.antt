@@ -13,14 +13,14 @@ use Rattle.request_values.specs.declared.machine.Look.{Look}
 use Rattle.request_values.specs.declared.machine.MemoryTest.{MemoryTest}
 use Rattle.request_values.specs.declared.machine.Probe.{Probe}
 use Rattle.requests.specs.Ending.{after_probe, after_test, after_verify}
-use Rattle.requests.specs.Verifying.{AreUnverified, AreVerified}
+use Rattle.requests.specs.Verifying.{AreUnverified, AreVerified, options_of}
 use Rattle.requests.specs.Moment.{AsksNoDisk, Moment, TakesNoInput, console_at, intake_at}
 use Rattle.requests.specs.Planning.{IsPlanned}
 use Rattle.requests.specs.Probing.{IsConsoleProbed, IsConsoleUnprobed, IsProbeEnded}
 use Rattle.requests.specs.Testing.{AreWordsTested, AreWordsUntested, IsTestEnded}
 
 module _ (names : List Name) (look : Look) (before after : Moment) (plan : PlanValue) (planned : IsPlanned names (intake_at before) (intake_at after) plan)
-    (no_disk : AsksNoDisk (before ⇒ after)) (end : VerifyEnd) (reported : IsVerifyReported plan look.patience (console_at look before ⇒ console_at look after) end) where
+    (no_disk : AsksNoDisk (before ⇒ after)) (end : VerifyEnd) (reported : IsVerifyReported plan (options_of look) (console_at look before ⇒ console_at look after) end) where
   pub verified : (result : Result Status Failure) → result ≡ after_verify end → IfOk result (AreVerified names look (before ⇒ after))
   verified (Ok status) is = record { plan = plan; planned = planned; verified = (end, reported, sym is); no_disk = no_disk }
   verified (Err failure) is = tt

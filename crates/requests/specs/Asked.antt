@@ -28,6 +28,14 @@ pub record SystemAsked : Type 0 where
 abbrev pub asked_of : Option (List InputStep) → Option (List DiskStep) → Option (List LineRequest) → Option (List LineTold) → SystemAsked
 asked_of inputs disk for_lines lines = record { inputs = inputs; outside = record { disk = disk; for_lines = for_lines; lines = lines } }
 
+-- the same, and the system's disk, which may tell what its files hold
+pub record SystemTold (Disk : Type 0) : Type 0 where
+  pub asked : SystemAsked
+  pub disk : Disk
+
+abbrev pub system_told : {Disk : Type 0} → SystemAsked → Disk → SystemTold Disk
+system_told asked disk = record { asked = asked; disk = disk }
+
 -- what was asked of a system of which no part tells
 abbrev pub untold : SystemAsked
 untold = asked_of None None None None

@@ -87,14 +87,13 @@ pub record IsLoadInVain (load : PlannedLoad) (scenes : Change Scene) (failure : 
 abbrev pub IsLoadFailure : PlannedLoad → Change Scene → Failure → Type 0
 IsLoadFailure load scenes failure = IsLoadInVain load scenes failure ⊎ IsLoadBroken load scenes failure
 
--- what is known of a load by what its console tells, with this record on a disk; a system does not tell in which order a load asks it, nor what
--- the record says
+-- what is known of a load by what its console tells, with this record on a disk, which alone tells what the record is; a system does not tell in which
+-- order a load asks it
 abbrev pub scene_at : ConsoleTold → Option RecordDisk → Scene
 scene_at console disk = record {
-  setting = record { around = record { steps = None; record_text = None }; lines = console.lines; out = console.out };
+  setting = record { around = record { steps = None; record_text = None; disk = disk }; lines = console.lines; out = console.out };
   asked = console.asked;
   call = console.call;
-  disk = disk;
 }
 
 -- what is told of the console that a load is meant for, and of standard output
@@ -104,7 +103,7 @@ console_for load known = console_of load.line.now load.quiet_ms known.asked.outs
 -- the record that a load begins with: in a file it is a new one on the disk; one in memory alone is on none
 abbrev pub first_record : Option Name → Moment → Option RecordDisk
 first_record None known = None
-first_record (Some name) known = Some (new_record name.now known.asked.outside.disk)
+first_record (Some name) known = Some (new_record name.now known.asked.outside.disk (known.holds name.now))
 
 -- what is known of a load before it, and behind it, where its record is this one
 abbrev pub scenes_of : LoadRequest → Option RecordDisk → Change Moment → Change Scene

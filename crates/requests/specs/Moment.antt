@@ -1,21 +1,22 @@
 -- What is known at a moment, before something is done or behind it, and what was not asked meanwhile.
-use Rattle.std.specs.Prelude.{◌≡◌, List, Option}
+use Rattle.std.specs.Prelude.{◌≡◌, ℕ, List, Option}
 use Rattle.console_lines.specs.Console.{ConsoleTold}
 use Rattle.endings.specs.Held.{Held}
 use Rattle.input_files.specs.Intake.{Intake, intake}
 use Rattle.record_file.specs.DiskStep.{DiskStep}
 use Rattle.request_values.specs.Change.{Change, ◌⇒◌}
 use Rattle.request_values.specs.declared.machine.Look.{Look}
-use Rattle.requests.specs.Asked.{SystemAsked, console_of}
+use Rattle.requests.specs.Asked.{SystemAsked, SystemTold, console_of}
 
--- what was asked of the system, and what the standard streams hold
+-- what was asked of the system, what each name's file on its disk holds, as far as that is told, and what the standard streams hold
 pub record Moment : Type 0 where
   pub asked : SystemAsked
+  pub holds : List ℕ → Option (List ℕ)
   pub held : Held
 
--- the moment at which this was asked and the streams hold this
-abbrev pub moment : SystemAsked → Held → Moment
-moment asked held = record { asked = asked; held = held }
+-- the moment at which a system tells this, whose disk tells what its files hold, and the streams hold this
+abbrev pub moment : {Disk : Type 0} → (Disk → List ℕ → Option (List ℕ)) → SystemTold Disk → Held → Moment
+moment holds system held = record { asked = system.asked; holds = holds system.disk; held = held }
 
 -- what is known of the intake at a moment
 abbrev pub intake_at : Moment → Intake
@@ -28,10 +29,6 @@ console_at look known = console_of look.line.now look.quiet_ms known.asked.outsi
 -- the same before and after
 abbrev pub consoles_at : Look → Change Moment → Change ConsoleTold
 consoles_at look moments = console_at look moments.before ⇒ console_at look moments.after
-
--- what was asked of the disk, before and after
-abbrev pub disk_asked : Change Moment → Change (Option (List DiskStep))
-disk_asked moments = moments.before.asked.outside.disk ⇒ moments.after.asked.outside.disk
 
 -- nothing was asked of disk and consoles
 abbrev pub AsksNobody : Change Moment → Type 0

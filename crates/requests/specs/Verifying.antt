@@ -6,6 +6,7 @@ use Rattle.machine_look.specs.LookFault.{IsVerifyFault}
 use Rattle.machine_look.specs.Verify.{IsVerifyReported}
 use Rattle.machine_look.specs.declared.look_fault.LookFault.{LookFault}
 use Rattle.machine_look.specs.declared.verify_end.VerifyEnd.{VerifyEnd}
+use Rattle.machine_look.specs.declared.verifying.VerifyOptions.{VerifyOptions}
 use Rattle.endings.specs.declared.failure.Failure.{Failure}
 use Rattle.endings.specs.declared.status.Status.{Status}
 use Rattle.requests.specs.Ending.{IsFailureOf, after_verify}
@@ -16,22 +17,26 @@ use Rattle.input_files.specs.Opening.{Name}
 use Rattle.requests.specs.Planning.{HaveNoPlan, IsPlanned}
 use Rattle.requests.specs.Moment.{AsksNoDisk, Moment, consoles_at, intake_at}
 
+-- how a plan is verified, as the request has it
+abbrev pub options_of : Look → VerifyOptions
+options_of look = record { care = look.care; patience = look.patience }
+
 -- memory was looked at for a plan
 abbrev pub IsVerifyOver : PlanValue → Look → Change ConsoleTold → Status → Type 0
 IsVerifyOver plan look console status =
-    (end : VerifyEnd) × IsVerifyReported plan look.patience console end × (after_verify end ≡ Ok status)
+    (end : VerifyEnd) × IsVerifyReported plan (options_of look) console end × (after_verify end ≡ Ok status)
 
 -- a look for a plan came to nothing
 pub record IsVerifyInVain (plan : PlanValue) (look : Look) (console : Change ConsoleTold) (failure : Failure) : Type 0 where
   pub fault : LookFault
-  pub is_so : IsVerifyFault plan look.patience console fault
+  pub is_so : IsVerifyFault plan (options_of look) console fault
   pub is_called : IsFailureOf (request_fault.Look fault) look.line.now look.line.now failure
 
 -- a look for a plan failed: it came to nothing, or it was reported and its line had failed
 abbrev pub IsVerifyFailure : PlanValue → Look → Change ConsoleTold → Failure → Type 0
 IsVerifyFailure plan look console failure =
     IsVerifyInVain plan look console failure
-    ⊎ ((end : VerifyEnd) × IsVerifyReported plan look.patience console end × (after_verify end ≡ Err failure))
+    ⊎ ((end : VerifyEnd) × IsVerifyReported plan (options_of look) console end × (after_verify end ≡ Err failure))
 
 -- memory was looked at for the tapes of these names, as one, at the console that is named
 pub record AreVerified (names : List Name) (look : Look) (moments : Change Moment) (status : Status) : Type 0 where

@@ -4,6 +4,7 @@ use host_core::End;
 use host_devices::Line;
 use load_engine::Stop;
 use machine_load::{LoadEnd, Outcome, StubStop, Stubs, StubsEnd};
+use machine_look::{LookFault, SaveEnd};
 use octal::Octal;
 use progress_display::{KeptIn, LastWord, ProgressLine};
 use request_values::Load;
@@ -11,9 +12,22 @@ use std::alloc::Global;
 use std::fmt;
 use std::io::Print;
 use std::time::Clock;
+use tape_image::Plan;
+use tape_shelf::BLOCK_WORDS;
 
 /// What helps where no word was done, for want of answers.
 pub(crate) const ASK_PROBE: &str = "'ldaodt probe LINE' says what is wrong\n";
+
+// What helps where a record goes on.
+const GOES_ON: &str = "the same line goes on where it was; power lost? add --recheck\n";
+
+// What helps where the start was typed before, or was about to be.
+const LOOK_FIRST: &str =
+    "look at the machine first: the program may run; to load it again remove the record\n";
+
+// What helps where what was read of a machine is kept.
+const PART_GOES_ON: &str =
+    "the same line goes on where it was; power lost? remove the .part file\n";
 
 /// Who looks on: the line on the terminal, where there is one. What is done is kept there.
 pub(crate) fn onlooker<'o, C: Clock, T: Print>(
@@ -27,14 +41,34 @@ pub(crate) fn onlooker<'o, C: Clock, T: Print>(
     }
 }
 
-/// Tells behind the report of a load of so many words how many of them are verified by the record alone,
-/// why stubs verified none, where they were asked for, and what helps where the load did not come to its
-/// end.
+/// What is known of the words that a load is of.
+#[derive(Clone, Copy, Debug, PartialEq, Eq)]
+pub(crate) struct PlanSize {
+    /// How many there are.
+    pub(crate) words: u32,
+
+    /// The address of the last, which is the highest.
+    pub(crate) last: Option<u16>,
+}
+
+impl PlanSize {
+    /// That of a plan.
+    pub(crate) fn of(plan: &Plan) -> PlanSize {
+        let words = plan.words();
+        PlanSize {
+            words: words.len() as u32,
+            last: words.last().map(|word| word.address()),
+        }
+    }
+}
+
+/// Tells behind the report of a load how many of its words are verified by the record alone, why stubs verified none,
+/// where they were asked for, and what helps where the load did not come to its end.
 pub(crate) fn advise<C: Clock, T: Print, L: Line>(
     alloc: Global,
     onlooker: &Option<ProgressLine<'_, C, T>>,
     load: Load<'_>,
-    words: u32,
+    size: PlanSize,
     outcome: &Outcome<L>,
 ) {
     let Some(progress) = onlooker else {
@@ -47,8 +81,9 @@ pub(crate) fn advise<C: Clock, T: Print, L: Line>(
     // A load that was over before it began has looked at nothing.
     let recorded = match outcome.line {
         Some(_) => progress.done_at_first(),
-        None => words,
+        None => size.words,
     };
+    let words = size.words;
     if recorded > 0
         && let Ok(text) = format!(in alloc; "{recorded} of {words} by the record\n")
     {
@@ -56,6 +91,7 @@ pub(crate) fn advise<C: Clock, T: Print, L: Line>(
     }
     if let Some(Stubs { tally, stop }) = outcome.stubs
         && tally.verified <= recorded
+        && hinders_stubs_alone(stop)
         && let Ok(text) = format!(in alloc; "--fast did not serve: {}\n", NoStub(stop))
     {
         progress.say(text.as_str());
@@ -63,8 +99,69 @@ pub(crate) fn advise<C: Clock, T: Print, L: Line>(
     if let Some(text) = advice(load, outcome, progress.done()) {
         progress.say(text);
     }
-    if let LoadEnd::Driven(Stop::Ended(End::WontHold(address))) = outcome.end {
-        say_unheld(alloc, progress, address);
+    match outcome.end {
+        LoadEnd::Driven(Stop::Ended(End::WontHold(address))) => {
+            say_unheld(alloc, progress, address)
+        }
+        LoadEnd::Driven(Stop::Ended(End::NoWord(address))) => {
+            say_unfit(alloc, progress, address, size)
+        }
+        _ => {}
+    }
+}
+
+/// Tells behind the report of a save that came to this what helps where it can be gone on with: a block was read.
+pub(crate) fn advise_save<C: Clock, T: Print>(
+    onlooker: &Option<ProgressLine<'_, C, T>>,
+    saved: Result<SaveEnd, LookFault>,
+) {
+    let Some(progress) = onlooker else {
+        return;
+    };
+    match saved {
+        Ok(SaveEnd::GaveUp | SaveEnd::LineFailed(_) | SaveEnd::TurnsOver)
+            if progress.done() as usize >= BLOCK_WORDS => progress.say(PART_GOES_ON),
+        _ => {}
+    }
+}
+
+// Whether what stopped the stubs left the rest to the load: else it is the load's own end.
+fn hinders_stubs_alone(stop: StubStop) -> bool {
+    match stop {
+        StubStop::Ended(StubsEnd::NotStarted(End::NoWord(_))) => false,
+        StubStop::Ended(_) => true,
+        StubStop::LineFailed(_) | StubStop::KeepFailed(_) | StubStop::TurnsOver => false,
+    }
+}
+
+// Tells that the tape goes further than memory, which has no word at this address.
+fn say_unfit<C: Clock, T: Print>(
+    alloc: Global,
+    progress: &ProgressLine<'_, C, T>,
+    address: u16,
+    size: PlanSize,
+) {
+    let Some(last) = size.last else {
+        return;
+    };
+    let unfit = Unfit { address, last };
+    if let Ok(text) = format!(in alloc; "{unfit}\n") {
+        progress.say(text.as_str());
+    }
+}
+
+// A tape that does not fit, as it is told: `no word at 010000, and the tape goes up to 017776`, and what shows more.
+#[derive(Clone, Copy)]
+struct Unfit {
+    address: u16,
+    last: u16,
+}
+
+impl fmt::Display for Unfit {
+    fn fmt<W: fmt::Write>(&self, f: &mut fmt::Formatter<W>) -> fmt::Result {
+        let (address, last) = (Octal(self.address), Octal(self.last));
+        write!(f, "no word at {address}, and the tape goes up to {last}: ")?;
+        f.write_str("'ldaodt probe LINE' says where memory ends")
     }
 }
 
@@ -123,10 +220,9 @@ impl fmt::Display for NoStub {
         match self.0 {
             StubStop::Ended(StubsEnd::TooFewWords) => f.write_str("too few words"),
             StubStop::Ended(StubsEnd::NoRoom) => f.write_str("no room for the stub in this tape"),
-            StubStop::Ended(StubsEnd::InVain) => f.write_str("three stubs took no word"),
-            StubStop::Ended(StubsEnd::NotStarted(End::NoWord(address))) => {
-                write!(f, "word {} did not answer", Octal(address))
-            }
+            StubStop::Ended(StubsEnd::InVain) => f.write_str(
+                "three stubs took no word: is the HALT switch at ENABLE?",
+            ),
             StubStop::Ended(StubsEnd::NotStarted(_)) => f.write_str("the stub did not start"),
             StubStop::LineFailed(_) => f.write_str("the line failed"),
             StubStop::KeepFailed(_) => f.write_str("the record failed"),
@@ -142,11 +238,10 @@ fn advice<L: Line>(load: Load<'_>, outcome: &Outcome<L>, verified: u32) -> Optio
         return None;
     };
     match stop {
+        Stop::Ended(End::MaybeStarted) => Some(LOOK_FIRST),
         Stop::Ended(End::GaveUp) if verified == 0 => Some(ASK_PROBE),
         Stop::Ended(End::GaveUp) | Stop::LineFailed(_)
-            if load.record.is_some() && !outcome.marked => {
-            Some("the same line goes on where it was; power lost? add --recheck\n")
-        }
+            if load.record.is_some() && !outcome.marked => { Some(GOES_ON) }
         _ => None,
     }
 }
@@ -154,6 +249,6 @@ fn advice<L: Line>(load: Load<'_>, outcome: &Outcome<L>, verified: u32) -> Optio
 /// Tells whoever waits at a terminal that a probe is under way.
 pub(crate) fn say_probing<T: Print>(terminal: Option<&T>) {
     if let Some(terminal) = terminal {
-        let _ = terminal.write_all(b"probing: four to six quiet times, mostly 8 seconds\n");
+        let _ = terminal.write_all(b"probing: mostly 8 seconds; 20 where nothing answers\n");
     }
 }

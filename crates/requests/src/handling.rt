@@ -45,7 +45,7 @@ pub fn attempt<K: Kinds, R: Read, W: Output, E: FaultOutput, T: Print>(
     witness: &Witness,
 ) -> (System<K>, Status)
     requires { FitsInMemory R.row }
-    ensures { IsAttempted request.now (moment system streams.old ⇒ moment result.0 streams.new) result.1 }
+    ensures { IsAttempted request.now (moment K.Disk.holds system streams.old ⇒ moment K.Disk.holds result.0 streams.new) result.1 }
 {
     let only_prints = request.only_prints();
     let (system, outcome) = match request {
@@ -92,7 +92,7 @@ fn end<R: Read, W: Output, E: FaultOutput, T: Print>(
         Err(failure) => {
             let (out, err) = (&streams.out, &mut streams.err);
             let status = print_with_reason(alloc, only_prints, failure, witness.error(), out, err);
-            say_instead(terminal, failure, witness.front());
+            say_instead(alloc, terminal, failure, witness);
             status
         }
     }

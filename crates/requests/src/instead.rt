@@ -3,9 +3,12 @@ ghost use Rattle.std.specs.Prelude.{◌≡◌};
 ghost use Rattle.requests.specs.Instead.{instead_of, is_head_of_gzip, is_head_of_records, is_readable, is_text};
 
 use endings::Failure;
+use load_record::RecordError;
+use std::alloc::Global;
+use std::fmt;
 use std::io::Print;
-use tape_blocks::Why;
-use witness::Front;
+use tape_blocks::{Fault, Why};
+use witness::{End, Front, Witness};
 
 /// What an input is that is no tape.
 #[derive(Clone, Copy, Debug, PartialEq, Eq)]
@@ -44,28 +47,110 @@ impl Instead {
     }
 }
 
-/// Tells whoever waits at a terminal what a tape is instead that was refused, by its first bytes, or how it gets the
-/// block that it lacks.
+/// Tells whoever waits at a terminal what a file is instead that was refused, by its first bytes and its last, or what
+/// makes it what was asked for.
 pub(crate) fn say_instead<T: Print>(
+    alloc: Global,
     terminal: Option<&T>,
     failure: Failure<'_>,
-    front: Option<Front>,
+    witness: &Witness,
 ) {
-    let (Failure::TapeRefused(fault) | Failure::OneTapeRefused(_, fault)) = failure else {
-        return;
-    };
     let Some(terminal) = terminal else {
         return;
     };
-    let advice = match fault.why {
-        Why::Stray => front.and_then(advice_of),
-        Why::NoTransfer => Some(NO_TRANSFER),
-        _ => None,
-    };
-    if let Some(advice) = advice {
+    if let Some(checksum) = missing_checksum(failure, witness.end())
+        && let Ok(text) = format!(in alloc; "{checksum}\n")
+    {
+        let _ = terminal.write_all(text.as_bytes());
+    }
+    if let Some(advice) = advice(failure, witness.front()) {
         let _ = terminal.write_all(advice.as_bytes());
     }
 }
+
+// What is told of a file with these first bytes that was refused so.
+fn advice(failure: Failure<'_>, front: Option<Front>) -> Option<&'static str> {
+    match failure {
+        Failure::TapeRefused(fault) | Failure::OneTapeRefused(_, fault) => {
+            advice_of_tape(fault, front)
+        }
+        Failure::WordsRefused(_) => advice_of_words(front?),
+        Failure::RecordRefused(RecordError::Foreign(_)) => Some(ANOTHER_RECORD),
+        _ => None,
+    }
+}
+
+// The same of a tape.
+fn advice_of_tape(fault: Fault, front: Option<Front>) -> Option<&'static str> {
+    match fault.why {
+        Why::NoTransfer if fault.at == 0 => Some(EMPTY),
+        Why::NoTransfer => Some(NO_TRANSFER),
+        Why::Stray => advice_of(front?),
+        _ => None,
+    }
+}
+
+// The same of octal words: where they seem to be what a console printed.
+fn advice_of_words(front: Front) -> Option<&'static str> {
+    if front.contains(&b'@') {
+        Some(OF_CONSOLE)
+    } else {
+        None
+    }
+}
+
+// What is punched in a leader of rubouts.
+const RUBOUT: u8 = 0o377;
+
+// The block that begins a tape, and the front of one that ends it, without the start and the checksum.
+const BLOCK: [u8; 2] = [1, 0];
+
+const LAST_BLOCK: [u8; 4] = [1, 0, 6, 0];
+
+// The checksum of a block that a tape ends with, which is the one byte that it lacks.
+#[derive(Clone, Copy)]
+struct MissingChecksum(u8);
+
+impl fmt::Display for MissingChecksum {
+    fn fmt<W: fmt::Write>(&self, f: &mut fmt::Formatter<W>) -> fmt::Result {
+        let (high, middle, low) = (self.0 >> 6, self.0 >> 3 & 7, self.0 & 7);
+        write!(
+            f,
+            "its last block lacks its checksum: printf '\\{high}{middle}{low}' >> TAPE"
+        )
+    }
+}
+
+// The checksum that a tape lacks which was refused so, and of which these bytes are the last.
+fn missing_checksum(failure: Failure<'_>, end: Option<End>) -> Option<MissingChecksum> {
+    let (Failure::TapeRefused(fault) | Failure::OneTapeRefused(_, fault)) = failure else {
+        return None;
+    };
+    let end = end?;
+    if fault.why != Why::Cut || !end.starts_with(&LAST_BLOCK) {
+        return None;
+    }
+    let sum = end.iter().fold(0u8, |sum, byte| sum.wrapping_add(*byte));
+    Some(MissingChecksum(sum.wrapping_neg()))
+}
+
+// What is told of an empty tape.
+const EMPTY: &str = "the file is empty\n";
+
+// What is told of a record that is none of the tape's.
+const ANOTHER_RECORD: &str =
+    "it is of another tape, or was edited: with another --record FILE the load begins anew\n";
+
+// What is told of what a console printed, where octal words should stand.
+const OF_CONSOLE: &str = "of what a console printed: tr @/ '  ' < FILE > WORDS\n";
+
+// What is told of a tape with a leader of rubouts.
+const OF_RUBOUTS: &str = "its leader is rubouts: LC_ALL=C sed '1s/^\\o377*//' FILE > TAPE\n";
+
+// What is told of a tape before which something else stands.
+const OF_LABEL: &str =
+    "it is no tape, or a label stands before it: 'tail -c +N FILE > TAPE' makes one,\n\
+     where its first 001 is byte N, from 1\n";
 
 // What is told of a tape without a transfer block.
 const NO_TRANSFER: &str = "it lacks a block with a start; this one starts nothing:\n\
@@ -76,7 +161,9 @@ fn advice_of(front: Front) -> Option<&'static str> {
     let [first, second, third, fourth] = front;
     match instead_of(first, second, third, fourth) {
         Some(instead) => Some(instead.advice()),
-        None => None,
+        None if first == RUBOUT => Some(OF_RUBOUTS),
+        None if front.starts_with(&BLOCK) => None,
+        None => Some(OF_LABEL),
     }
 }
 

@@ -12,6 +12,7 @@
 
 mod advice;
 mod ending;
+mod following;
 mod handling;
 mod instead;
 mod listening;
@@ -26,5 +27,6 @@ mod test_line;
 mod testing;
 mod verifying;
 
+pub use following::say_what_follows;
 pub use handling::attempt;
 pub use system::{Kinds, SharedSystem, System, WatchedSystem};

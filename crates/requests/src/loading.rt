@@ -8,7 +8,7 @@ ghost use Rattle.requests.specs.Loading.{kept_in, planned_load, record_name};
 ghost use Rattle.requests.specs.Loading.{AreLoaded, AreUnloaded, IsEnded, IsEndFailure, IsLoadFailure, IsLoadOver};
 ghost use Rattle.requests.specs.Moment.{moment};
 
-use crate::advice::{advise, onlooker};
+use crate::advice::{PlanSize, advise, onlooker};
 use crate::ending::after_load;
 use crate::listening::listen_behind;
 use crate::planning::plan_tapes;
@@ -51,8 +51,8 @@ pub(crate) fn load_tapes<'a, K: Kinds, R: Read, W: Output, E: FaultOutput, T: Pr
     terminal: Option<&T>,
 ) -> (System<K>, Result<Status, Failure<'a>>)
     requires { FitsInMemory R.row }
-    ensures ok { IfOk result.1 (AreLoaded names.now request.entry (moment system streams.old ⇒ moment result.0 streams.new)) }
-    ensures err { IfErr result.1 (AreUnloaded names.now request.entry (moment system streams.old ⇒ moment result.0 streams.new)) }
+    ensures ok { IfOk result.1 (AreLoaded names.now request.entry (moment K.Disk.holds system streams.old ⇒ moment K.Disk.holds result.0 streams.new)) }
+    ensures err { IfErr result.1 (AreUnloaded names.now request.entry (moment K.Disk.holds system streams.old ⇒ moment K.Disk.holds result.0 streams.new)) }
     ensures quiet { streams.new.err ≡ streams.old.err }
 {
     let planned = match plan_tapes(&mut system.inputs, alloc, names, streams) {
@@ -102,10 +102,10 @@ fn load_plan<'a, S: Surroundings, W: Write, C: Clock, T: Print>(
     ensures err { IfErr result (IsLoadFailure (planned_load plan request.entry)
         (scene S.Surroundings W.Write around.old out.old ⇒ scene S.Surroundings W.Write around.new out.new)) }
 {
-    let words = plan.words().len() as u32;
+    let size = PlanSize::of(&plan);
     match load(alloc, plan, request.options, around, out, onlooker) {
         Ok(outcome) => {
-            advise(alloc, onlooker, request, words, &outcome);
+            advise(alloc, onlooker, request, size, &outcome);
             end(request, outcome, around, out)
         }
         Err(fault) => {

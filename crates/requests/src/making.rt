@@ -1,11 +1,13 @@
 //! Making a tape of octal words.
 ghost use Rattle.std.specs.Prelude.{◌≡◌, ◌∷◌, [], length, OnOk, IfOk, IfErr};
 ghost use Rattle.tape_shelf.specs.Shelf.{Put, Reserve};
+ghost use Rattle.tape_shelf.specs.ShelfDisk.{part_name};
 ghost use Rattle.tape_shelf.specs.ShelfTold.{HasDone};
 ghost use Rattle.request_values.specs.Change.{◌⇒◌};
 ghost use Rattle.requests.specs.Making.{AreWordsMade, AreWordsUnmade};
 ghost use Rattle.requests.specs.Making.{IsNotPutOn, IsNotPutWhole, IsPutOn};
 ghost use Rattle.requests.specs.Moment.{moment};
+ghost use Rattle.requests.specs.Saving.{new_shelf};
 
 use crate::request_fault::RequestFault;
 use crate::system::{Kinds, System};
@@ -31,8 +33,8 @@ pub(crate) fn make_words<'a, K: Kinds, R: Read, W: Output, E: FaultOutput>(
     make: Make<'a>,
     streams: &mut Streams<R, W, E>,
 ) -> (System<K>, Result<Status, Failure<'a>>)
-    ensures ok { IfOk result.1 (AreWordsMade make.entry (moment system streams.old ⇒ moment result.0 streams.new)) }
-    ensures err { IfErr result.1 (AreWordsUnmade make.entry (moment system streams.old ⇒ moment result.0 streams.new)) }
+    ensures ok { IfOk result.1 (AreWordsMade make.entry (moment K.Disk.holds system streams.old ⇒ moment K.Disk.holds result.0 streams.new)) }
+    ensures err { IfErr result.1 (AreWordsUnmade make.entry (moment K.Disk.holds system streams.old ⇒ moment K.Disk.holds result.0 streams.new)) }
     ensures quiet { streams.new.err ≡ streams.old.err }
 {
     let System {
@@ -61,8 +63,9 @@ fn put_on<'a, D: Disk + Drop>(
     file: &'a str,
     text: &[u8],
 ) -> (D, Result<Status, Failure<'a>>)
-    ensures ok { IfOk result.1 (IsPutOn file.entry text.now (D.asked disk ⇒ D.asked result.0)) }
-    ensures err { IfErr result.1 (IsNotPutOn file.entry text.now (D.asked disk ⇒ D.asked result.0)) }
+    ensures ok { IfOk result.1 (IsPutOn file.entry text.now (new_shelf file.entry (D.asked disk) (D.holds disk (part_name file.now))) (D.asked result.0)) }
+    ensures err { IfErr result.1
+        (IsNotPutOn file.entry text.now (new_shelf file.entry (D.asked disk) (D.holds disk (part_name file.now))) (D.asked result.0)) }
 {
     let mut shelf = NewFile::new(disk, file);
     let put = put_whole(alloc, text, &mut shelf);

@@ -26,8 +26,8 @@ pub(crate) fn probe_console<'a, K: Kinds, R: Read, W: Output, E: FaultOutput>(
     request: Probe<'a>,
     streams: &mut Streams<R, W, E>,
 ) -> (System<K>, Result<Status, Failure<'a>>)
-    ensures ok { IfOk result.1 (IsConsoleProbed request.entry (moment system streams.old ⇒ moment result.0 streams.new)) }
-    ensures err { IfErr result.1 (IsConsoleUnprobed request.entry (moment system streams.old ⇒ moment result.0 streams.new)) }
+    ensures ok { IfOk result.1 (IsConsoleProbed request.entry (moment K.Disk.holds system streams.old ⇒ moment K.Disk.holds result.0 streams.new)) }
+    ensures err { IfErr result.1 (IsConsoleUnprobed request.entry (moment K.Disk.holds system streams.old ⇒ moment K.Disk.holds result.0 streams.new)) }
     ensures quiet { streams.new.err ≡ streams.old.err }
 {
     let System {

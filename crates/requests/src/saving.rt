@@ -4,7 +4,7 @@ ghost use Rattle.request_values.specs.Change.{◌⇒◌};
 ghost use Rattle.requests.specs.Moment.{moment};
 ghost use Rattle.requests.specs.Saving.{AreWordsSaved, AreWordsUnsaved};
 
-use crate::advice::onlooker;
+use crate::advice::{advise_save, onlooker};
 use crate::ending::after_save;
 use crate::request_fault::RequestFault;
 use crate::system::{Kinds, System};
@@ -26,7 +26,7 @@ use tape_shelf::NewFile;
 /// `FileIsThere` and `CannotWriteFile` come before the console is reached, or where a block can't be added, or the
 /// tape not be put there at the end; `PartIsThere` and `PartNotOfSave` before the console is reached, with what is beside the file as it was;
 /// `CannotConnect` before anything was sent. `PartStale` comes behind the report, with what is beside the file as it
-/// was; `LineFailed` too, with the words that were read by then in the file, if any were. `CannotWrite` is a report
+/// was; `LineFailed` too, with the blocks that were read by then beside the file, if any were. `CannotWrite` is a report
 /// that could not be written whole; the tape is where it belongs. `NoMemory` comes only where a growth was refused,
 /// with no tape put there and nothing reported.
 pub(crate) fn save_words<'a, K: Kinds, R: Read, W: Output, E: FaultOutput, T: Print>(
@@ -36,8 +36,8 @@ pub(crate) fn save_words<'a, K: Kinds, R: Read, W: Output, E: FaultOutput, T: Pr
     streams: &mut Streams<R, W, E>,
     terminal: Option<&T>,
 ) -> (System<K>, Result<Status, Failure<'a>>)
-    ensures ok { IfOk result.1 (AreWordsSaved request.entry (moment system streams.old ⇒ moment result.0 streams.new)) }
-    ensures err { IfErr result.1 (AreWordsUnsaved request.entry (moment system streams.old ⇒ moment result.0 streams.new)) }
+    ensures ok { IfOk result.1 (AreWordsSaved request.entry (moment K.Disk.holds system streams.old ⇒ moment K.Disk.holds result.0 streams.new)) }
+    ensures err { IfErr result.1 (AreWordsUnsaved request.entry (moment K.Disk.holds system streams.old ⇒ moment K.Disk.holds result.0 streams.new)) }
     ensures quiet { streams.new.err ≡ streams.old.err }
 {
     let System {
@@ -51,12 +51,14 @@ pub(crate) fn save_words<'a, K: Kinds, R: Read, W: Output, E: FaultOutput, T: Pr
         range: request.range,
         start: request.start,
         patience: look.patience,
+        care: look.care,
     };
     let mut shelf = NewFile::new(disk, request.file);
     let mut console = Way::to(look.line, look.quiet_ms, consoles);
     let out = &mut streams.out;
     let shown = onlooker(&clock, terminal, KeptIn::Part);
     let saved = save(alloc, options, &mut shelf, &mut console, out, &shown);
+    advise_save(&shown, saved);
     let system = System::new(inputs, shelf.close(), console.back(), clock);
     match saved {
         Ok(end) => (system, after_save(end, request.file)),

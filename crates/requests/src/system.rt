@@ -26,7 +26,7 @@ pub trait Kinds {
 
 /// A system: all that a request needs beside the standard streams.
 ///
-/// Contracts see what was asked of each part, as far as it tells.
+/// Contracts see what was asked of each part, as far as it tells, and the disk.
 #[derive(Drop)]
 pub struct System<K: Kinds> {
     /// The files of tapes, of scripts and of words, which are read.
@@ -43,16 +43,17 @@ pub struct System<K: Kinds> {
 }
 
 impl<K: Kinds> Model for System<K> {
-    ghost use Rattle.requests.specs.Asked.{SystemAsked, asked_of};
+    ghost use Rattle.requests.specs.Asked.{SystemTold, asked_of, system_told};
 
-    ghost Value = { SystemAsked };
+    ghost Value = { SystemTold K.Disk };
 
-    ghost view = { λ s. asked_of (K.Inputs.opened s.inputs) (K.Disk.asked s.disk) (K.Consoles.asked s.consoles) (K.Consoles.lines s.consoles) };
+    ghost view = { λ s. system_told (asked_of (K.Inputs.opened s.inputs) (K.Disk.asked s.disk) (K.Consoles.asked s.consoles) (K.Consoles.lines s.consoles))
+        s.disk };
 }
 
 impl<K: Kinds> System<K> {
     ghost use Rattle.std.specs.Prelude.{◌≡◌};
-    ghost use Rattle.requests.specs.Asked.{asked_of};
+    ghost use Rattle.requests.specs.Asked.{asked_of, system_told};
 
     /// The system of these parts.
     pub fn new(
@@ -61,7 +62,7 @@ impl<K: Kinds> System<K> {
         consoles: K::Consoles,
         clock: K::Clock,
     ) -> System<K>
-        ensures { result ≡ asked_of (K.Inputs.opened inputs) (K.Disk.asked disk) (K.Consoles.asked consoles) (K.Consoles.lines consoles) }
+        ensures { result ≡ system_told (asked_of (K.Inputs.opened inputs) (K.Disk.asked disk) (K.Consoles.asked consoles) (K.Consoles.lines consoles)) disk }
     {
         System {
             inputs,
@@ -96,7 +97,7 @@ impl<'c, S: TimedStream + Drop, F: Files + Locks + Net<Stream = S> + Devices + C
 
     /// All parts of a system, of which none tells what is asked of it.
     pub fn of(system: &'c F) -> SharedSystem<'c, F>
-        ensures { result ≡ untold }
+        ensures { result.asked ≡ untold }
     {
         let consoles = SystemConsoles {
             outlets: system,
@@ -130,7 +131,7 @@ impl<'c, S: TimedStream + Drop, F: Files + Locks + Net<Stream = S> + Devices + C
 
     /// All parts of a system, of which none tells what is asked of it. How one of them fails is remembered.
     pub fn watching(system: &'c F, witness: &'c Witness) -> WatchedSystem<'c, F>
-        ensures { result ≡ untold }
+        ensures { result.asked ≡ untold }
     {
         let consoles = SystemConsoles {
             outlets: Watched::new(system, witness),

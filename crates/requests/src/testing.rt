@@ -32,8 +32,8 @@ pub(crate) fn test_words<'a, K: Kinds, R: Read, W: Output, E: FaultOutput, T: Pr
     streams: &mut Streams<R, W, E>,
     terminal: Option<&T>,
 ) -> (System<K>, Result<Status, Failure<'a>>)
-    ensures ok { IfOk result.1 (AreWordsTested request.entry (moment system streams.old ⇒ moment result.0 streams.new)) }
-    ensures err { IfErr result.1 (AreWordsUntested request.entry (moment system streams.old ⇒ moment result.0 streams.new)) }
+    ensures ok { IfOk result.1 (AreWordsTested request.entry (moment K.Disk.holds system streams.old ⇒ moment K.Disk.holds result.0 streams.new)) }
+    ensures err { IfErr result.1 (AreWordsUntested request.entry (moment K.Disk.holds system streams.old ⇒ moment K.Disk.holds result.0 streams.new)) }
     ensures quiet { streams.new.err ≡ streams.old.err }
 {
     let System {

@@ -12,7 +12,7 @@ use crate::request_fault::RequestFault;
 use crate::system::{Kinds, System};
 use console_lines::Way;
 use endings::{Failure, FaultOutput, Output, Status, Streams};
-use machine_look::verify;
+use machine_look::{VerifyOptions, verify};
 use progress_display::KeptIn;
 use request_values::Look;
 use std::alloc::Global;
@@ -40,8 +40,8 @@ pub(crate) fn verify_tapes<'a, K: Kinds, R: Read, W: Output, E: FaultOutput, T: 
     terminal: Option<&T>,
 ) -> (System<K>, Result<Status, Failure<'a>>)
     requires { FitsInMemory R.row }
-    ensures ok { IfOk result.1 (AreVerified names.now look.entry (moment system streams.old ⇒ moment result.0 streams.new)) }
-    ensures err { IfErr result.1 (AreUnverified names.now look.entry (moment system streams.old ⇒ moment result.0 streams.new)) }
+    ensures ok { IfOk result.1 (AreVerified names.now look.entry (moment K.Disk.holds system streams.old ⇒ moment K.Disk.holds result.0 streams.new)) }
+    ensures err { IfErr result.1 (AreUnverified names.now look.entry (moment K.Disk.holds system streams.old ⇒ moment K.Disk.holds result.0 streams.new)) }
     ensures quiet { streams.new.err ≡ streams.old.err }
 {
     let plan = match plan_tapes(&mut system.inputs, alloc, names, streams) {
@@ -57,7 +57,11 @@ pub(crate) fn verify_tapes<'a, K: Kinds, R: Read, W: Output, E: FaultOutput, T: 
     let mut console = Way::to(look.line, look.quiet_ms, consoles);
     let out = &mut streams.out;
     let shown = onlooker(&clock, terminal, KeptIn::Nothing);
-    let verified = verify(alloc, &plan, look.patience, &mut console, out, &shown);
+    let options = VerifyOptions {
+        care: look.care,
+        patience: look.patience,
+    };
+    let verified = verify(alloc, &plan, options, &mut console, out, &shown);
     let system = System::new(inputs, disk, console.back(), clock);
     let outcome = match verified {
         Ok(end) => after_verify(end),

@@ -13,6 +13,9 @@ use std::io::Write;
 pub struct NotedOutput<W> {
     output: W,
     notes: ReportNotes,
+
+    // Whether the last line that was written has no end yet.
+    is_mid_line: bool,
 }
 
 impl<W> NotedOutput<W> {
@@ -24,7 +27,13 @@ impl<W> NotedOutput<W> {
         NotedOutput {
             output,
             notes: ReportNotes::new(),
+            is_mid_line: false,
         }
+    }
+
+    /// Whether the last line that was written has no end yet.
+    pub fn is_mid_line(&self) -> bool {
+        self.is_mid_line
     }
 
     /// What was noted.
@@ -47,6 +56,9 @@ impl<W: Write> Write for NotedOutput<W> {
         let answer = self.output.write(buf);
         if let Ok(count) = answer {
             self.notes.see(&buf[..count]);
+            if let Some(byte) = buf[..count].last() {
+                self.is_mid_line = *byte != b'\n';
+            }
         }
         answer
     }

@@ -1,5 +1,5 @@
 -- Looks in front of a life: what they leave is a line at which the life may begin.
-use Rattle.std.proofs.Common.{◌≡◌, ℕ, ◌+◌, ◌<◌, ◌≤◌, Bool, true, false, List, [], ◌∷◌, ◌++◌, length, get_or, inl, inr, refl, arith, ap, sym, subst, ◌∙◌, append-nil, append_assoc}
+use Rattle.std.proofs.Common.{◌≡◌, ℕ, ◌+◌, ◌<◌, ◌≤◌, Bool, true, false, List, [], ◌∷◌, ◌++◌, length, get_or, unwrap_or, inl, inr, refl, arith, ap, sym, subst, ◌∙◌, append-nil, append_assoc}
 use Rattle.std.specs.Prelude.{◌⊎◌, if◌then◌else◌, Contains, Ok, option_to_list}
 use Rattle.std.proofs.lemmas.List.Elements.{All-cons, All-nil, Contains-append_cases, Contains-append_left, Contains-append_right}
 use Rattle.tape_image.specs.Plan.{PlanValue, IsPlan}
@@ -11,7 +11,7 @@ use Rattle.odt_machine.specs.declared.mode.Mode.TheVariants.{Prompt, Number, Ope
 use Rattle.host_core.specs.declared.heard.Heard.{Heard}
 use Rattle.host_core.specs.declared.progress.Progress.{Progress}
 use Rattle.host_core.specs.Core.{begun, word_nr}
-use Rattle.line_world.specs.Invariant.{IsKept, RunsWith}
+use Rattle.line_world.specs.Invariant.{IsKept, RunsAt, RunsWith}
 use Rattle.line_world.specs.Lawful.{Lawful, LawfulBefore, TakesReturn, TakesSlash}
 use Rattle.line_world.specs.Safe.{FirstStand, OnlyImage}
 use Rattle.line_world.specs.Scene.{over}
@@ -34,17 +34,17 @@ use Rattle.load_lives.proofs.Chains.{Stood, Went, opens, trusted, went}
 use Rattle.load_lives.proofs.Records.{says_once, says_sound}
 use Rattle.load_lives.proofs.Renewals.{Rests, old_key, place, renewed}
 use Rattle.load_lives.proofs.Starting.{reopened_run}
-use Rattle.reading_core.specs.Reader.{Reader, begun as reader_begun}
+use Rattle.reading_core.specs.Reader.{Manner, Reader, begun as reader_begun, looks_twice}
 use Rattle.reading_core.specs.Laws.{led}
 use Rattle.reading_core.specs.ReadingTable.{ask}
-use Rattle.reading_core.proofs.Lives.{asked}
+use Rattle.reading_core.proofs.Lives.{led_addresses, led_manner}
 use Rattle.reading_core.proofs.Turns.{fresh_kept}
 use Rattle.looking_law.specs.Belief.{IsReadyMachine, dialogue}
 use Rattle.line_world.specs.Scene.{over as inquiring}
 use Rattle.looking_law.specs.RecordLook.{HasLooked}
 use Rattle.looking_law.specs.Runs.{AreHarmlessBefore, Look, MayBeSuchAHost, Run}
 use Rattle.looking_law.proofs.Believed.{dialogue_mirrored, stopped_with}
-use Rattle.looking_law.proofs.Mirrors.{IsMirrored, as_load}
+use Rattle.looking_law.proofs.Mirrors.{IsMirrored, as_load, once_kept}
 use Rattle.looking_law.proofs.Never.{Never, looked_never, never_ends, none_in}
 use Rattle.looking_law.proofs.Runs.{may_begin, others_follow}
 use Rattle.looking_law.proofs.Saying.{length_for, merged_for, nr_for, plan_for}
@@ -56,10 +56,10 @@ use Rattle.sample_looks.specs.LooksFirst.{AreLookingLives, IsLatestTrusted, IsLo
 
 -- what a key meets at this machine, by the plan that says what a memory holds at these addresses, or by another
 abbrev mirrored : List ℕ → Machine → List ℕ → Ground
-mirrored memory m addresses = record { machine = m; plan = plan_for memory addresses; going = false }
+mirrored memory m addresses = record { machine = m; plan = plan_for memory addresses; going = false; careful = false }
 
 abbrev planned : PlanValue → Machine → Ground
-planned plan m = record { machine = m; plan = plan; going = false }
+planned plan m = record { machine = m; plan = plan; going = false; careful = false }
 
 -- each address is one of a word that stands
 abbrev Covers : PlanValue → Machine → List ℕ → Type 0
@@ -113,10 +113,6 @@ record HasLeft (plan : PlanValue) (recorded : Progress) (before : Machine) (look
   pub rests : Rests plan recorded y
   pub never : Never (keys_of looks)
 
-led_addresses : (r : Reader) (things : List Heard) → (led r things).addresses ≡ r.addresses
-led_addresses r [] = refl
-led_addresses r (what ∷ things) = led_addresses (ask r what).next things ∙ (asked r what).addresses
-
 there_on : (plan : PlanValue) (m n : Machine) (i : ℕ) → n.memory ≡ m.memory → IsThere (place plan m i) → IsThere (place plan n i)
 there_on plan m n i same there =
     subst (λ memory. (is_word memory (word_nr plan.words i).address ≡ true) × (merged (word_nr plan.words i) (word_at memory (word_nr plan.words i).address) ≡ word_at memory (word_nr plan.words i).address)) (sym same) there
@@ -124,6 +120,14 @@ there_on plan m n i same there =
 stands_below : (going : Bool) (all verified j : ℕ) → going ≡ false → j < verified → j < (if going then all else verified)
 stands_below true all verified j e low = absurd (cc e)
 stands_below false all verified j e low = low
+
+-- no program runs, so none runs elsewhere
+still_at : (start : ℕ) (mode : Mode) → RunsWith false mode → RunsAt start mode
+still_at start Prompt still = tt
+still_at start (Number v n) still = tt
+still_at start (Opened a) still = tt
+still_at start (Typing a v n) still = tt
+still_at start (Running p) still = absurd (cc still)
 
 -- from a line at rest
 left_by : (plan : PlanValue) (recorded : Progress) (looks : List Item) (w y : Wire) → IsSound plan recorded → HasLooked plan recorded looks → Rests plan recorded w → Passes (resting w.machine w.up 0) looks y → HasLeft plan recorded w.machine looks y
@@ -138,25 +142,26 @@ left_by plan recorded looks w y sound h r passes =
     let k : IsMirrored w.machine.memory (inquiring last end) = dialogue_mirrored first h.heard w.machine w.up end reads may r.few whole.1 in
     let same : y.machine.memory ≡ w.machine.memory = k.same in
     let under_way : Lawful (mirrored w.machine.memory y.machine h.addresses) (y.down ++ whole.0) =
-    subst (λ addresses. Lawful (mirrored w.machine.memory y.machine addresses) (y.down ++ whole.0)) (led_addresses first h.heard) (old_key y.machine (as_load w.machine.memory (inquiring last end)).core (y.down ++ whole.0) y.up y.lost k.kept) in
+    subst (λ addresses. Lawful (mirrored w.machine.memory y.machine addresses) (y.down ++ whole.0)) (led_addresses first h.heard) (old_key y.machine (as_load w.machine.memory (inquiring last end)).core (y.down ++ whole.0) y.up (record { count = y.lost; hurt = false }) (once_kept w.machine.memory (inquiring last end) k (ap (λ (m : Manner). looks_twice m.care) (led_manner first h.heard)))) in
     let covers : Covers plan y.machine h.addresses = λ i low.
     let t = h.of_record i 0 low in
     (t.0, omega (arith, t.1, sound.within), t.2, there_on plan w.machine y.machine t.0 same (r.words t.0 (stands_below recorded.going (length plan.words) recorded.verified t.0 h.unmarked t.1))) in record {
       memory = same;
       rests = record {
-        machine = k.kept.machine;
-        one_way = way_before y.down whole.0 y.up k.kept.one_way;
-        few = k.kept.few;
+        machine = k.books.kept.machine;
+        one_way = way_before y.down whole.0 y.up k.books.kept.one_way;
+        few = k.books.kept.few;
         words = λ i below. there_on plan w.machine y.machine i same (r.words i below);
-        running = subst (λ g. RunsWith g y.machine.mode) (sym h.unmarked) k.kept.running;
-        key = subst (λ g. Lawful (record { machine = y.machine; plan = plan; going = g }) y.down) (sym h.unmarked)
+        running = subst (λ g. RunsWith g y.machine.mode) (sym h.unmarked) k.books.kept.running;
+        at_start = still_at (unwrap_or plan.start 0) y.machine.mode k.books.kept.running;
+        key = subst (λ g. Lawful (record { machine = y.machine; plan = plan; going = g; careful = false }) y.down) (sym h.unmarked)
             (key_on plan y.machine w.machine.memory h.addresses y.down whole.0 same covers under_way);
       };
       never = looked_never plan recorded looks h;
     }
 
 later_rests : (plan : PlanValue) (progress : Progress) (k : ℕ) (y : Wire) → Rests plan progress y → Rests plan progress (later k y)
-later_rests plan progress k y r = record { machine = r.machine; one_way = r.one_way; few = r.few; words = r.words; running = r.running; key = r.key }
+later_rests plan progress k y r = record { machine = r.machine; one_way = r.one_way; few = r.few; words = r.words; running = r.running; at_start = r.at_start; key = r.key }
 
 -- from any line on which no key is under way
 left : (plan : PlanValue) (recorded : Progress) (looks : List Item) (w z : Wire) → IsSound plan recorded → HasLooked plan recorded looks → Rests plan recorded w → w.down ≡ [] → Passes w looks z → HasLeft plan recorded w.machine looks z

@@ -8,7 +8,7 @@ use Rattle.host_devices.specs.declared.item.Item.{Item}
 use Rattle.host_devices.specs.Dialogue.{keys_of}
 use Rattle.reading_core.specs.declared.phase.End.TheVariants.{Complete}
 use Rattle.reading_core.specs.declared.phase.Phase.{Phase}
-use Rattle.reading_core.specs.declared.phase.Phase.TheVariants.{Settle, Sync, Address, Slash, Before, Value, Close, Ended as Over}
+use Rattle.reading_core.specs.declared.phase.Phase.TheVariants.{Settle, Sync, Address, Slash, Before, Value, Close, Refused, Ended as Over}
 use Rattle.reading_core.specs.declared.phase.End.TheVariants.{GaveUp, NoWord}
 use Rattle.reading_core.specs.Addresses.{addresses_of}
 use Rattle.reading_core.specs.Invariant.{Basis, IsReader, PhaseFits}
@@ -44,6 +44,7 @@ all_in Slash b fits is = absurd (cc is)
 all_in Before b fits is = absurd (cc is)
 all_in (Value value place) b fits is = absurd (cc is)
 all_in (Close place) b fits is = absurd (cc is)
+all_in (Refused place) b fits is = absurd (cc is)
 
 pub count_is : (samples : List WordValue) (last : Reader) → last.addresses ≡ addresses_of samples → length last.addresses ≡ length samples
 count_is samples last are = ap length are ∙ length-map samples (λ (w : WordValue). w.address)

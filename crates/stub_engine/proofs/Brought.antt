@@ -1,5 +1,5 @@
 -- One stub's part of a load, over its devices.
-use Rattle.std.proofs.Common.{◌≡◌, ℕ, ◌^◌, ◌<◌, ◌≤◌, false, length, List, Option, Some, None, refl, arith, sym, subst, ◌∙◌}
+use Rattle.std.proofs.Common.{◌≡◌, ℕ, Bool, true, ◌^◌, ◌<◌, ◌≤◌, false, length, List, Option, Some, None, refl, arith, sym, subst, ◌∙◌}
 use Rattle.tape_image.specs.Plan.{PlanValue}
 use Rattle.tape_image.specs.Word.{WordValue}
 use Rattle.host_core.specs.Core.{Core, begun}
@@ -31,6 +31,12 @@ use Rattle.stub_engine.proofs.Joins.{brought_join}
 use Rattle.stub_engine.proofs.Keepings.{kept_none, told_begins, told_of, told_then}
 use Rattle.stub_engine.proofs.Parts.{comes, exchanged, none_brought, one_more, unstarted}
 use Rattle.stub_engine.proofs.Stops.{is_some, keep_left, keep_unstarted, line_left, line_unstarted, started_counts, unplanned_whole, vain_left, vain_unstarted}
+use Rattle.host_core.specs.Bound.{largest_bound}
+
+-- of any host
+pub at_most : (careful : Bool) → largest_bound careful ≤ 193274789895
+at_most true = omega arith
+at_most false = omega arith
 
 -- nothing was given to a keeper that did not fail
 pub told_nothing : (fault : Option KeepFault) (kept : Option (List Kept)) (words : List WordValue) (from to : ℕ) → fault ≡ None → to ≤ from → IsToldBy (keeping (words_kept words from to) fault) kept kept
@@ -60,7 +66,7 @@ unplanned tape patience end tally at un within =
 
 -- a stub did not start
 pub not_started : (tape : PlanValue) (patience : ℕ) (old new : Tally) (stub : PlanValue) (chunks : List Chunk) (answer : Core × LoadStop) (why : Option StubsStop) (before after : LineTold) (kept : Option (List Kept)) → IsPlannedFor tape old.verified stub chunks → patience < 2 ^ 32 → old.in_vain < 3 → old.verified ≤ length tape.words → why ≡ why_unstarted answer.1 → (why ≡ None → ⊥)
-    → IsBringerDriven (begun stub 0 false patience) answer before after → answer.0.sent ≤ 98784878599 → new ≡ with_words (with_counts old answer.0.sent answer.0.spent) old.verified → IsNextStub (bringing tape patience (old, new) why) (devices before kept) (devices after kept)
+    → IsBringerDriven (begun stub 0 false patience) answer before after → answer.0.sent ≤ 193274789895 → new ≡ with_words (with_counts old answer.0.sent answer.0.spent) old.verified → IsNextStub (bringing tape patience (old, new) why) (devices before kept) (devices after kept)
 not_started tape patience old new stub chunks answer why before after kept planned patient few within is stops b sent tally =
     subst (λ why. IsNextStub (bringing tape patience (old, new) why) (devices before kept) (devices after kept)) (sym is)
     (subst (λ new. IsNextStub (bringing tape patience (old, new) (why_unstarted answer.1)) (devices before kept) (devices after kept)) (sym tally) (record {
@@ -82,7 +88,7 @@ not_started tape patience old new stub chunks answer why before after kept plann
 -- a stub started, and an exchange followed
 pub started : (tape : PlanValue) (patience : ℕ) (old new : Tally) (stub : PlanValue) (chunks : List Chunk) (answer : Core × LoadStop) (state : Exchange) (left : ExchangeStop) (why : Option StubsStop) (before between after : LineTold) (kept kept' : Option (List Kept)) → IsPlannedFor tape old.verified stub chunks → patience < 2 ^ 32 → old.in_vain < 3
     → why_unstarted answer.1 ≡ None → why ≡ why_left left → IsBringerDriven (begun stub 0 false patience) answer before between → IsCarriedOut most_turns (exchanging tape chunks (exchange_begun old.verified (duplex_behind old.in_vain), state) (Some left)) (devices between kept) (devices after kept')
-    → answer.0.sent ≤ 98784878599 → new ≡ with_words (with_counts (with_counts old answer.0.sent answer.0.spent) state.sent 0) state.verified → IsNextStub (bringing tape patience (old, new) why) (devices before kept) (devices after kept')
+    → answer.0.sent ≤ 193274789895 → new ≡ with_words (with_counts (with_counts old answer.0.sent answer.0.spent) state.sent 0) state.verified → IsNextStub (bringing tape patience (old, new) why) (devices before kept) (devices after kept')
 started tape patience old new stub chunks answer state left why before between after kept kept' planned patient few follows is b led sent tally =
     let far = comes tape old.verified (duplex_behind old.in_vain) stub chunks left state (devices between kept) (devices after kept') planned led in
     let here : between.failures ≡ before.failures = started_counts answer.1 before.failures between.failures follows b.driven.counted in

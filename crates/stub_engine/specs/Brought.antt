@@ -48,7 +48,7 @@ pub record IsNextStub (stubs : Bringing) (before after : Devices) : Type 0 where
   pub is_one : AreStubs stubs before after
   pub few_words : stubs.stop ≡ None → stubs.new.verified ≤ most_words
   pub one_more : stubs.stop ≡ None → IsOneMore stubs.old stubs.new
-  pub few_sent : stubs.new.sent ≤ stubs.old.sent + 2 ^ 37
+  pub few_sent : stubs.new.sent ≤ stubs.old.sent + 2 ^ 38
   pub few_spent : stubs.new.spent ≤ stubs.old.spent + 2 ^ 32
 
 -- all of a load, which send so little that a sum has room for it

@@ -15,5 +15,5 @@ mod seen;
 mod watched;
 
 pub use file::WatchedFile;
-pub use seen::{FRONT_LENGTH, Front, Witness};
+pub use seen::{END_LENGTH, End, FRONT_LENGTH, Front, Witness};
 pub use watched::Watched;

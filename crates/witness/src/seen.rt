@@ -10,8 +10,14 @@ pub const FRONT_LENGTH: usize = 4;
 /// The first bytes of a file, and 000 behind its end.
 pub type Front = [u8; FRONT_LENGTH];
 
+/// How many of the last bytes are kept that were read of a file.
+pub const END_LENGTH: usize = 6;
+
+/// The last bytes that were read of a file, and 000 before its beginning.
+pub type End = [u8; END_LENGTH];
+
 /// What was seen of a system: how it failed last, since it opened something, and with which bytes the file begins that was
-/// begun to be read last.
+/// begun to be read last, and which were read of it last.
 ///
 /// Nothing is kept of a failure that says no more than the program's own words do: that a name is taken already, that a
 /// call was interrupted, which is then made again, or that nothing has a name which was asked after before it is made.
@@ -22,6 +28,7 @@ pub struct Witness {
     // How a read failed first. A file that is read ahead is told of once its turn comes, when others were opened.
     unread: Cell<Option<io::Error>>,
     front: Cell<Front>,
+    end: Cell<End>,
 
     // Whether files may have been read ahead of their turn.
     is_ahead: Cell<bool>,
@@ -34,6 +41,7 @@ impl Witness {
             error: Cell::new(None),
             unread: Cell::new(None),
             front: Cell::new([0; FRONT_LENGTH]),
+            end: Cell::new([0; END_LENGTH]),
             is_ahead: Cell::new(false),
         }
     }
@@ -52,6 +60,15 @@ impl Witness {
             None
         } else {
             Some(self.front.get())
+        }
+    }
+
+    /// The last bytes that were read of the same file. None as for its first.
+    pub fn end(&self) -> Option<End> {
+        if self.is_ahead.get() {
+            None
+        } else {
+            Some(self.end.get())
         }
     }
 
@@ -117,6 +134,17 @@ impl Witness {
             *place = *byte;
         }
         self.front.set(front);
+        self.end.set([0; END_LENGTH]);
+    }
+
+    /// Keeps the last bytes of what was read.
+    pub(crate) fn see_end(&self, bytes: &[u8]) {
+        let mut end = self.end.get();
+        for byte in &bytes[bytes.len().saturating_sub(END_LENGTH)..] {
+            let [_, second, third, fourth, fifth, sixth] = end;
+            end = [second, third, fourth, fifth, sixth, *byte];
+        }
+        self.end.set(end);
     }
 
     // Keeps an error in place of the one before.

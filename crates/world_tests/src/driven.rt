@@ -6,6 +6,7 @@ mod peers;
 
 use crate::assertion::check_that;
 use crate::counting_onlooker::Watch;
+use crate::random::Random;
 use crate::tapes::{ONE_WORD, fresh_host};
 use honest_line::{Loss, MemoryLine};
 use host_core::{End, Heard, HostCore};

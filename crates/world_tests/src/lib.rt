@@ -4,14 +4,17 @@
 //! Contracts say what each of them does; here stands what no clause can say: that they succeed where
 //! memory is ample, also at the largest sizes, and that the tables and definitions mean what the
 //! pages in `docs/` say. The host hears characters that no console answers, and the engine is played
-//! beside peers that are no console. Loads in which a line loses characters, and lives of a host, are
-//! rehearsed from outside, in `tests/` at the top of the repository.
+//! beside peers that are no console, and a careful host at a line that changes characters. Loads in which
+//! a line loses characters, and lives of a host, are rehearsed from outside too, in `tests/` at the top of
+//! the repository.
 //!
 //! They stand in a crate of their own, since a crate with tests is proved twice.
 #![tactic(auto)]
 
 #[cfg(test)]
 mod assertion;
+#[cfg(test)]
+mod changes;
 #[cfg(test)]
 mod consoles;
 #[cfg(test)]
@@ -24,6 +27,8 @@ mod driven;
 mod host;
 #[cfg(test)]
 mod memory_line;
+#[cfg(test)]
+mod random;
 #[cfg(test)]
 mod readings;
 #[cfg(test)]

@@ -8,7 +8,7 @@ use honest_line::{Loss, MemoryLine};
 use host_devices::{Item, Line, LineFault, Onlooker, Unwatched};
 use looking_engine::{Stop, inquire, inquire_in_memory};
 use odt_machine::{Odt, Style};
-use reading_core::{End, ReadingCore};
+use reading_core::{Care, End, ReadingCore};
 use std::alloc::Global;
 use std::process::Abort;
 use tape_blocks::read_tape;
@@ -217,6 +217,38 @@ fn readings(rt: HostRuntime) {
     }
 }
 
+// How often each word is looked at, the keys, and why.
+const CARES: [(Care, usize, &str); 3] = [
+    (
+        Care::Once,
+        25,
+        "Z, and for each of three words its six digits, / and CR",
+    ),
+    (Care::Twice, 49, "the words twice as many"),
+    (
+        Care::TwiceWhereOther,
+        25,
+        "nothing is expected, so that no word is another",
+    ),
+];
+
+#[test]
+fn cares(rt: HostRuntime) {
+    for row in &CARES {
+        let (care, keys, reason) = *row;
+        let Ok(core) = ReadingCore::of_range(rt.alloc(), 0o1000, 0o1004, AMPLE.patience) else {
+            return check_that(&rt, false, "memory is ample");
+        };
+        let Some(line) = line_of(rt.alloc(), &AMPLE) else {
+            return check_that(&rt, false, "memory is ample");
+        };
+        let ((core, stop), _) = inquire_by_lending(core.with_care(care), line, AMPLE.turns);
+        check_that(&rt, stop == Stop::Ended(End::Complete), reason);
+        check_that(&rt, core.values() == VALUES.as_slice(), reason);
+        check_that(&rt, core.sent_count() == keys as u64, reason);
+    }
+}
+
 // Whether an onlooker is told of each step of a reading in this setting, also of one whose key is not sent; nothing
 // where memory for it is refused.
 fn is_told(alloc: Global, setting: &Setting, course: &Course) -> Option<bool> {
@@ -290,7 +322,7 @@ const NOTHING: [u8; 7] = [0x01, 0x00, 0x06, 0x00, 0x01, 0x00, 0xF8];
 fn reads_tape(alloc: Global, tape: &[u8]) -> Option<ReadingCore> {
     let (tape, _) = read_tape(alloc, tape).ok()?;
     let plan = Plan::of(alloc, &tape).ok()?;
-    ReadingCore::of_plan(alloc, &plan, 8).ok()
+    ReadingCore::of_plan(alloc, &plan, Care::TwiceWhereOther, 8).ok()
 }
 
 #[test]

@@ -6,8 +6,8 @@ ghost use Rattle.host_core.specs.Life.{core_of};
 ghost use Rattle.host_core.specs.PhaseTable.{next_word, taken, turn_of};
 
 use super::HostCore;
-use crate::answers::{digit, reading_rest, reading_start, resynchronise_reply, return_reply};
-use crate::console::{CARRIAGE_RETURN, GO, RESYNCHRONISE};
+use crate::answers::{digit, reading_rest, reading_start, refusal_reply, return_reply};
+use crate::console::{CARRIAGE_RETURN, GO};
 use crate::heard::Heard;
 use crate::life::LifeStep;
 use crate::phase::{End, Phase, Reason, Visit};
@@ -22,12 +22,12 @@ impl HostCore {
     {
         match heard {
             Heard::Got(c) => self.hears(c),
-            Heard::Quiet => table::quiet(self.life.phase),
+            Heard::Quiet => table::quiet(self.careful, self.life.phase),
         }
     }
 
-    // The word under way.
-    fn word(&self) -> Word
+    /// The word under way.
+    pub(super) fn word(&self) -> Word
         requires { HasWord (basis_of self.now) }
         ensures { result ≡ word_under_way self.now }
     {
@@ -38,16 +38,19 @@ impl HostCore {
     fn hears(&self, c: u8) -> Turn
         ensures { result ≡ turn_of self.now (Got c) }
     {
+        let careful = self.careful;
         match self.life.phase {
             Phase::Settle => Turn::Listen(Phase::Settle),
-            Phase::Sync(place) => table::synced(resynchronise_reply(place, c)),
+            Phase::Sync(place) => {
+                table::synced(refusal_reply(table::resynchronise(careful), place, c))
+            }
             Phase::Address(visit, place) => table::address(self.word().address(), visit, place, c),
             Phase::Slash(visit) => table::slash(visit, c),
-            Phase::Before(visit) => table::reads(self.word(), visit, reading_start(c)),
+            Phase::Before(visit) => table::reads(careful, self.word(), visit, reading_start(c)),
             Phase::Value(visit, value, place) => {
-                table::reads(self.word(), visit, reading_rest(value, place, c))
+                table::reads(careful, self.word(), visit, reading_rest(value, place, c))
             }
-            Phase::Deposit(value, place) => table::deposit(value, place, c),
+            Phase::Deposit(deposit, value, place) => table::deposit(deposit, value, place, c),
             Phase::Return(reason, place) => table::after_return(reason, return_reply(place, c)),
             Phase::Start(place) => table::start(self.start(), place, c),
             Phase::Go => table::go(c),
@@ -55,8 +58,8 @@ impl HostCore {
         }
     }
 
-    // The start address: phase Start has one.
-    fn start(&self) -> u16
+    /// The start address: phase Start has one.
+    pub(super) fn start(&self) -> u16
         ensures { result ≡ start_of self.now }
     {
         self.plan.start().unwrap_or(0)
@@ -65,7 +68,7 @@ impl HostCore {
     /// What the turn does to the life, and the character that it sends.
     pub(super) fn taken(&self, turn: Turn) -> LifeStep
         requires { IsHost (taken self.now turn).next }
-        ensures next { core_of self.now.plan self.now.patience result.life ≡ (taken self.now turn).next }
+        ensures next { core_of self.now.careful self.now.plan self.now.patience result.life ≡ (taken self.now turn).next }
         ensures key { result.key ≡ (taken self.now turn).key }
     {
         let life = self.life;
@@ -75,17 +78,16 @@ impl HostCore {
             Turn::Verified => life
                 .with_word()
                 .sends(CARRIAGE_RETURN, Phase::Return(Reason::Close, 0)),
-            Turn::ReadBack => life.sends(
-                digit(self.word().address(), 1),
-                Phase::Address(Visit::Check, 1),
-            ),
+            Turn::Revisit(visit) => {
+                life.sends(digit(self.word().address(), 1), Phase::Address(visit, 1))
+            }
             Turn::Next => self.next_word(),
             Turn::Mark => life.with_mark().sends(GO, Phase::Go),
             Turn::Stop(end) => life.listens(Phase::Ended(end)),
             Turn::Stray if life.spent < self.patience => life.with_mishap().listens(Phase::Settle),
             Turn::Timeout if life.spent < self.patience => life
                 .with_mishap()
-                .sends(RESYNCHRONISE, Phase::Sync(0)),
+                .sends(table::resynchronise(self.careful), Phase::Sync(0)),
             Turn::Stray | Turn::Timeout => life.listens(Phase::Ended(End::GaveUp)),
         }
     }
@@ -93,7 +95,7 @@ impl HostCore {
     // The next word, or the start, or nothing more.
     fn next_word(&self) -> LifeStep
         requires { self.now.sent + 1 < 2 ^ 64 }
-        ensures next { core_of self.now.plan self.now.patience result.life ≡ (next_word self.now).next }
+        ensures next { core_of self.now.careful self.now.plan self.now.patience result.life ≡ (next_word self.now).next }
         ensures key { result.key ≡ (next_word self.now).key }
     {
         if (self.life.progress.verified as usize) < self.plan.words().len() {

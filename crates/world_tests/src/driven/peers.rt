@@ -53,20 +53,6 @@ impl Tally {
     }
 }
 
-// Numbers that look random.
-#[derive(Clone, Copy)]
-struct Random(u64);
-
-impl Random {
-    fn next(&mut self) -> u64 {
-        self.0 = self
-            .0
-            .wrapping_mul(6364136223846793005)
-            .wrapping_add(1442695040888963407);
-        self.0 / (1 << 33)
-    }
-}
-
 // A line to a peer that is no console.
 #[derive(Drop)]
 struct Peer {

@@ -1,4 +1,4 @@
-use Rattle.std.proofs.Common.{◌≡◌, ◌∙◌, inl, inr, refl, sym, subst, ap}
+use Rattle.std.proofs.Common.{◌≡◌, ◌∙◌, ℕ, List, Option, inl, inr, refl, sym, subst, ap}
 use Rattle.endings.specs.FaultOutput.{StandardError}
 use Rattle.endings.specs.Failure.{IsPrinted, status_of}
 use Rattle.endings.specs.Held.{Held}
@@ -12,7 +12,7 @@ use Rattle.request_values.specs.declared.request.Request.{Request}
 use Rattle.request_values.specs.declared.request.Request.TheVariants.{Tape}
 use Rattle.request_values.specs.declared.request.PrintRequest.TheVariants.{CheckInput}
 use Rattle.request_values.specs.declared.request.TapeRequest.TheVariants.{Print}
-use Rattle.requests.specs.Asked.{SystemAsked}
+use Rattle.requests.specs.Asked.{SystemTold}
 use Rattle.requests.specs.Attempt.{IsAttempted}
 use Rattle.requests.specs.Moment.{moment}
 use Rattle.ldaodt.specs.Answer.{IsLoggedIf, IsMisplaced}
@@ -29,18 +29,18 @@ checks_input : (wanted : Wanted) → wanted ≡ unlogged (Tape (Print CheckInput
 checks_input wanted is = ap (λ w. w.request) is
 
 -- a name that is out of place was told of
-printed_misplaced : (request : Request) (asked : SystemAsked) (held : Held) (err : StandardError) (failure : Failure) (ended : Status) → IsOfPlace (names_at request) failure
-    → IsPrinted held.err err failure → ended ≡ status_of failure → IsMisplaced request (moment asked held) (moment asked (record held { err = err })) ended
-printed_misplaced request asked held err (Misplaced name place) ended of_place told is =
+printed_misplaced : {D : Type 0} (holds : D → List ℕ → Option (List ℕ)) (request : Request) (asked : SystemTold D) (held : Held) (err : StandardError) (failure : Failure) (ended : Status) → IsOfPlace (names_at request) failure
+    → IsPrinted held.err err failure → ended ≡ status_of failure → IsMisplaced request (moment holds asked held) (moment holds asked (record held { err = err })) ended
+printed_misplaced holds request asked held err (Misplaced name place) ended of_place told is =
     record { name = name; place = place; own = of_place; told = told; quiet = refl; status_is = is }
-printed_misplaced request asked held err _ ended of_place told is = absurd of_place
+printed_misplaced holds request asked held err _ ended of_place told is = absurd of_place
 
 pub returns-after-misplaced-clause-checked : goal.returns-after-misplaced-clause-checked
 returns-after-misplaced-clause-checked g c no_words =
     let wanted = c.in-Ok.wanted in
     let status = c.match-misplaced.system.1 in
     let is : wanted ≡ unlogged (Tape (Print CheckInput)) = cc (c.in-Ok.ensures.none no_words) in
-    let attempted : IsAttempted wanted.request (moment c.args.system c.args.streams.now ⇒ moment c.match-misplaced.system.0 c.match-misplaced.streams) status =
+    let attempted : IsAttempted wanted.request (moment g.K.Disk.Disk.holds c.args.system c.args.streams.now ⇒ moment g.K.Disk.Disk.holds c.match-misplaced.system.0 c.match-misplaced.streams) status =
     elim c.match-misplaced.branch [
       | in-Some w ↦ absurd (cc (sym w.in-Some.is ∙ c.misplaced.ensures.checked (checks_input wanted is)))
       | in-None w ↦ rw (w.system-is, w.streams-is) w.attempt.ensures
@@ -59,7 +59,7 @@ returns-after-misplaced-clause-answered g c = (
     between = c.match-misplaced.streams;
     tried = elim c.match-misplaced.branch [
       | in-Some w ↦ rw (w.system-is, w.streams-is, ← w.streams.view_is)
-          (inr (printed_misplaced c.in-Ok.wanted.request _ _ _ w.in-Some.failure w.print_failure.result w.in-Some.ensures.misplaced w.print_failure.ensures.printed w.print_failure.ensures.status))
+          (inr (printed_misplaced g.K.Disk.Disk.holds c.in-Ok.wanted.request _ _ _ w.in-Some.failure w.print_failure.result w.in-Some.ensures.misplaced w.print_failure.ensures.printed w.print_failure.ensures.status))
       | in-None w ↦ rw (w.system-is, w.streams-is) (inl w.attempt.ensures)
     ];
     logged = c.log_if_wanted.ensures;

@@ -1,18 +1,17 @@
-use Rattle.std.specs.Prelude.{option_map}
 use Rattle.std.proofs.lemmas.Result.{IfOk-weaker, IfErr-weaker}
-use Rattle.record_file.specs.Known.{known_of}
+use Rattle.machine_load.proofs.Driving.{load_reported, load_unreported}
 use Rattle.simulated_system.specs.ToldSteps.{steps_of, written_to}
 use Rattle.load_tests.specs.Told.{record_told}
 use Rattle.load_tests.proofs.disk_loads.load_on_disk.Goals as goal
 
-pub returns-clause-disk : goal.returns-clause-disk
-returns-clause-disk g c =
+pub returns-clause-ok : goal.returns-clause-ok
+returns-clause-ok g c =
     let last = c.load-outcome.new.around.records in
     IfOk-weaker c.load-outcome.result _ _
-    (λ outcome loaded. (record_told (steps_of last.disk.asked) last.name.now (option_map (known_of written_to) last.held), loaded.disk, c.close.ensures.asked)) c.load-outcome.ensures.ok
+    (λ outcome loaded. (record_told written_to (steps_of last.disk.asked) last.name.now last.held, (load_reported _ _ _ outcome loaded).reported, c.close.ensures.asked)) c.load-outcome.ensures.ok
 
-pub returns-clause-disk_in_vain : goal.returns-clause-disk_in_vain
-returns-clause-disk_in_vain g c =
+pub returns-clause-err : goal.returns-clause-err
+returns-clause-err g c =
     let last = c.load-outcome.new.around.records in
     IfErr-weaker c.load-outcome.result _ _
-    (λ fault why. (record_told (steps_of last.disk.asked) last.name.now (option_map (known_of written_to) last.held), why.disk, c.close.ensures.asked)) c.load-outcome.ensures.err
+    (λ fault why. (record_told written_to (steps_of last.disk.asked) last.name.now last.held, (load_unreported _ _ _ fault why).fault, c.close.ensures.asked)) c.load-outcome.ensures.err

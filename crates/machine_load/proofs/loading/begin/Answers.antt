@@ -2,9 +2,8 @@ use Rattle.std.proofs.Common.{refl, sym, subst, ◌∙◌, inr, [], ◌∷◌}
 use Rattle.host_devices.specs.Devices.{line_told}
 use Rattle.host_devices.specs.Told.{Gains}
 use Rattle.machine_load.specs.Scene.{around_of}
-use Rattle.machine_load.proofs.Faults.{all_stand, behind_looks_fault, looked_first}
-use Rattle.machine_load.proofs.OnDisk.{not_begun_by}
-use Rattle.machine_load.specs.RecordDisk.{DiskAsked, IsBegunOn, IsNotBegunOn, begun_text}
+use Rattle.machine_load.proofs.Faults.{all_stand, behind_looks_fault, looked_first, same_text}
+use Rattle.machine_load.specs.RecordDisk.{DiskAsked, IsNotBegunOn, begun_text}
 use Rattle.machine_load.proofs.loading.begin.Goals as goal
 
 pub returns-in-Some-hindrance-clause-begun : goal.returns-in-Some-hindrance-clause-begun
@@ -14,6 +13,7 @@ returns-in-Some-hindrance-clause-begun g c = λ fast. inr (record {
     goes_on = sym c.end.ensures ∙ c.in_default.is;
     connected = c.in_ok-line.ensures.step;
     record_same = c.connect.ensures.same;
+    disk_same = c.connect.ensures.disk;
     line = line_told g.S.Line.Line c.in_ok-line.line;
     fresh = c.in_ok-line.ensures.fresh;
     looks = c.look-looks.result;
@@ -35,6 +35,7 @@ returns-in-Ok-clause-begun g c = λ fast. record {
     goes_on = sym c.end.ensures ∙ c.in_default.is;
     connected = c.in_ok-line.ensures.step;
     record_same = c.connect.ensures.same;
+    disk_same = c.connect.ensures.disk;
     line = line_told g.S.Line.Line c.in_ok-line.line;
     fresh = c.in_ok-line.ensures.fresh;
     looks = c.look-looks.result;
@@ -46,6 +47,7 @@ returns-in-Ok-clause-begun g c = λ fast. record {
   first_is = c.behind-first.ensures;
   line_is = refl;
   record_begun = c.in-Ok.ensures.step;
+  begun_there = rw (c.plan-2.ensures, c.verified-2.ensures.value) at c.in-Ok.ensures.disk;
   begun_so = rw (c.plan-2.ensures, c.verified-2.ensures.value) at c.in-Ok.ensures.keeper;
 }
 
@@ -60,14 +62,8 @@ returns-clause-fault g c = rw (c.from.ensures) (behind_looks_fault c.args.first 
       all_stand = all_stand _ _ _ _ c.look-looks.ensures.found (sym c.hindrance.ensures ∙ c.in_default-hindrance.is);
       given = subst (λ lines. Gains lines (g.S.Surroundings.lines c.let_go.new.self) (line_told g.S.Line.Line c.look-looks.new.line ∷ []))
           (c.in-Err.ensures.lines ∙ c.in_ok-line.ensures.lines) c.let_go.ensures.lines;
-    }))
-
-pub returns-in-Ok-clause-disk : goal.returns-in-Ok-clause-disk
-returns-in-Ok-clause-disk g c =
-    subst (λ disk. DiskAsked disk (g.S.Surroundings.disk c.begin_record.new.self) (IsBegunOn (begun_text c.behind-first.result.plan c.behind-first.result.verified)))
-    c.connect.ensures.disk (rw (c.plan-2.ensures, c.verified-2.ensures.value) at c.in-Ok.ensures.disk)
-
-pub returns-clause-disk_in_vain : goal.returns-clause-disk_in_vain
-returns-clause-disk_in_vain g c = rw (c.from.ensures, c.let_go.ensures.disk) (not_begun_by _ _ _ _ c.in-Err.ensures.fault
-    (subst (λ disk. DiskAsked disk (g.S.Surroundings.disk c.begin_record.new.self) (IsNotBegunOn (begun_text c.plan-2.result.now c.verified-2.result)))
-    c.connect.ensures.disk c.in-Err.ensures.disk))
+    })
+    (subst (λ text. DiskAsked (g.S.Surroundings.disk c.args.around.now) (g.S.Surroundings.disk c.let_go.new.self) (IsNotBegunOn text))
+    (same_text c.args.first c.behind-first.result c.look-looks.result c.behind-first.ensures (all_stand _ _ _ _ c.look-looks.ensures.found (sym c.hindrance.ensures ∙ c.in_default-hindrance.is)))
+    (subst (λ disk. DiskAsked disk (g.S.Surroundings.disk c.let_go.new.self) (IsNotBegunOn (begun_text c.behind-first.result.plan c.behind-first.result.verified))) c.connect.ensures.disk
+    (rw (c.let_go.ensures.disk) (rw (c.plan-2.ensures, c.verified-2.ensures.value) at c.in-Err.ensures.disk)))))

@@ -2,19 +2,34 @@ use Rattle.std.proofs.Common.{◌∙◌, refl, rules, subst, sym}
 use Rattle.host_devices.specs.Devices.{devices_of, line_told}
 use Rattle.engine.specs.Keeping.{progress_calls}
 use Rattle.machine_load.specs.Asked.{opened_as, task, ◌⇒◌}
-use Rattle.machine_load.specs.Beginning.{IsBeginning, IsBeginningOn, SendsFew, asked_to_begin}
+use Rattle.machine_load.specs.Beginning.{IsBeginning, SendsFew, asked_to_begin}
+use Rattle.machine_load.specs.Called.{IsAskedBefore}
 use Rattle.machine_load.specs.Driving.{IsDrivenOn}
 use Rattle.machine_load.specs.LoadFault.{IsBeginningFault, IsLoadFault, gone}
 use Rattle.machine_load.specs.Parts.{IsDrivenBehind, IsKeptBehind, course, held}
-use Rattle.machine_load.specs.RecordDisk.{DiskAsked, disk_asked_before}
 use Rattle.machine_load.specs.Scene.{around_of, gone_of, keeper_of, scene, tells_of}
 use Rattle.host_devices.specs.Told.{Gains}
 use Rattle.machine_load.proofs.Driving.{free, hindered}
-use Rattle.machine_load.proofs.Faults.{of_beginning, error_is, not_loaded}
-use Rattle.machine_load.proofs.OnDisk.{not_begun_on}
+use Rattle.machine_load.proofs.Faults.{asked_unopened, error_is, not_loaded, of_beginning, of_opening}
 use Rattle.machine_load.proofs.Loads.{answered, answered_in_vain, driven, over}
 use Rattle.machine_load.proofs.loading.load.Goals as goal
 use Rattle.machine_load.proofs.loading.load.Goals.{in-Some, in-None}
+
+pub returns-in_err-first-clause-err : goal.returns-in_err-first-clause-err
+returns-in_err-first-clause-err g c =
+    let keeper = keeper_of g.S.Surroundings g.S.Keeper.Keep in
+    let asked = task c.args.plan c.args.options in
+    let before = scene g.S.Surroundings g.W.Write c.args.around.now c.args.out.now in
+    let after = scene g.S.Surroundings g.W.Write c.first_life.new.around c.args.out.now in
+    not_loaded c.from_residual.result keeper asked before after
+    (error_is c.from_residual.result c.in_err-first.field-0.0
+    (IsLoadFault (IsDrivenOn keeper) asked (before.setting ⇒ after.setting))
+    c.from_residual.ensures.1
+    (of_opening (IsDrivenOn keeper) asked before.setting.around after.setting.around _ _ _ c.in_err-first.field-0.0 c.in_err-first.ensures.fault
+    c.first_life.ensures.same c.first_life.ensures.lines))
+    (error_is c.from_residual.result c.in_err-first.field-0.0 (IsAskedBefore before.call before.asked after.asked) c.from_residual.ensures.1
+    (asked_unopened c.args.plan before.setting.around after.setting.around c.in_err-first.field-0.0 before.call before.asked after.asked c.in_err-first.ensures.fault
+    c.first_life.ensures.asked))
 
 pub returns-in_err-lived-clause-err : goal.returns-in_err-lived-clause-err
 returns-in_err-lived-clause-err g c =
@@ -31,10 +46,6 @@ returns-in_err-lived-clause-err g c =
     (subst (λ lines. IsBeginningFault c.in_ok-first.writable c.in_ok-first.first (gone (around_of g.S.Surroundings c.first_life.new.around) lines ⇒ gone_of g.S.Surroundings c.begin.new.around) c.in_err-lived.field-0.0)
     c.first_life.ensures.lines c.in_err-lived.ensures.fault)))
     (search rules)
-    (error_is c.from_residual-in_err-lived.result c.in_err-lived.field-0.0
-    (λ fault. DiskAsked (g.S.Surroundings.disk c.args.around.now) (g.S.Surroundings.disk c.begin.new.around) (disk_asked_before fault))
-    c.from_residual-in_err-lived.ensures.1
-    (not_begun_on _ (g.S.Surroundings.disk c.first_life.new.around) _ c.in_err-lived.field-0.0 c.in_ok-first.ensures.disk c.in_err-lived.ensures.disk_in_vain))
 
 pub report-requires : goal.report-requires
 report-requires g c = record { few = subst SendsFew c.in-Over.is c.in_ok-lived.ensures.few }
@@ -54,13 +65,11 @@ returns-in-Over g c =
       lines = c.first_life.ensures.lines;
       asked = c.first_life.ensures.asked;
       call = c.first_life.ensures.call;
-      disk = c.in_ok-first.ensures.disk;
     })
     c.in-Over.lived
     (subst (IsBeginning tells life (opened.setting.around ⇒ between.setting.around)) c.in-Over.is (c.in_ok-lived.ensures.begun c.args.options.fast))
     c.in_ok-lived.ensures.lines
-    (subst (λ beginning. Gains opened.asked between.asked (asked_to_begin opened.call beginning)) c.in-Over.is c.in_ok-lived.ensures.asked)
-    (subst (IsBeginningOn opened.disk between.disk) c.in-Over.is c.in_ok-lived.ensures.disk) in
+    (subst (λ beginning. Gains opened.asked between.asked (asked_to_begin opened.call beginning)) c.in-Over.is c.in_ok-lived.ensures.asked) in
     record {
       ok = answered tells asked before between after c.in-Over.lived is refl c.report.result c.report.ensures.ok;
       err = answered_in_vain tells asked before between after c.in-Over.lived is refl c.report.result c.report.ensures.err;
@@ -94,7 +103,6 @@ returns g c =
       lines = c.first_life.ensures.lines;
       asked = c.first_life.ensures.asked;
       call = c.first_life.ensures.call;
-      disk = c.in_ok-first.ensures.disk;
     })
     c.in-Begun.begun begun stubs answer.0 answer.1 c.match-hindrance.line c.match-hindrance.keeper
     (subst (IsBeginning tells life (opened.setting.around ⇒ begun.setting.around)) c.in-Begun.is (c.in_ok-lived.ensures.begun c.args.options.fast))
@@ -105,9 +113,8 @@ returns g c =
       stubs_kept = c.bring_stubs-stubs.ensures.kept;
       host_kept = host.1;
     })
-    c.end_record.ensures.step c.end_record.ensures.text (c.end_record.ensures.lines ∙ c.in_ok-lived.ensures.lines)
-    (rw (sym c.end_record.ensures.asked) at (subst (λ beginning. Gains opened.asked begun.asked (asked_to_begin opened.call beginning)) c.in-Begun.is c.in_ok-lived.ensures.asked))
-    (rw (sym c.end_record.ensures.disk) at (subst (IsBeginningOn opened.disk begun.disk) c.in-Begun.is c.in_ok-lived.ensures.disk)) in
+    c.end_record.ensures.step c.end_record.ensures.text c.end_record.ensures.disk (c.end_record.ensures.lines ∙ c.in_ok-lived.ensures.lines)
+    (rw (sym c.end_record.ensures.asked) at (subst (λ beginning. Gains opened.asked begun.asked (asked_to_begin opened.call beginning)) c.in-Begun.is c.in_ok-lived.ensures.asked)) in
     record {
       ok = answered tells asked before between after _ is refl c.report-2.result c.report-2.ensures.ok;
       err = answered_in_vain tells asked before between after _ is refl c.report-2.result c.report-2.ensures.err;

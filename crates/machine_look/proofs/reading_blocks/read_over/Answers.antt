@@ -8,7 +8,7 @@ use Rattle.host_devices.specs.Failures.{CountsFault}
 use Rattle.host_devices.specs.Told.{Gains}
 use Rattle.host_devices.proofs.Told.{gains_join}
 use Rattle.reading_core.specs.Addresses.{AreAddresses}
-use Rattle.reading_core.specs.Reader.{Reader, begun, ended}
+use Rattle.reading_core.specs.Reader.{Manner, Reader, begun_in, ended, manner_of}
 use Rattle.reading_core.specs.declared.phase.End.TheVariants.{Complete}
 use Rattle.reading_core.proofs.Asking.{length_from}
 use Rattle.looking_engine.specs.Stopping.{LookStop, TellsEnd, line_fault}
@@ -22,7 +22,7 @@ use Rattle.tape_shelf.specs.SavedSteps.{adds, full, not_all_added}
 use Rattle.tape_shelf.specs.ShelfAt.{shelf_at}
 use Rattle.tape_shelf.specs.ShelfTold.{AreDone}
 use Rattle.machine_look.specs.Adding.{AddsAll}
-use Rattle.machine_look.specs.Behind.{IsRead, Saving, addresses_behind}
+use Rattle.machine_look.specs.Behind.{IsRead, Saving, addresses_behind, begun_behind}
 use Rattle.machine_look.specs.Save.{save_at}
 use Rattle.machine_look.proofs.Courses.{are_looked_at, held_up, is_read}
 use Rattle.machine_look.proofs.Looks.{given_back}
@@ -51,7 +51,7 @@ returns-then-not-all_stand-clause-course g c =
 
 pub read_behind-core-requires-clause-below : goal.read_behind-core-requires-clause-below
 read_behind-core-requires-clause-below g c =
-    let there : c.in_room-core.result.addresses ≡ c.args.hosts.addresses.items = ap (λ (r : Reader). r.addresses) c.in_room-core.ensures.begun in
+    let there : c.with_care-core.result.addresses ≡ c.args.hosts.addresses.items = ap (λ (r : Reader). r.addresses) c.with_care-core.ensures.begun ∙ ap (λ (r : Reader). r.addresses) c.in_room-core.ensures.begun in
     let fill = c.requires.fill.within in
     omega (arith, c.from.ensures.value, ap length there, ap length c.requires.hosts.addresses, length_from (c.args.options.range.from + 2 * length c.args.found.now) (words_in c.args.options.range - length c.args.found.now), c.words_of.ensures.below, c.words_of.ensures.words, fill)
 
@@ -78,12 +78,15 @@ returns-in-Some-clause-course g c =
     let stop_is : looked.result.stop ≡ Ended Complete = (subst (λ f. IsFound samples looked.result.reader.values looked.result.stop f) all seen).0 in
     let s = are_looked_at samples options.patience c.args.hosts.looker looked.result line mid hosts.looker inquired.turns.session inquired.turns.end seen
     (subst (λ (list : List WordValue). looked.result.reader.sent ≤ reading_bound (length list) c.args.hosts.looker.patience) c.deref.ensures.value looked.ensures.bound) inquired.same_patience inquired.kept in
-    let begins : c.in_room-core.result ≡ begun (addresses_behind options.range found) [] (options.patience - looked.result.reader.spent) =
-    c.in_room-core.ensures.begun ∙ (ap (λ (list : List ℕ). begun list [] (options.patience - c.spent.result)) hosts.addresses ∙ ap (λ n. begun (addresses_behind options.range found) [] (options.patience - n)) c.spent.ensures.value) in
+    let manner : Manner = manner_of options.care [] in
+    let begins : c.with_care-core.result ≡ begun_behind saving looked.result.reader =
+    c.with_care-core.ensures.begun
+    ∙ (ap (λ (r : Reader). begun_in manner r.addresses [] r.patience) c.in_room-core.ensures.begun
+    ∙ (ap (λ (list : List ℕ). begun_in manner list [] (options.patience - c.spent.result)) hosts.addresses ∙ ap (λ n. begun_in manner (addresses_behind options.range found) [] (options.patience - n)) c.spent.ensures.value)) in
     let none : g.R.Line.Line.fault_count looked.new.line ≡ g.R.Line.Line.fault_count c.in_ok-line.line =
     subst (λ (t : LookStop). CountsFault (line_fault (Some t)) (g.R.Line.Line.fault_count c.in_ok-line.line) (g.R.Line.Line.fault_count looked.new.line)) stop_is inquired.turns.counted in
     let console : Change ConsoleTold = (save_at g.S.Shelf g.R.Reach c.args.shelf.now c.args.console.now).console ⇒ (save_at g.S.Shelf g.R.Reach read.new.shelf c.let_go-2.new.self).console in
-    let is_it = is_read saving console looked.result read.result.0 c.in_room-core.result read.result.1 samples
+    let is_it = is_read saving console looked.result read.result.0 c.with_care-core.result read.result.1 samples
     inquired.turns.session.said mid line' c.words_of.ensures.in_order c.requires.begins c.requires.fill
     (subst AreAddresses hosts.addresses hosts.asked) hosts.of_found all s inquired.kept (let long = hosts.looks.long in omega (arith, long, whose)) begins
     i.turns.session i.same_addresses i.same_patience i.bound i.kept
@@ -124,12 +127,15 @@ returns-clause-fault g c =
     let stop_is : looked.result.stop ≡ Ended Complete = (subst (λ f. IsFound samples looked.result.reader.values looked.result.stop f) all seen).0 in
     let s = are_looked_at samples options.patience c.args.hosts.looker looked.result line mid hosts.looker inquired.turns.session inquired.turns.end seen
     (subst (λ (list : List WordValue). looked.result.reader.sent ≤ reading_bound (length list) c.args.hosts.looker.patience) c.deref.ensures.value looked.ensures.bound) inquired.same_patience inquired.kept in
-    let begins : c.in_room-core.result ≡ begun (addresses_behind options.range found) [] (options.patience - looked.result.reader.spent) =
-    c.in_room-core.ensures.begun ∙ (ap (λ (list : List ℕ). begun list [] (options.patience - c.spent.result)) hosts.addresses ∙ ap (λ n. begun (addresses_behind options.range found) [] (options.patience - n)) c.spent.ensures.value) in
+    let manner : Manner = manner_of options.care [] in
+    let begins : c.with_care-core.result ≡ begun_behind saving looked.result.reader =
+    c.with_care-core.ensures.begun
+    ∙ (ap (λ (r : Reader). begun_in manner r.addresses [] r.patience) c.in_room-core.ensures.begun
+    ∙ (ap (λ (list : List ℕ). begun_in manner list [] (options.patience - c.spent.result)) hosts.addresses ∙ ap (λ n. begun_in manner (addresses_behind options.range found) [] (options.patience - n)) c.spent.ensures.value)) in
     let none : g.R.Line.Line.fault_count looked.new.line ≡ g.R.Line.Line.fault_count c.in_ok-line.line =
     subst (λ (t : LookStop). CountsFault (line_fault (Some t)) (g.R.Line.Line.fault_count c.in_ok-line.line) (g.R.Line.Line.fault_count looked.new.line)) stop_is inquired.turns.counted in
     let console : Change ConsoleTold = (save_at g.S.Shelf g.R.Reach c.args.shelf.now c.args.console.now).console ⇒ (save_at g.S.Shelf g.R.Reach read.new.shelf c.let_go-2.new.self).console in
-    let is_it = is_read saving console looked.result read.result.0 c.in_room-core.result read.result.1 samples
+    let is_it = is_read saving console looked.result read.result.0 c.with_care-core.result read.result.1 samples
     inquired.turns.session.said mid line' c.words_of.ensures.in_order c.requires.begins c.requires.fill
     (subst AreAddresses hosts.addresses hosts.asked) hosts.of_found all s inquired.kept (let long = hosts.looks.long in omega (arith, long, whose)) begins
     i.turns.session i.same_addresses i.same_patience i.bound i.kept

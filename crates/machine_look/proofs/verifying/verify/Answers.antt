@@ -21,7 +21,7 @@ returns-in_err-core-clause-ok g c = no_value c.from_residual.result _ _ c.from_r
 pub returns-in_err-core-clause-err : goal.returns-in_err-core-clause-err
 returns-in_err-core-clause-err g c =
     error_is c.from_residual.result Memory
-    (IsVerifyFault c.args.plan.now c.args.patience (console_told g.R.Reach g.W.Write c.args.console.now c.args.out.now ⇒ console_told g.R.Reach g.W.Write c.args.console.now c.args.out.now))
+    (IsVerifyFault c.args.plan.now c.args.options (console_told g.R.Reach g.W.Write c.args.console.now c.args.out.now ⇒ console_told g.R.Reach g.W.Write c.args.console.now c.args.out.now))
     c.from_residual.ensures.1 (refl, refl, Keeps-refl (g.W.Write.contents c.args.out.now))
 
 pub returns-in_err-core-2-clause-ok : goal.returns-in_err-core-2-clause-ok
@@ -31,8 +31,8 @@ pub returns-in_err-core-2-clause-err : goal.returns-in_err-core-2-clause-err
 returns-in_err-core-2-clause-err g c =
     let before = console_told g.R.Reach g.W.Write c.args.console.now c.args.out.now in
     let after = console_told g.R.Reach g.W.Write c.compare_over.new.console c.compare_over.new.out in
-    error_is c.from_residual-in_err-core-2.result c.in_err-core-2.field-0.0 (IsVerifyFault c.args.plan.now c.args.patience (before ⇒ after)) c.from_residual-in_err-core-2.ensures.1
-    (compare_fault c.args.plan.now c.args.patience c.words-words.result.now c.in_ok-core.core (before ⇒ after) c.in_err-core-2.field-0.0 c.words-words.ensures.value c.in_ok-core.ensures.begun c.in_err-core-2.ensures.fault)
+    error_is c.from_residual-in_err-core-2.result c.in_err-core-2.field-0.0 (IsVerifyFault c.args.plan.now c.args.options (before ⇒ after)) c.from_residual-in_err-core-2.ensures.1
+    (compare_fault c.args.plan.now c.args.options c.words-words.result.now c.in_ok-core.core (before ⇒ after) c.in_err-core-2.field-0.0 c.words-words.ensures.value c.in_ok-core.ensures.begun c.in_err-core-2.ensures.fault)
 
 pub returns-in_err-write_and_flush-clause-ok : goal.returns-in_err-write_and_flush-clause-ok
 returns-in_err-write_and_flush-clause-ok g c = no_value c.from_residual-in_err-write_and_flush.result _ _ c.from_residual-in_err-write_and_flush.ensures.1
@@ -49,11 +49,11 @@ returns-in_err-write_and_flush-clause-err g c =
     let addresses = look.addresses ∙ ap (λ r. r.addresses) begun_is in
     let text = last_is plan.words c.words-words.result.now last c.values.result.now c.count_differences-differ.result stop c.deref.result.now c.words-words.ensures.value c.values.ensures.value addresses c.count_differences-differ.ensures
     (c.deref.ensures.0 ∙ c.last_lines.ensures) in
-    let verified = verified_of plan c.args.patience before after c.in_ok-core.core last stop _ begun_is look c.in_ok-core-2.ensures.asked refl in
+    let verified = verified_of plan c.args.options before after c.in_ok-core.core last stop _ begun_is look c.in_ok-core-2.ensures.asked refl in
     let shown = subst (λ (words : List WordValue). Appends before.out (g.W.Write.contents c.compare_over.new.out) (difference_lines words last.values)) c.words-words.ensures.value c.in_ok-core-2.ensures.shown in
     let front = front_behind before.out (g.W.Write.contents c.compare_over.new.out) after.out (difference_lines plan.words last.values) (last_lines (length plan.words) last (length (differences plan.words last.values)) stop) shown
     (subst (λ (t : List ℕ). WritesPrefix (g.W.Write.contents c.compare_over.new.out) after.out t) text c.in_err-write_and_flush.ensures.err) in
-    error_is c.from_residual-in_err-write_and_flush.result WriteOutput (IsVerifyFault plan c.args.patience (before ⇒ after)) c.from_residual-in_err-write_and_flush.ensures.1 (record {
+    error_is c.from_residual-in_err-write_and_flush.result WriteOutput (IsVerifyFault plan c.args.options (before ⇒ after)) c.from_residual-in_err-write_and_flush.ensures.1 (record {
       last = last;
       stop = Some stop;
       look = verified.look;
@@ -76,7 +76,7 @@ returns-clause-ok g c =
     (c.deref.ensures.0 ∙ c.last_lines.ensures) in
     let shown = subst (λ (words : List WordValue). Appends before.out (g.W.Write.contents c.compare_over.new.out) (difference_lines words last.values)) c.words-words.ensures.value c.in_ok-core-2.ensures.shown in
     record {
-      verified = verified_of plan c.args.patience before after c.in_ok-core.core last stop c.verify_end.result begun_is look c.in_ok-core-2.ensures.asked
+      verified = verified_of plan c.args.options before after c.in_ok-core.core last stop c.verify_end.result begun_is look c.in_ok-core-2.ensures.asked
           (c.verify_end.ensures ∙ ap (λ n. verify_end n stop) (differ_is plan.words c.words-words.result.now last c.values.result.now c.count_differences-differ.result c.words-words.ensures.value c.values.ensures.value c.count_differences-differ.ensures));
       reported = Appends-trans before.out (g.W.Write.contents c.compare_over.new.out) after.out (difference_lines plan.words last.values) (last_lines (length plan.words) last (length (differences plan.words last.values)) stop) shown
           (subst (Appends (g.W.Write.contents c.compare_over.new.out) after.out) text c.in_ok-write_and_flush.ensures.ok);

@@ -1,14 +1,14 @@
 use Rattle.host_devices.proofs.Told.{tells_join}
 use Rattle.record_file.proofs.Asking.{asked_one, on_err, not_ok}
 use Rattle.record_file.proofs.Rows.{all_written, over_device, over_file}
-use Rattle.std.proofs.Common.{subst, sym, ◌∙◌}
+use Rattle.std.proofs.Common.{false, subst, sym, ◌∙◌}
 use Rattle.record_file.specs.Beginning.{IsAllWritten, IsLetGo, IsMadeReady, Unready, Unwritten, Uncut}
 use Rattle.record_file.proofs.disk_record.begin_in_place.Goals as goal
 
 pub returns-in-Err-clause-failed : goal.returns-in-Err-clause-failed
 returns-in-Err-clause-failed g c = let k = c.in-Err.ensures.failed in
     let l = c.let_go.ensures.asked in
-    asked_one _ _ _ (tells_join _ _ _ _ _ k.1 l.1) (Unready _ _ k.2 (subst (λ made. IsLetGo c.args.name.now made l.0) c.in-Err.ensures.made l.2))
+    asked_one _ _ _ (tells_join _ _ _ _ _ k.1 l.1) (Unready _ _ (k.2.0 false) (subst (λ made. IsLetGo c.args.name.now made l.0) c.in-Err.ensures.made l.2))
 
 pub returns-in_err-keeper-clause-asked : goal.returns-in_err-keeper-clause-asked
 returns-in_err-keeper-clause-asked g c = not_ok _ c.from_residual.result c.from_residual.ensures.0

@@ -3,7 +3,7 @@ use Rattle.std.proofs.lemmas.Result.{IfOk-weaker, IfErr-weaker}
 use Rattle.request_values.specs.Change.{◌⇒◌}
 use Rattle.request_values.specs.declared.request.Request.TheVariants.{Tape}
 use Rattle.request_values.specs.declared.request.TapeRequest.TheVariants.{Print}
-use Rattle.requests.specs.Asked.{asked_of}
+use Rattle.requests.specs.Asked.{asked_of, system_told}
 use Rattle.requests.specs.Attempt.{IsDone, IsFailed}
 use Rattle.requests.specs.Loading.{AreUnloaded}
 use Rattle.requests.specs.Verifying.{AreUnverified}
@@ -14,8 +14,9 @@ use Rattle.requests.proofs.handling.attempt.Goals.{in-Tape-Print, in-Tape-Make, 
 
 pub returns : goal.returns
 returns g c =
-    let before = moment c.args.system c.args.streams.now in
-    told c.args.request.now before c.match-request.system c.match-request.streams c.end-status.new.streams c.end-status.result c.only_prints-only_prints.result
+    let holds = g.K.Disk.Disk.holds in
+    let before = moment holds c.args.system c.args.streams.now in
+    told holds c.args.request.now before c.match-request.system c.match-request.streams c.end-status.new.streams c.end-status.result c.only_prints-only_prints.result
     c.only_prints-only_prints.ensures
     (elim c.match-request.branch [
       | in-Tape-Print w ↦
@@ -24,53 +25,53 @@ returns g c =
           let disk = g.K.Disk.Disk.asked inside.disk in
           let for_lines = g.K.Consoles.Consoles.asked inside.consoles in
           let lines = g.K.Consoles.Consoles.lines inside.consoles in
-          let first = moment (asked_of (g.K.Inputs.InputFiles.opened inside.inputs) disk for_lines lines) c.args.streams.now in
-          let asked = asked_of (g.K.Inputs.InputFiles.opened w.print_answer-outcome.new.inputs) disk for_lines lines in
-          let after = moment asked w.print_answer-outcome.new.streams in
+          let first = moment holds (system_told (asked_of (g.K.Inputs.InputFiles.opened inside.inputs) disk for_lines lines) inside.disk) c.args.streams.now in
+          let asked = system_told (asked_of (g.K.Inputs.InputFiles.opened w.print_answer-outcome.new.inputs) disk for_lines lines) inside.disk in
+          let after = moment holds asked w.print_answer-outcome.new.streams in
           let done : IfOk outcome (IsDone (Tape (Print w.in-Tape-Print.request)) (first ⇒ after)) =
           IfOk-weaker outcome _ _ (λ status h. (h, refl)) w.print_answer-outcome.ensures.ok in
           let failed : IfErr outcome (IsFailed (Tape (Print w.in-Tape-Print.request)) (first ⇒ after)) =
           IfErr-weaker outcome _ _ (λ failure h. (h, refl)) w.print_answer-outcome.ensures.err in
-          rw (← w.system.view_is) (came_to c.args.request.now first c.match-request.system (asked, outcome) c.match-request.streams w.print_answer-outcome.new.streams
+          rw (← w.system.view_is) (came_to holds c.args.request.now first c.match-request.system (asked, outcome) c.match-request.streams w.print_answer-outcome.new.streams
           w.system-is w.streams-is (record {
             ok = search rules;
             err = search rules;
             quiet = w.print_answer-outcome.ensures.quiet;
           }))
-      | in-Tape-Make w ↦ came_to _ before _ w.make_words.result _ w.make_words.new.streams w.system-is w.streams-is (record {
+      | in-Tape-Make w ↦ came_to holds _ before _ w.make_words.result _ w.make_words.new.streams w.system-is w.streams-is (record {
         ok = search rules;
         err = search rules;
         quiet = w.make_words.ensures.quiet;
       })
       | in-Machine-Load w ↦
-          let due : IfErr w.load_tapes.result.1 (AreUnloaded w.in-Machine-Load.names.items w.in-Machine-Load.load (before ⇒ moment w.load_tapes.result.0 w.load_tapes.new.streams)) =
-          subst (λ items. IfErr w.load_tapes.result.1 (AreUnloaded items w.in-Machine-Load.load (before ⇒ moment w.load_tapes.result.0 w.load_tapes.new.streams)))
+          let due : IfErr w.load_tapes.result.1 (AreUnloaded w.in-Machine-Load.names.items w.in-Machine-Load.load (before ⇒ moment holds w.load_tapes.result.0 w.load_tapes.new.streams)) =
+          subst (λ items. IfErr w.load_tapes.result.1 (AreUnloaded items w.in-Machine-Load.load (before ⇒ moment holds w.load_tapes.result.0 w.load_tapes.new.streams)))
           w.deref.ensures.value w.load_tapes.ensures.err in
-          came_to _ before _ w.load_tapes.result _ w.load_tapes.new.streams w.system-is w.streams-is (record {
+          came_to holds _ before _ w.load_tapes.result _ w.load_tapes.new.streams w.system-is w.streams-is (record {
             ok = search rules;
             err = grind rules steps 20000000;
             quiet = w.load_tapes.ensures.quiet;
           })
       | in-Machine-Verify w ↦
-          let due : IfErr w.verify_tapes.result.1 (AreUnverified w.in-Machine-Verify.names.items w.in-Machine-Verify.look (before ⇒ moment w.verify_tapes.result.0 w.verify_tapes.new.streams)) =
-          subst (λ items. IfErr w.verify_tapes.result.1 (AreUnverified items w.in-Machine-Verify.look (before ⇒ moment w.verify_tapes.result.0 w.verify_tapes.new.streams)))
+          let due : IfErr w.verify_tapes.result.1 (AreUnverified w.in-Machine-Verify.names.items w.in-Machine-Verify.look (before ⇒ moment holds w.verify_tapes.result.0 w.verify_tapes.new.streams)) =
+          subst (λ items. IfErr w.verify_tapes.result.1 (AreUnverified items w.in-Machine-Verify.look (before ⇒ moment holds w.verify_tapes.result.0 w.verify_tapes.new.streams)))
           w.deref-in-Machine-Verify.ensures.value w.verify_tapes.ensures.err in
-          came_to _ before _ w.verify_tapes.result _ w.verify_tapes.new.streams w.system-is w.streams-is (record {
+          came_to holds _ before _ w.verify_tapes.result _ w.verify_tapes.new.streams w.system-is w.streams-is (record {
             ok = search rules;
             err = grind rules steps 20000000;
             quiet = w.verify_tapes.ensures.quiet;
           })
-      | in-Machine-Save w ↦ came_to _ before _ w.save_words.result _ w.save_words.new.streams w.system-is w.streams-is (record {
+      | in-Machine-Save w ↦ came_to holds _ before _ w.save_words.result _ w.save_words.new.streams w.system-is w.streams-is (record {
         ok = search rules;
         err = search rules;
         quiet = w.save_words.ensures.quiet;
       })
-      | in-Machine-Probe w ↦ came_to _ before _ w.probe_console.result _ w.probe_console.new.streams w.system-is w.streams-is (record {
+      | in-Machine-Probe w ↦ came_to holds _ before _ w.probe_console.result _ w.probe_console.new.streams w.system-is w.streams-is (record {
         ok = search rules;
         err = search rules;
         quiet = w.probe_console.ensures.quiet;
       })
-      | in-Machine-Memory w ↦ came_to _ before _ w.test_words.result _ w.test_words.new.streams w.system-is w.streams-is (record {
+      | in-Machine-Memory w ↦ came_to holds _ before _ w.test_words.result _ w.test_words.new.streams w.system-is w.streams-is (record {
         ok = search rules;
         err = search rules;
         quiet = w.test_words.ensures.quiet;

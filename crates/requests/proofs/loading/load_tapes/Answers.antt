@@ -5,11 +5,11 @@ use Rattle.input_files.specs.Intake.{intake}
 use Rattle.machine_load.specs.RecordDisk.{RecordDisk}
 use Rattle.record_file.specs.Known.{known_of}
 use Rattle.request_values.specs.Change.{◌⇒◌}
-use Rattle.requests.specs.Asked.{asked_of}
+use Rattle.requests.specs.Asked.{asked_of, system_told}
 use Rattle.requests.specs.Loading.{IsLoadFailure, IsLoadOver, IsRecordLetGo, first_record, planned_load, scene_at}
 use Rattle.requests.specs.Moment.{intake_at, moment}
 use Rattle.requests.specs.Planning.{IsPlanned}
-use Rattle.requests.proofs.Loaded.{first_is, tapes_loaded, tapes_unloaded}
+use Rattle.requests.proofs.Loaded.{first_is, same_held, tapes_loaded, tapes_unloaded}
 use Rattle.requests.proofs.Ways.{leading}
 use Rattle.requests.proofs.loading.load_tapes.Goals as goal
 use Rattle.requests.proofs.loading.load_tapes.Goals.{in-Some, in-None}
@@ -24,11 +24,12 @@ returns g c =
     let lines = g.K.Consoles.Consoles.lines in
     let disk = g.K.Disk.Disk.asked in
     let written = g.K.Disk.File.DiskFile.written in
+    let holds = g.K.Disk.Disk.holds in
     let names = c.args.names.now in
     let request = c.args.request in
     let plan = c.in-Ok.plan in
     let opened' = g.K.Inputs.InputFiles.opened c.plan_tapes.new.inputs in
-    let before = moment (asked_of (g.K.Inputs.InputFiles.opened inside.inputs) (disk inside.disk) (asked inside.consoles) (lines inside.consoles)) c.args.streams.now in
+    let before = moment g.K.Disk.Disk.holds (system_told (asked_of (g.K.Inputs.InputFiles.opened inside.inputs) (disk inside.disk) (asked inside.consoles) (lines inside.consoles)) inside.disk) c.args.streams.now in
     let planned = subst (λ (h : Held). IsPlanned names (intake_at before) (intake opened' h) plan) (sym c.streams.view_is) c.in-Ok.ensures.ok in
     let way = c.to-console.ensures in
     let same_out = ap (λ (h : Held). h.out) c.streams.view_is ∙ c.in-Ok.ensures.same_out in
@@ -45,14 +46,15 @@ returns g c =
             unread = g.W.Output.unread load.new.out;
             err = g.E.FaultOutput.said c.streams.inside.err;
           } in
-          let after = moment (asked_of opened' (disk w.close.result) (asked back.result) (lines back.result)) held in
+          let after = moment g.K.Disk.Disk.holds (system_told (asked_of opened' (disk w.close.result) (asked back.result) (lines back.result)) w.close.result) held in
           let planned' : IsPlanned names (intake_at before) (intake_at after) plan = record { held = planned.held; opened = planned.opened; is_so = planned.is_so } in
           let old = w.new-records.result in
           let new = load.new.around.records in
-          let first : RecordDisk = record { asked = disk old.disk; name = old.name.now; known = option_map (known_of written) old.held } in
-          let last : RecordDisk = record { asked = disk new.disk; name = new.name.now; known = option_map (known_of written) new.held } in
+          let first : RecordDisk = record { asked = disk old.disk; name = old.name.now; known = option_map (known_of written) old.held; holds = holds old.disk old.name.now } in
+          let last : RecordDisk = record { asked = disk new.disk; name = new.name.now; known = option_map (known_of written) new.held; holds = holds new.disk new.name.now } in
           let made = w.new-records.ensures in
-          let is_first = first_is request.record w.in-Some.name before first w.in-Some.is (ap disk made.disk) made.name made.held in
+          let is_first = first_is request.record w.in-Some.name before first w.in-Some.is (ap disk made.disk) made.name made.held
+          (same_held holds old.disk inside.disk old.name.now w.in-Some.name.now made.disk made.name) in
           let let_go = subst (λ file. IsRecordLetGo file (Some last) (before ⇒ after)) (sym w.in-Some.is) w.close.ensures.asked in
           let way' = load.new.around.console in
           let call' = call_to way'.name.now way'.quiet_ms in
@@ -73,7 +75,7 @@ returns g c =
             unread = g.W.Output.unread load.new.out;
             err = g.E.FaultOutput.said c.streams.inside.err;
           } in
-          let after = moment (asked_of opened' (disk inside.disk) (asked back.result) (lines back.result)) held in
+          let after = moment g.K.Disk.Disk.holds (system_told (asked_of opened' (disk inside.disk) (asked back.result) (lines back.result)) inside.disk) held in
           let planned' : IsPlanned names (intake_at before) (intake_at after) plan = record { held = planned.held; opened = planned.opened; is_so = planned.is_so } in
           let is_first = subst (λ file. None ≡ first_record file before) (sym w.in-None.is) refl in
           let let_go = subst (λ file. IsRecordLetGo file None (before ⇒ after)) (sym w.in-None.is) refl in

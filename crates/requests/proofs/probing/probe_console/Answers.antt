@@ -4,7 +4,7 @@ use Rattle.machine_probe.specs.Probe.{OverLine}
 use Rattle.machine_probe.specs.ProbeFault.{IsProbeFault}
 use Rattle.machine_probe.proofs.Reports.{some_fault, some_reported}
 use Rattle.request_values.specs.Change.{◌⇒◌}
-use Rattle.requests.specs.Asked.{asked_of}
+use Rattle.requests.specs.Asked.{asked_of, system_told}
 use Rattle.requests.specs.Moment.{consoles_at, moment}
 use Rattle.requests.specs.Probing.{IsProbeEnded, probe_options}
 use Rattle.requests.proofs.Looked.{probed, unprobed}
@@ -25,8 +25,8 @@ returns g c =
       unread = g.W.Output.unread c.probe-probed.new.out;
       err = g.E.FaultOutput.said c.streams.inside.err;
     } in
-    let before = moment (asked_of opened disk (asked inside.consoles) (lines inside.consoles)) c.args.streams.now in
-    let after = moment (asked_of opened disk (asked c.back.result) (lines c.back.result)) held in
+    let before = moment g.K.Disk.Disk.holds (system_told (asked_of opened disk (asked inside.consoles) (lines inside.consoles)) inside.disk) c.args.streams.now in
+    let after = moment g.K.Disk.Disk.holds (system_told (asked_of opened disk (asked c.back.result) (lines c.back.result)) inside.disk) held in
     let request = c.args.request in
     let said = at_name asked lines held.out c.to-console.ensures.consoles c.to-console.ensures.name c.to-console.ensures.quiet_time
     (ap (λ (h : Held). h.out) c.streams.view_is) c.back.ensures c.probe-probed.ensures.call in

@@ -5,10 +5,10 @@ use Rattle.tape_shelf.specs.ShelfDisk.{part_name}
 use Rattle.machine_look.specs.LookFault.{IsSaveFault}
 use Rattle.machine_look.specs.Save.{IsSavedAndReported, save_told}
 use Rattle.tape_shelf.specs.ShelfTold.{ShelfTold}
-use Rattle.requests.specs.Asked.{asked_of}
+use Rattle.requests.specs.Asked.{asked_of, system_told}
 use Rattle.requests.specs.Moment.{console_at, moment}
-use Rattle.requests.specs.Saving.{new_shelf, options_of}
-use Rattle.requests.proofs.Saved.{new_is, saved, shelf_on, unsaved}
+use Rattle.requests.specs.Saving.{options_of, shelf_at}
+use Rattle.requests.proofs.Saved.{new_is, same_left, saved, shelf_on, unsaved}
 use Rattle.requests.proofs.Ways.{at_name}
 use Rattle.requests.proofs.saving.save_words.Goals as goal
 use Rattle.requests.proofs.saving.save_words.Goals.{in-Ok, in-Err}
@@ -27,8 +27,8 @@ returns g c =
       unread = g.W.Output.unread c.save-saved.new.out;
       err = g.E.FaultOutput.said c.streams.inside.err;
     } in
-    let before = moment (asked_of opened (disk inside.disk) (asked inside.consoles) (lines inside.consoles)) c.args.streams.now in
-    let after = moment (asked_of opened (disk c.close.result) (asked c.back.result) (lines c.back.result)) held in
+    let before = moment g.K.Disk.Disk.holds (system_told (asked_of opened (disk inside.disk) (asked inside.consoles) (lines inside.consoles)) inside.disk) c.args.streams.now in
+    let after = moment g.K.Disk.Disk.holds (system_told (asked_of opened (disk c.close.result) (asked c.back.result) (lines c.back.result)) c.close.result) held in
     let save = c.args.request in
     let look = save.look in
     let said = at_name asked lines held.out c.to-console.ensures.consoles c.to-console.ensures.name c.to-console.ensures.quiet_time
@@ -39,8 +39,9 @@ returns g c =
     let left = holds fresh.result.disk (part_name fresh.result.name.now) in
     let shelf : ShelfTold = shelf_on (disk kept.disk) kept.name.now (room kept.part) (holds kept.disk (part_name kept.name.now)) in
     let first : ShelfTold = shelf_on (disk fresh.result.disk) fresh.result.name.now (room fresh.result.part) left in
-    let is_new : first ≡ new_shelf save.file (disk inside.disk) left =
-    new_is save.file (disk inside.disk) _ _ _ left (ap disk fresh.ensures.disk) fresh.ensures.name (ap room fresh.ensures.room) in
+    let is_new : first ≡ shelf_at save.file before =
+    new_is save.file (disk inside.disk) _ _ _ _ _ (ap disk fresh.ensures.disk) fresh.ensures.name (ap room fresh.ensures.room)
+    (same_left holds fresh.result.disk inside.disk fresh.result.name.now save.file.now fresh.ensures.disk fresh.ensures.name) in
     let read = ap (λ (h : Held). h.input) c.streams.view_is in
     let quiet = ap (λ (h : Held). h.err) c.streams.view_is in
     rw (← c.system.view_is) (elim c.match-saved.branch [
@@ -49,14 +50,13 @@ returns g c =
           let reported = subst (λ s. IsSavedAndReported (options_of save) (save_told s (console_at look before)) (save_told shelf (console_at look after)) end) is_new
           (said (λ x y. IsSavedAndReported (options_of save) (save_told first x) (save_told shelf y) end) w.in-Ok.ensures.ok) in
           rw (w.result-is, c.new-system.ensures) (record {
-            ok = saved save before after (record { no_file = refl; nothing_read = read }) end left shelf reported c.close.ensures.asked w.after_save.result w.after_save.ensures.status;
-            err = unsaved save before after (record { no_file = refl; nothing_read = read }) end left shelf reported c.close.ensures.asked w.after_save.result w.after_save.ensures.failure;
+            ok = saved save before after (record { no_file = refl; nothing_read = read }) end shelf reported c.close.ensures.asked w.after_save.result w.after_save.ensures.status;
+            err = unsaved save before after (record { no_file = refl; nothing_read = read }) end shelf reported c.close.ensures.asked w.after_save.result w.after_save.ensures.failure;
             quiet = quiet;
           })
       | in-Err w ↦ rw (w.result-is, c.new-system.ensures) (record {
         ok = tt;
         err = record {
-          left = left;
           shelf = shelf;
           failed = inl (record {
             fault = w.in-Err.fault;

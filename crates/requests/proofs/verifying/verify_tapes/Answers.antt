@@ -2,9 +2,10 @@ use Rattle.std.proofs.Common.{◌∙◌, inl, inr, refl, ap, sym, subst}
 use Rattle.endings.specs.Held.{Held}
 use Rattle.machine_look.specs.LookFault.{IsVerifyFault}
 use Rattle.machine_look.specs.Verify.{IsVerifyReported}
+use Rattle.requests.specs.Verifying.{options_of}
 use Rattle.input_files.specs.Intake.{intake}
 use Rattle.request_values.specs.Change.{◌⇒◌}
-use Rattle.requests.specs.Asked.{asked_of}
+use Rattle.requests.specs.Asked.{asked_of, system_told}
 use Rattle.requests.specs.Moment.{intake_at, moment}
 use Rattle.requests.specs.Planning.{IsPlanned}
 use Rattle.requests.proofs.Looked.{unverified, verified}
@@ -31,8 +32,8 @@ returns g c =
       unread = g.W.Output.unread c.verify-verified.new.out;
       err = g.E.FaultOutput.said c.streams.inside.err;
     } in
-    let before = moment (asked_of (g.K.Inputs.InputFiles.opened inside.inputs) disk (asked inside.consoles) (lines inside.consoles)) c.args.streams.now in
-    let after = moment (asked_of opened' disk (asked c.back.result) (lines c.back.result)) held in
+    let before = moment g.K.Disk.Disk.holds (system_told (asked_of (g.K.Inputs.InputFiles.opened inside.inputs) disk (asked inside.consoles) (lines inside.consoles)) inside.disk) c.args.streams.now in
+    let after = moment g.K.Disk.Disk.holds (system_told (asked_of opened' disk (asked c.back.result) (lines c.back.result)) inside.disk) held in
     let said = at_name asked lines held.out c.to-console.ensures.consoles c.to-console.ensures.name c.to-console.ensures.quiet_time
     (ap (λ (h : Held). h.out) c.streams.view_is ∙ c.in-Ok.ensures.same_out) c.back.ensures c.verify-verified.ensures.call in
     let planned = subst (λ (h : Held). IsPlanned names (intake_at before) (intake opened' h) plan) (sym c.streams.view_is) c.in-Ok.ensures.ok in
@@ -41,7 +42,7 @@ returns g c =
     rw (← c.system.view_is, c.new-system.ensures) (elim c.match-verified.branch [
       | in-Ok-verified w ↦
           let end = w.in-Ok-verified.end in
-          let reported = said (λ x y. IsVerifyReported plan look.patience (x ⇒ y) end) w.in-Ok-verified.ensures.ok in
+          let reported = said (λ x y. IsVerifyReported plan (options_of look) (x ⇒ y) end) w.in-Ok-verified.ensures.ok in
           rw (w.outcome-is) (record {
             ok = verified names look before after plan planned' refl end reported w.after_verify-outcome.result w.after_verify-outcome.ensures;
             err = unverified names look before after plan planned' refl end reported w.after_verify-outcome.result w.after_verify-outcome.ensures;
@@ -54,7 +55,7 @@ returns g c =
           planned = planned';
           failed = inl (record {
             fault = w.in-Err-verified.fault;
-            is_so = said (λ x y. IsVerifyFault plan look.patience (x ⇒ y) w.in-Err-verified.fault) w.in-Err-verified.ensures.err;
+            is_so = said (λ x y. IsVerifyFault plan (options_of look) (x ⇒ y) w.in-Err-verified.fault) w.in-Err-verified.ensures.err;
             is_called = w.failure-failure.ensures;
           });
           no_disk = refl;

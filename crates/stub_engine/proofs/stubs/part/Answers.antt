@@ -5,7 +5,7 @@ use Rattle.engine.specs.Stopping.{keep_fault}
 use Rattle.host_devices.specs.Failures.{fault_of}
 use Rattle.stub_engine.specs.declared.tally.Tally.{Tally}
 use Rattle.stub_engine.specs.Keeping.{IsKeptBy, words_kept}
-use Rattle.stub_engine.proofs.Brought.{kept_nothing, not_started, started, unplanned}
+use Rattle.stub_engine.proofs.Brought.{at_most, kept_nothing, not_started, started, unplanned}
 use Rattle.stub_engine.proofs.Keepings.{kept_none}
 use Rattle.stub_engine.proofs.Parts.{tally_exchanged, tally_unstarted}
 use Rattle.stub_engine.proofs.Stops.{is_some, keep_left, keep_unstarted}
@@ -23,7 +23,7 @@ pub returns-in-Some-clause-brought : goal.returns-in-Some-clause-brought
 returns-in-Some-clause-brought g c =
     let tally = tally_unstarted c.args.tally.now c.with_counts-brought.result c.with_words.result c.bring-core.result.0 c.sent_count.result c.spent.result c.sent_count.ensures.value c.spent.ensures.value c.with_counts-brought.ensures c.with_words.ensures in
     not_started c.args.plan.now c.args.patience c.args.tally.now c.with_words.result c.in-Ok.planned.plan c.in-Ok.planned.chunks.items c.bring-core.result (Some c.in-Some.stop) (line_told g.L.Line c.args.line.now) (line_told g.L.Line c.bring-core.new.line) (g.K.Keep.told c.args.keep.now) c.in-Ok.ensures.planned c.ranges.patience.fits
-    c.requires.worth c.requires.within c.in-Some.ensures (λ none. is_some c.in-Some.stop none) c.bring-core.ensures (let same = c.sent_count.ensures.value in let most = c.sent_count.ensures.most in omega (arith, same, most)) tally
+    c.requires.worth c.requires.within c.in-Some.ensures (λ none. is_some c.in-Some.stop none) c.bring-core.ensures (let same = c.sent_count.ensures.value in let most = c.sent_count.ensures.most in omega (arith, same, most, at_most c.bring-core.result.0.careful)) tally
 
 pub returns-in-Some-clause-kept : goal.returns-in-Some-clause-kept
 returns-in-Some-clause-kept g c =
@@ -38,7 +38,7 @@ returns-clause-brought g c =
     c.with_counts.ensures c.with_words-2.ensures in
     started c.args.plan.now c.args.patience c.args.tally.now c.with_words-2.result c.in-Ok.planned.plan c.in-Ok.planned.chunks.items c.bring-core.result c.exchange-stop.result.0 c.exchange-stop.result.1 (fault_of c.left_by.result) (line_told g.L.Line c.args.line.now) (line_told g.L.Line c.bring-core.new.line)
     (line_told g.L.Line c.exchange-stop.new.line) (g.K.Keep.told c.args.keep.now) (g.K.Keep.told c.exchange-stop.new.keep) c.in-Ok.ensures.planned c.ranges.patience.fits c.requires.worth (sym c.why_unstarted.ensures ∙ c.in_default.is) c.left_by.ensures c.bring-core.ensures (rw (c.duplex.ensures) at (rw (c.deref.ensures.value) at c.exchange-stop.ensures.led))
-    (let same = c.sent_count.ensures.value in let most = c.sent_count.ensures.most in omega (arith, same, most)) tally
+    (let same = c.sent_count.ensures.value in let most = c.sent_count.ensures.most in omega (arith, same, most, at_most c.bring-core.result.0.careful)) tally
 
 pub returns-clause-kept : goal.returns-clause-kept
 returns-clause-kept g c =

@@ -1,5 +1,10 @@
-use Rattle.std.proofs.Common.{rules}
+use Rattle.std.proofs.Common.{subst, rules}
+use Rattle.line_world.specs.Invariant.{IsKept}
+use Rattle.line_world.proofs.Tame.{tame_of}
 use Rattle.line_world.proofs.world.World.down.Goals as goal
 
 pub returns-clause-value : goal.returns-clause-value
 returns-clause-value c = search rules
+
+pub returns-clause-tame : goal.returns-clause-tame
+returns-clause-tame c = tame_of c.args.self.now (subst IsKept c.self.view_is c.self.invariant)

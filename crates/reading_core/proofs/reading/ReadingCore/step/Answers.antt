@@ -1,6 +1,6 @@
 use Rattle.std.proofs.Common.{◌≡◌, ◌∙◌, ap, arith, subst, sym}
 use Rattle.reading_core.specs.Invariant.{IsReader}
-use Rattle.reading_core.specs.Reader.{Reader, reader_of}
+use Rattle.reading_core.specs.Reader.{Reader, manner_of, reader_of}
 use Rattle.reading_core.specs.ReadingTable.{ask, taken, values_after}
 use Rattle.reading_core.proofs.Turns.{kept, within_bound}
 use Rattle.reading_core.proofs.reading.ReadingCore.step.Goals as goal
@@ -11,8 +11,8 @@ taken-key-requires c = rw c.turn-turn.ensures (kept c.args.self.now c.args.heard
 -- what the fields make is the reader after the step
 pub returns-clause-kept : goal.returns-clause-kept
 returns-clause-kept c =
-    let P : Reader → Type 0 = λ r. reader_of r.addresses (values_after r.values c.turn-turn.result) r.patience c.taken-key.result.life ≡ (ask c.args.self.now c.args.heard).next in
-    let is_next : reader_of c.self.inside.addresses.items c.note.new.values.items c.self.inside.patience c.taken-key.result.life ≡ (ask c.args.self.now c.args.heard).next =
+    let P : Reader → Type 0 = λ r. reader_of r.addresses r.manner (values_after r.values c.turn-turn.result) r.patience c.taken-key.result.life ≡ (ask c.args.self.now c.args.heard).next in
+    let is_next : reader_of c.self.inside.addresses.items (manner_of c.self.inside.care c.self.inside.expected.items) c.note.new.values.items c.self.inside.patience c.taken-key.result.life ≡ (ask c.args.self.now c.args.heard).next =
     rw c.note.ensures.items (subst P (sym c.self.view_is) (c.taken-key.ensures.next ∙ ap (λ turn. (taken c.args.self.now turn).next) c.turn-turn.ensures)) in
     subst IsReader (sym is_next) (kept c.args.self.now c.args.heard (subst IsReader c.self.view_is c.self.invariant.0))
 

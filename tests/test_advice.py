@@ -182,7 +182,7 @@ class Following(Told):
         """A control character of a name is no order to the terminal."""
         self.put("a\x1b[2J.lda", TAPE + b"x")
         given, shown = self.at_a_terminal(lambda it: self.ldaodt(["check", "a\x1b[2J.lda"], stderr=it))
-        self.is_so((given.status, shown), (0, "a?[2J.lda: 1 bytes follow the tape: they belong to no tape\r\n"))
+        self.is_so((given.status, shown), (0, "a\\u{1b}[2J.lda: 1 bytes follow the tape: they belong to no tape\r\n"))
 
 
 if __name__ == "__main__":

@@ -1,14 +1,13 @@
 //! What follows the tape in a file, as a person at the terminal is told.
 
+use crate::instead::{BLOCK, RUBOUT};
 use std::alloc::Global;
 use std::fmt;
 use std::io::Print;
 use tape_blocks::read_with_layout;
 
-// The bytes of a leader: nothing is punched, or every hole.
+// Where nothing is punched; a leader is of that or of rubouts.
 const BLANK: u8 = 0o000;
-
-const RUBOUT: u8 = 0o377;
 
 // How many bytes of a block stand before its address.
 const ADDRESS_AT: usize = 4;
@@ -49,18 +48,18 @@ impl fmt::Display for Followed<'_> {
     }
 }
 
-// A name as a terminal may be given it.
+// A name as a fault shows it: a control character is no order to the terminal.
 #[derive(Clone, Copy)]
 struct ShownName<'a>(&'a str);
 
 impl fmt::Display for ShownName<'_> {
     fn fmt<W: fmt::Write>(&self, f: &mut fmt::Formatter<W>) -> fmt::Result {
         for character in self.0.chars() {
-            f.write_char(if character.is_control() {
-                '?'
+            if character.is_control() {
+                write!(f, "{}", character.escape_default())?;
             } else {
-                character
-            })?;
+                f.write_char(character)?;
+            }
         }
         Ok(())
     }
@@ -98,7 +97,7 @@ fn content_of(text: &[u8], behind: &[u8]) -> Option<Content> {
     let first = behind
         .iter()
         .position(|byte| *byte != BLANK && *byte != RUBOUT)?;
-    if !behind[first..].starts_with(&[1, 0]) {
+    if !behind[first..].starts_with(&BLOCK) {
         return Some(Content::Unknown);
     }
     if is_module(text) {

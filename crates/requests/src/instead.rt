@@ -99,12 +99,13 @@ fn advice_of_words(front: Front) -> Option<&'static str> {
     }
 }
 
-// What is punched in a leader of rubouts.
-const RUBOUT: u8 = 0o377;
+/// Every hole punched: what a leader of rubouts is made of.
+pub(crate) const RUBOUT: u8 = 0o377;
 
-// The block that begins a tape, and the front of one that ends it, without the start and the checksum.
-const BLOCK: [u8; 2] = [1, 0];
+/// What each block of a tape begins with.
+pub(crate) const BLOCK: [u8; 2] = [1, 0];
 
+// The front of the block that ends a tape, without the start and the checksum.
 const LAST_BLOCK: [u8; 4] = [1, 0, 6, 0];
 
 // The checksum of a block that a tape ends with, which is the one byte that it lacks.

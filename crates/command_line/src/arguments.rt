@@ -208,7 +208,7 @@ pub(crate) const CAREFUL: Argument = Argument {
 
 /// The same for a load, which says what it is good for.
 pub(crate) const CAREFUL_LOAD: Argument = Argument {
-    help: "Bear a line that also changes characters",
+    help: "Bear a changed bit now and then, too",
     ..CAREFUL
 };
 

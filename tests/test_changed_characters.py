@@ -7,6 +7,7 @@ import unittest
 from concurrent.futures import ThreadPoolExecutor
 
 from cases import Case, Console
+from commands import StubbornConsole
 from outside import bytes_of, kept_in, tape_of
 from test_looks import as_memory, as_tape, numbers
 
@@ -115,6 +116,21 @@ class CarefulLoads(Case):
             line = self.console_at(Console(memory={} if sent != 160 else as_memory(0o1000, [it + 1 + 256 * (it + 2) for it in range(0, 20, 2)])))
             given = self.ldaodt(self.words_at(line, f"load {tape} LINE --careful"))
             self.is_so(given.out.split("\n")[0].split(" verified")[0], f"sent {1 + sent} spent 0")
+
+
+class WhatDecides(Case):
+    """Memory that does not hold a word, or a line that makes it seem so."""
+
+    def test_a_terminal_is_told(self):
+        """A careful load has decided."""
+        self.put("word.lda", tape_of([(0o1000, b"\x34\x12")], 0o1000))
+        for option, is_told in (("", True), (" --careful", False)):
+            line = self.console_at(StubbornConsole())
+            words = self.words_at(line, f"load word.lda LINE{option}")
+            given, shown = self.at_a_terminal(lambda it, words=words: self.ldaodt(words, stderr=it))
+            self.is_so((given.status, given.out.split("\n")[1]), (5, "end WontHold 001000"))
+            told_of = "or the line changed a character: the same line with --careful decides\r\n" in shown
+            self.is_so((option, told_of), (option, is_told))
 
 
 if __name__ == "__main__":

@@ -18,6 +18,10 @@ use tape_shelf::BLOCK_WORDS;
 /// What helps where no word was done, for want of answers.
 pub(crate) const ASK_PROBE: &str = "'ldaodt probe LINE' says what is wrong\n";
 
+// What may be the cause, too, where a word does not hold, and what decides.
+const MAY_BE_CHANGED: &str =
+    "or the line changed a character: the same line with --careful decides\n";
+
 // What helps where a record goes on.
 const GOES_ON: &str = "the same line goes on where it was; power lost? add --recheck\n";
 
@@ -101,7 +105,7 @@ pub(crate) fn advise<C: Clock, T: Print, L: Line>(
     }
     match outcome.end {
         LoadEnd::Driven(Stop::Ended(End::WontHold(address))) => {
-            say_unheld(alloc, progress, address)
+            say_unheld(alloc, progress, address, load.options.careful)
         }
         LoadEnd::Driven(Stop::Ended(End::NoWord(address))) => {
             say_unfit(alloc, progress, address, size)
@@ -165,12 +169,21 @@ impl fmt::Display for Unfit {
     }
 }
 
-// Tells which bits of the word at this address do not hold, by what was typed and read there last.
-fn say_unheld<C: Clock, T: Print>(alloc: Global, progress: &ProgressLine<'_, C, T>, address: u16) {
+// Tells which bits of the word at this address do not hold, by what was typed and read there last; and of a load that
+// is not careful, that the line may have made it seem so.
+fn say_unheld<C: Clock, T: Print>(
+    alloc: Global,
+    progress: &ProgressLine<'_, C, T>,
+    address: u16,
+    careful: bool,
+) {
     let word = progress.last_word();
     let unheld = Unheld { address, word };
     if let Ok(text) = format!(in alloc; "{unheld}\n") {
         progress.say(text.as_str());
+    }
+    if !careful {
+        progress.say(MAY_BE_CHANGED);
     }
 }
 

@@ -97,6 +97,18 @@ class Advice(Told):
         """Nothing is told that would make it a tape that loads."""
         self.is_so(self.refuses(b""), "ldaodt: tape refused at 0: NoTransfer\nthe file is empty\n")
 
+    def test_a_file_that_is_shorter_than_what_is_looked_at(self):
+        """What is told of it is told of its own bytes, and not of those of a tape that was read before it: of the front of this one the third and
+        fourth would make a text of it, and of its end the last ones a block without a checksum."""
+        self.put("long.lda", tape_of([(0o1000, b"\r" * (0x920 - 6))], 1) + b"\1\0\6\0")
+        self.is_so(bytes_of(self.path("long.lda"))[:4], b"\1\0\x20\x09")
+        for text, told in ((b"ab", "ldaodt: tape 2 refused at 0: Stray\nit is no tape, or a label stands before it: "), (b"\1\0", "ldaodt: tape 2 refused at 0: Cut\n")):
+            self.put("short.lda", text)
+            shown = self.shown("check long.lda short.lda").replace("long.lda: 4 bytes follow the tape: another tape, which 'tail -c 4 FILE > TAPE' makes\n", "")
+            self.is_so(shown[:len(told)], told)
+            self.assertNotIn("printf", shown)
+            self.assertNotIn("this is text", shown)
+
     def test_octal_words(self):
         shown = self.refuses(b"1000 011064 157255\n")
         self.assertIn("of octal words 'ldaodt make' makes a tape", shown)

@@ -133,6 +133,14 @@ class Tests(Tree):
         self.assertEqual(status, 1)
         self.assertRegex("\n".join(lines), "\nRan 5 tests in 1 files, .* 5 wrong;")
 
+    def test_what_fails_beside_others_is_tried_alone(self):
+        """With a long quiet time; and where it is right then it is right."""
+        self.put("tests/cases.py", b"PATIENT_QUIET = 1000\nclass Case:\n    quiet = 200\n")
+        self.put("tests/test_small.py", b"import cases, unittest\nclass Small(unittest.TestCase):\n    def test_late(self):\n        self.assertEqual(cases.Case.quiet, 1000)\n")
+        status, lines, _ = self.runs("check-tests")
+        self.assertEqual((status, [it for it in lines if it.startswith("once more")]), (0, [f"once more, alone: {NAME}.test_late, which failed beside others:"]))
+        self.closes(lines, "Ran 1 tests in 1 files, 0 left out, 0 wrong")
+
     def test_a_test_without_end_is_ended(self):
         """And what it waits for is named. Its time is made two seconds here."""
         with open(self.path("tools/check-tests"), "r+", encoding="utf-8") as tool:
@@ -169,8 +177,11 @@ class Program(Tree):
     def test_another_program(self):
         self.put_script("ldaodt", "echo ill")
         self.put_script("other", "echo well")
+        self.put_script("tools/check-transcripts", f"stat -c %a .. > {self.path('mode')}; {PARTS['tools/check-transcripts']}")
         status, lines, _ = self.runs("check-program", "--program", self.path("other"))
         self.assertEqual((status, lines[-1]), (0, f"{self.PASSED} passed, 0 failed"))
+        # Where it is tried another user may go, too: a test runs it as one.
+        self.assertEqual(bytes_of(self.path("mode")), b"755\n")
 
     def test_another_program_that_is_wrong(self):
         self.put("tests/cases.py", b"PATIENT_QUIET = 1\nclass Case:\n    pass\n")
@@ -180,9 +191,11 @@ class Program(Tree):
 
     def test_a_list_of_what_is_left_out(self):
         self.put("list", f"{NAME}.test_right: not today\n".encode())
-        status, lines, _ = self.runs("check-program", "--leave-out", self.path("list"))
-        self.assertEqual((status, lines[-1]), (0, f"{self.PASSED - 1} passed, 0 failed"))
-        self.assertIn(f"left out: {NAME}.test_right: not today", self.left_out(lines))
+        # By its name from the top, and by one from where the tool is called.
+        for name in (self.path("list"), self.path("list").removeprefix("/")):
+            status, lines, _ = self.runs("check-program", "--leave-out", name)
+            self.assertEqual((status, lines[-1]), (0, f"{self.PASSED - 1} passed, 0 failed"))
+            self.assertIn(f"left out: {NAME}.test_right: not today", self.left_out(lines))
 
     def test_a_part_that_says_nothing(self):
         self.put_script("examples/check-losses", "exit 0")

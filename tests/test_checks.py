@@ -1,8 +1,10 @@
 """The tools that try the program from outside, in a small tree of their own: what they leave out is said by name and counted, and
 another program can be tried; and those that build it and call these, with an `rt` that proves nothing."""
 import os
+import re
 import shutil
 import subprocess
+import time
 import unittest
 
 from cases import Case
@@ -250,8 +252,38 @@ class Transcripts(Tree):
             with self.subTest(more):
                 self.assertEqual(self.verdicts(right + more), (1, [f"WRONG  docs/a.md:{line}"], "1 transcripts run, 0 left out, 1 wrong"))
 
+    def test_what_differs_on_a_busy_computer_is_run_once_more(self):
+        """With a long quiet time. Here a computer that was not held up at all counts as busy."""
+        with open(self.path("tools/check-transcripts"), "r+", encoding="utf-8") as tool:
+            text = tool.read()
+            self.assertEqual(text.count("\nBUSY_SECONDS = 0.03\n"), 1)
+            tool.seek(0)
+            tool.write(text.replace("\nBUSY_SECONDS = 0.03\n", "\nBUSY_SECONDS = -1  \n"))
+        page = "```\n$ echo --quiet 200; echo --quiet 20\n--quiet 3000\n--quiet 20\n```\n"
+        self.assertEqual(self.verdicts(page), (0, [], "1 transcripts run, 0 left out, 0 wrong"))
+        self.assertEqual(self.verdicts(page.replace("3000", "200")), (0, [], "1 transcripts run, 0 left out, 0 wrong"))
+        self.assertEqual(self.verdicts(page.replace("3000", "2000")), (1, ["WRONG  docs/a.md:2"], "1 transcripts run, 0 left out, 1 wrong"))
+
+    def test_what_goes_on_in_the_background_is_ended(self):
+        """As a machine that nobody switches off."""
+        page = f"```\n$ (echo $BASHPID > {self.path('process')}; exec sleep 100) &\n$ until [ -s {self.path('process')} ]; do sleep 0.01; done\n```\n"
+        self.assertEqual(self.verdicts(page)[0], 0)
+        path = f"/proc/{bytes_of(self.path('process')).decode().strip()}/cmdline"
+        until = time.monotonic() + 20
+        while b"sleep" in words_of(path) and time.monotonic() < until:
+            time.sleep(0.05)
+        self.assertEqual(words_of(path), b"")
+
     def test_a_page_without_one(self):
         self.assertEqual(self.verdicts("nothing\n"), (1, [], "0 transcripts run, 0 left out, 0 wrong"))
+
+
+def words_of(path):
+    """What the system has of a process there: nothing of one that has ended."""
+    try:
+        return bytes_of(path)
+    except OSError:
+        return b""
 
 
 class Around(Tree):
@@ -323,6 +355,21 @@ class Around(Tree):
         running = subprocess.Popen([self.path("ldaodt"), "60"])
         self.addCleanup(self.let_go, running)
         self.assertEqual((self.run_with("build")[0], self.program()), (0, "echo new"))
+
+    def test_on_how_many_processors(self):
+        """As many as there are, and 4 GB of memory for each; or as many as are asked for."""
+        os.remove(self.path("ldaodt"))
+        self.put_script("tools/prove-below", "echo $* >> notes; exit 1")
+
+        def fitting():
+            room = int(re.search(r"MemAvailable: +(\d+)", bytes_of("/proc/meminfo").decode())[1]) // 4_000_000
+            return max(1, min(room, len(os.sched_getaffinity(0))))
+
+        before = fitting()
+        said = self.run_with("build")[3]
+        least, most = sorted((before, fitting()))
+        self.assertIn(said, [[f"ldaodt {it}"] for it in range(least, most + 1)])
+        self.assertEqual(self.run_with("build", "7")[3], ["ldaodt 7"])
 
     def test_a_program_that_is_not_proved(self):
         self.assertEqual(self.run_with("build", rt="exit 6")[0], 6)

@@ -165,6 +165,25 @@ class Following(Told):
         self.is_so(self.follows(b"\0\0junk"), "a.lda: 6 bytes follow the tape: they belong to no tape\n")
         self.is_so(self.follows(b"\x1a"), "a.lda: 1 bytes follow the tape: they belong to no tape\n")
 
+    def test_a_long_file(self):
+        """All of it counts, also what is longer than any tape."""
+        shown = self.follows(b"x" + bytes(1_100_000))
+        self.is_so(shown, "a.lda: 1100001 bytes follow the tape: they belong to no tape\n")
+        # Of a tape that has a long leader, too.
+        self.put("c.lda", bytes(200_000) + TAPE + b"x")
+        self.is_so(self.shown("check c.lda", status=0), "c.lda: 1 bytes follow the tape: they belong to no tape\n")
+
+    def test_what_is_no_plain_file_is_left_alone(self):
+        """What was taken of a pipe would be gone: the tape that comes there is read once, and all that is behind it is nobody's."""
+        os.mkfifo(self.path("pipe"))
+        self.put("b.lda", TAPE)
+        self.put("c.lda", TAPE + b"junk")
+        writer = subprocess.Popen(["sh", "-c", "cat c.lda > pipe"], cwd=self.room)
+        self.addCleanup(writer.wait)
+        self.addCleanup(writer.kill)
+        given, shown = self.at_a_terminal(lambda it: self.ldaodt("check pipe", stderr=it))
+        self.is_so((given, shown), (self.ldaodt("check b.lda"), ""))
+
     def test_an_object_module(self):
         """Its first blocks are of the kinds 1 and 2, and no more than those look like a tape; what follows are a text and the end."""
         module = block(1, bytes(8)) + block(2, b"")

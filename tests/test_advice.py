@@ -97,6 +97,18 @@ class Advice(Told):
         """Nothing is told that would make it a tape that loads."""
         self.is_so(self.refuses(b""), "ldaodt: tape refused at 0: NoTransfer\nthe file is empty\n")
 
+    def test_a_file_that_is_shorter_than_what_is_looked_at(self):
+        """What is told of it is told of its own bytes, and not of those of a tape that was read before it: of the front of this one the third and
+        fourth would make a text of it, and of its end the last ones a block without a checksum."""
+        self.put("long.lda", tape_of([(0o1000, b"\r" * (0x920 - 6))], 1) + b"\1\0\6\0")
+        self.is_so(bytes_of(self.path("long.lda"))[:4], b"\1\0\x20\x09")
+        for text, told in ((b"ab", "ldaodt: tape 2 refused at 0: Stray\nit is no tape, or a label stands before it: "), (b"\1\0", "ldaodt: tape 2 refused at 0: Cut\n")):
+            self.put("short.lda", text)
+            shown = self.shown("check long.lda short.lda").replace("long.lda: 4 bytes follow the tape: another tape, which 'tail -c 4 FILE > TAPE' makes\n", "")
+            self.is_so(shown[:len(told)], told)
+            self.assertNotIn("printf", shown)
+            self.assertNotIn("this is text", shown)
+
     def test_octal_words(self):
         shown = self.refuses(b"1000 011064 157255\n")
         self.assertIn("of octal words 'ldaodt make' makes a tape", shown)
@@ -152,6 +164,25 @@ class Following(Told):
     def test_anything_else(self):
         self.is_so(self.follows(b"\0\0junk"), "a.lda: 6 bytes follow the tape: they belong to no tape\n")
         self.is_so(self.follows(b"\x1a"), "a.lda: 1 bytes follow the tape: they belong to no tape\n")
+
+    def test_a_long_file(self):
+        """All of it counts, also what is longer than any tape."""
+        shown = self.follows(b"x" + bytes(1_100_000))
+        self.is_so(shown, "a.lda: 1100001 bytes follow the tape: they belong to no tape\n")
+        # Of a tape that has a long leader, too.
+        self.put("c.lda", bytes(200_000) + TAPE + b"x")
+        self.is_so(self.shown("check c.lda", status=0), "c.lda: 1 bytes follow the tape: they belong to no tape\n")
+
+    def test_what_is_no_plain_file_is_left_alone(self):
+        """What was taken of a pipe would be gone: the tape that comes there is read once, and all that is behind it is nobody's."""
+        os.mkfifo(self.path("pipe"))
+        self.put("b.lda", TAPE)
+        self.put("c.lda", TAPE + b"junk")
+        writer = subprocess.Popen(["sh", "-c", "cat c.lda > pipe"], cwd=self.room)
+        self.addCleanup(writer.wait)
+        self.addCleanup(writer.kill)
+        given, shown = self.at_a_terminal(lambda it: self.ldaodt("check pipe", stderr=it))
+        self.is_so((given, shown), (self.ldaodt("check b.lda"), ""))
 
     def test_an_object_module(self):
         """Its first blocks are of the kinds 1 and 2, and no more than those look like a tape; what follows are a text and the end."""

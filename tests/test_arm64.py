@@ -152,6 +152,12 @@ class Assertions(Compiled):
         _, said = self.compile(HERE, "-fsyntax-only", "assertions.c") if self.write().returncode == 0 else (0, "")
         self.assertIn('static assertion failed: "the size of RawAddr"', said)
 
+    def test_another_size_of_a_field(self):
+        """Behind which room is left, so that no other field has another place."""
+        self.needs(HERE)
+        self.change("libc/src/types.rt", "pub ok: bool", "pub ok: u32")
+        self.fails(HERE, "the size of Tried.ok")
+
     def test_what_can_t_be_read_is_told(self):
         self.change("libc/src/lib.rt", "pub const O_EXCL: i32 = 0o200;", "pub const O_EXCL:\n    i32 = 0o200;")
         ran = self.write()
@@ -169,6 +175,7 @@ STAND_IN = """#!/bin/sh
 name=${0##*/}
 printf '%s\\n' "$@" > "$NOTES/$name"
 echo "$name" >> "$NOTES/called"
+echo "$name $*" >> "$NOTES/lines"
 for it; do
     [ "$before" != -o ] || echo "of $name" > "$it"
     [ "$before" != --incremental ] || echo more > "$it/more"
@@ -228,6 +235,9 @@ class Building(Small):
                    f" --extern clap={self.path('kit')}/rlibs/clap.rlib ", f" -L dependency={crates}/low/out/rlib ", f" --incremental {out}/incremental ", f" -o {out}/ldaodt.o"):
             self.assertIn(it, f"{words} ")
         self.assertEqual((words.count("apart"), words.count("--extern low=")), (0, 0))
+        # What is C of it has the first instructions that there were, as the rest, and may lie at any address.
+        compiling = self.noted("lines")[2].split()
+        self.assertLess({CROSS, "-march=armv8-a", "-fPIE", "-c", self.path("tree/tools/arm64/system.c")}, set(compiling))
         linking = self.noted(CROSS)
         self.assertEqual(linking[-2:], [f"{out}/ldaodt.o", f"{out}/system.o"])
         self.assertLess({"-static-pie", "-Wl,-z,max-page-size=65536"}, set(linking))
@@ -264,7 +274,7 @@ class Checking(Small):
         super().setUp()
         self.put_script(f"bin/{EMULATOR}", "bin/readelf")
         # It calls the program that it is given, by another name.
-        self.put_script("tree/tools/check-program", text='#!/bin/bash\nprintf "%s\\n" "${@:3}" > "$NOTES/words"; pwd >> "$NOTES/words"; cat "${2%/*}/ldaodt-arm64" >> "$NOTES/words"\n'
+        self.put_script("tree/tools/check-program", text='#!/bin/bash\nprintf "%s\\n" "${@:3}" > "$NOTES/words"; pwd >> "$NOTES/words"; cat "${2%/*}/ldaodt-arm64" >> "$NOTES/words"; stat -c %a "${2%/*}" > "$NOTES/mode"\n'
                         '(exec -a given "$2" check "a b"); exit "${ENDS-0}"\n')
         self.put("notes/says-readelf", self.SEGMENTS.encode())
         self.put_script("tree/ldaodt-arm64", text="the program")
@@ -275,6 +285,8 @@ class Checking(Small):
         for status in (0, 1):
             self.assertEqual(self.runs("check-arm64", ENDS=str(status)), (status, "", ""))
         self.assertEqual(self.noted("words"), ["--leave-out", "tools/arm64/left-out", self.path("tree"), "the program"])
+        # A test runs it as another user.
+        self.assertEqual(self.noted("mode"), ["755"])
         words = self.noted(EMULATOR)
         self.assertEqual((words[:4], os.path.basename(words[4]), words[5:]), (["-cpu", "cortex-a53", "-0", "given"], "ldaodt-arm64", ["check", "a b"]))
 

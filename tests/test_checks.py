@@ -1,8 +1,10 @@
 """The tools that try the program from outside, in a small tree of their own: what they leave out is said by name and counted, and
 another program can be tried; and those that build it and call these, with an `rt` that proves nothing."""
 import os
+import re
 import shutil
 import subprocess
+import time
 import unittest
 
 from cases import Case
@@ -133,6 +135,14 @@ class Tests(Tree):
         self.assertEqual(status, 1)
         self.assertRegex("\n".join(lines), "\nRan 5 tests in 1 files, .* 5 wrong;")
 
+    def test_what_fails_beside_others_is_tried_alone(self):
+        """With a long quiet time; and where it is right then it is right."""
+        self.put("tests/cases.py", b"PATIENT_QUIET = 1000\nclass Case:\n    quiet = 200\n")
+        self.put("tests/test_small.py", b"import cases, unittest\nclass Small(unittest.TestCase):\n    def test_late(self):\n        self.assertEqual(cases.Case.quiet, 1000)\n")
+        status, lines, _ = self.runs("check-tests")
+        self.assertEqual((status, [it for it in lines if it.startswith("once more")]), (0, [f"once more, alone: {NAME}.test_late, which failed beside others:"]))
+        self.closes(lines, "Ran 1 tests in 1 files, 0 left out, 0 wrong")
+
     def test_a_test_without_end_is_ended(self):
         """And what it waits for is named. Its time is made two seconds here."""
         with open(self.path("tools/check-tests"), "r+", encoding="utf-8") as tool:
@@ -169,8 +179,11 @@ class Program(Tree):
     def test_another_program(self):
         self.put_script("ldaodt", "echo ill")
         self.put_script("other", "echo well")
+        self.put_script("tools/check-transcripts", f"stat -c %a .. > {self.path('mode')}; {PARTS['tools/check-transcripts']}")
         status, lines, _ = self.runs("check-program", "--program", self.path("other"))
         self.assertEqual((status, lines[-1]), (0, f"{self.PASSED} passed, 0 failed"))
+        # Where it is tried another user may go, too: a test runs it as one.
+        self.assertEqual(bytes_of(self.path("mode")), b"755\n")
 
     def test_another_program_that_is_wrong(self):
         self.put("tests/cases.py", b"PATIENT_QUIET = 1\nclass Case:\n    pass\n")
@@ -180,9 +193,11 @@ class Program(Tree):
 
     def test_a_list_of_what_is_left_out(self):
         self.put("list", f"{NAME}.test_right: not today\n".encode())
-        status, lines, _ = self.runs("check-program", "--leave-out", self.path("list"))
-        self.assertEqual((status, lines[-1]), (0, f"{self.PASSED - 1} passed, 0 failed"))
-        self.assertIn(f"left out: {NAME}.test_right: not today", self.left_out(lines))
+        # By its name from the top, and by one from where the tool is called.
+        for name in (self.path("list"), self.path("list").removeprefix("/")):
+            status, lines, _ = self.runs("check-program", "--leave-out", name)
+            self.assertEqual((status, lines[-1]), (0, f"{self.PASSED - 1} passed, 0 failed"))
+            self.assertIn(f"left out: {NAME}.test_right: not today", self.left_out(lines))
 
     def test_a_part_that_says_nothing(self):
         self.put_script("examples/check-losses", "exit 0")
@@ -237,8 +252,38 @@ class Transcripts(Tree):
             with self.subTest(more):
                 self.assertEqual(self.verdicts(right + more), (1, [f"WRONG  docs/a.md:{line}"], "1 transcripts run, 0 left out, 1 wrong"))
 
+    def test_what_differs_on_a_busy_computer_is_run_once_more(self):
+        """With a long quiet time. Here a computer that was not held up at all counts as busy."""
+        with open(self.path("tools/check-transcripts"), "r+", encoding="utf-8") as tool:
+            text = tool.read()
+            self.assertEqual(text.count("\nBUSY_SECONDS = 0.03\n"), 1)
+            tool.seek(0)
+            tool.write(text.replace("\nBUSY_SECONDS = 0.03\n", "\nBUSY_SECONDS = -1  \n"))
+        page = "```\n$ echo --quiet 200; echo --quiet 20\n--quiet 3000\n--quiet 20\n```\n"
+        self.assertEqual(self.verdicts(page), (0, [], "1 transcripts run, 0 left out, 0 wrong"))
+        self.assertEqual(self.verdicts(page.replace("3000", "200")), (0, [], "1 transcripts run, 0 left out, 0 wrong"))
+        self.assertEqual(self.verdicts(page.replace("3000", "2000")), (1, ["WRONG  docs/a.md:2"], "1 transcripts run, 0 left out, 1 wrong"))
+
+    def test_what_goes_on_in_the_background_is_ended(self):
+        """As a machine that nobody switches off."""
+        page = f"```\n$ (echo $BASHPID > {self.path('process')}; exec sleep 100) &\n$ until [ -s {self.path('process')} ]; do sleep 0.01; done\n```\n"
+        self.assertEqual(self.verdicts(page)[0], 0)
+        path = f"/proc/{bytes_of(self.path('process')).decode().strip()}/cmdline"
+        until = time.monotonic() + 20
+        while b"sleep" in words_of(path) and time.monotonic() < until:
+            time.sleep(0.05)
+        self.assertEqual(words_of(path), b"")
+
     def test_a_page_without_one(self):
         self.assertEqual(self.verdicts("nothing\n"), (1, [], "0 transcripts run, 0 left out, 0 wrong"))
+
+
+def words_of(path):
+    """What the system has of a process there: nothing of one that has ended."""
+    try:
+        return bytes_of(path)
+    except OSError:
+        return b""
 
 
 class Around(Tree):
@@ -310,6 +355,21 @@ class Around(Tree):
         running = subprocess.Popen([self.path("ldaodt"), "60"])
         self.addCleanup(self.let_go, running)
         self.assertEqual((self.run_with("build")[0], self.program()), (0, "echo new"))
+
+    def test_on_how_many_processors(self):
+        """As many as there are, and 4 GB of memory for each; or as many as are asked for."""
+        os.remove(self.path("ldaodt"))
+        self.put_script("tools/prove-below", "echo $* >> notes; exit 1")
+
+        def fitting():
+            room = int(re.search(r"MemAvailable: +(\d+)", bytes_of("/proc/meminfo").decode())[1]) // 4_000_000
+            return max(1, min(room, len(os.sched_getaffinity(0))))
+
+        before = fitting()
+        said = self.run_with("build")[3]
+        least, most = sorted((before, fitting()))
+        self.assertIn(said, [[f"ldaodt {it}"] for it in range(least, most + 1)])
+        self.assertEqual(self.run_with("build", "7")[3], ["ldaodt 7"])
 
     def test_a_program_that_is_not_proved(self):
         self.assertEqual(self.run_with("build", rt="exit 6")[0], 6)

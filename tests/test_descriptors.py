@@ -121,6 +121,12 @@ class Files(Many):
             told = "ldaodt: tape 5 refused at 0: Stray\r\n" + (rubouts if limit == AMPLE else "")
             self.is_so((limit, given.status, shown), (limit, 3, told))
 
+    def test_a_lack_that_is_over_is_no_reason(self):
+        """A record that is a pipe is refused for what it is. That the tapes before it had no descriptor once is not told with it."""
+        os.mkfifo(self.path("pipe"))
+        words = ["load", self.names[0], "127.0.0.1:1", *self.names[1:], "--record", "pipe"]
+        self.is_so(self.answers(words), Answer(4, "", fault("cannot read pipe")))
+
     def test_one_without_end_fills_no_memory(self):
         """As much is taken of it as a tape may have, and of what follows a tape nothing."""
         words = ["check", *self.with_names({4: "/dev/zero"})]

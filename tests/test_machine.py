@@ -2,13 +2,18 @@
 interrupted, wait, go on for ever and halt; the HALT switch, bad memory, losses, and a line that breaks while a program prints."""
 import contextlib
 import glob
+import importlib.machinery
+import importlib.util
 import os
 import select
+import signal
 import socket
 import subprocess
 import sys
+import termios
 import time
 import unittest
+import unittest.mock
 
 from cases import Case, LossyRunningConsole, RunningConsole
 from outside import TOP, bytes_of
@@ -185,6 +190,49 @@ class Machine(Case):
         # Each key has four characters of answer; one of two keys passes, and of their 400 one of two.
         self.assertTrue(140 < len(shown[0]) < 260, len(shown[0]))
 
+    def test_losses_at_a_line_of_a_speed(self):
+        """Each way, too: of 200 keys one of two passes, and of their 400 characters of answer one of two."""
+        it = self.switched_on("--loss 50 --seed 1 --speed 38400")
+        it.types("Z" * 200)
+        while not it.hears_nothing(3 * self.quiet / 1000):
+            it.heard += os.read(it.end, 64).decode()
+        self.assertTrue(140 < len(it.heard) < 260, len(it.heard))
+
+    def changes(self, options, keys="Z" * 100):
+        """What the line changes in each character that keys, of which none is one of ODT's, are answered by."""
+        it = self.switched_on(options)
+        it.types(keys)
+        wanted = keys.encode() if "--console echo" in options else b"?\r\n@" * len(keys)
+        heard = b""
+        while len(heard) < len(wanted):
+            self.assertTrue(is_there(it.end, SECONDS), heard)
+            heard += os.read(it.end, 64)
+        self.switch_off()
+        return [one ^ other for one, other in zip(heard, wanted, strict=True)]
+
+    def test_changes(self):
+        """Of a hundred characters so many, each by one bit of seven, by a chance that can be had again."""
+        self.is_so(set(self.changes("--change 100")), {1 << bit for bit in range(7)})
+        shown = [self.changes(f"--change 25 --seed {seed}") for seed in (1, 1, 2)]
+        self.is_so(shown[0], shown[1])
+        self.assertNotEqual(shown[0], shown[2])
+        # Of 400 characters a hundred; of none more than one bit.
+        self.assertTrue(60 < sum(map(bool, shown[0])) < 140, shown[0])
+        self.is_so([it for it in shown[0] if it & it - 1 or it >= 128], [])
+
+    def test_changes_each_way(self):
+        """What echoes its keys answers each behind two changes: of one bit and another, or of one bit twice."""
+        changed = [it.bit_count() for it in self.changes("--change 100 --console echo")]
+        self.is_so(set(changed), {0, 2})
+
+    def test_a_console_that_is_another(self):
+        """One that prints eight digits, in good memory and in bad, and in another style."""
+        for options, shown in (("", "00000000 \r\n@"), ("--style 2", "00000000 \r\r\n@"), ("--style 2 --stuck 1000:0:1", "00000001 \r\r\n@")):
+            it = self.switched_on(f"--console wide {options}")
+            it.types("1000/\r")
+            self.is_so(it.hears("@"), f"1000/{shown}")
+            self.switch_off()
+
     def test_a_line_of_a_speed(self):
         """At 300 baud a character takes a thirtieth of a second, what ODT answers and what a program prints. Both ways go on at once: of so
         many digits each is answered while the next is typed."""
@@ -212,6 +260,33 @@ class Machine(Case):
         began = time.monotonic()
         it.hears("A" * 120)
         self.assertGreaterEqual(time.monotonic() - began, 0.95)
+
+    def test_a_program_computes_as_long_at_each_speed(self):
+        """96,000 instructions a second, as at 9600 baud a hundred in a character's time: so many before it prints are half a second."""
+        for speed in (300, 1200):
+            it = self.switched_on(f"--speed {speed}")
+            it.puts(placed((0o012700, 23_999, 0o005300, 0o001376, *ENDLESS)))
+            it.starts()
+            began = time.monotonic()
+            it.hears("A")
+            took = time.monotonic() - began
+            self.assertTrue(0.4 <= took < 4, took)
+            self.switch_off()
+
+    def test_a_machine_that_is_held_up(self):
+        """It makes up for a twentieth of a second, and no more: a host that counts on a line's time is not hurried."""
+        it = self.switched_on("--speed 1200")
+        it.puts(placed(ENDLESS))
+        it.starts()
+        it.hears("A" * 10)
+        os.kill(self.process(), signal.SIGSTOP)
+        while not it.hears_nothing():
+            os.read(it.end, 64)
+        time.sleep(1)
+        began = time.monotonic()
+        os.kill(self.process(), signal.SIGCONT)
+        it.hears("A" * 120)
+        self.assertGreaterEqual(time.monotonic() - began, 0.9)
 
     def test_a_fast_load_is_faster(self):
         """At a line of a speed, as at a machine; a load that takes no time of a line is slower so."""
@@ -348,6 +423,121 @@ class Machine(Case):
         self.assertTrue(self.waits(lambda: not os.path.islink(self.path("lsi11"))))
         self.assertGreaterEqual(time.monotonic(), began + 3600 / 400)
 
+
+
+class Commands(Case):
+    """`tools/odt_peer.py` as a command: each of its options, and what it tells."""
+
+    def begun(self, *options):
+        """It with these options; what it tells first is where it is."""
+        process = subprocess.Popen([sys.executable, "-B", f"{TOP}/tools/odt_peer.py", *options], stdin=subprocess.DEVNULL, stdout=subprocess.PIPE, text=True)
+        self.addCleanup(process.stdout.close)
+        self.addCleanup(process.wait)
+        self.addCleanup(process.kill)
+        return process, process.stdout.readline().strip()
+
+    def at_a_port(self, *options):
+        """It, and a person at its port."""
+        process, name = self.begun(*options)
+        host, port = name.split(":")
+        self.is_so((host, process.stdout.closed), ("127.0.0.1", False))
+        end = socket.create_connection((host, int(port)), SECONDS)
+        self.addCleanup(end.close)
+        self.is_so(process.stdout.readline(), "connected\n")
+        return process, Terminal((end, end.recv), end.sendall)
+
+    def test_what_it_tells(self):
+        """Each start and each end of a connection; what the program prints, which is started."""
+        process, it = self.at_a_port("--says", "HI\\r\\n", "--style", "2", "--words", "256", "--console", "wide")
+        it.types("776/\r1000/")
+        self.is_so(it.hears("?\r\r\n@"), "776/00000000 \r\r\n@1000/?\r\r\n@")
+        it.types("000100G")
+        self.is_so(it.hears("\n"), "000100GHI\r\n")
+        self.is_so(process.stdout.readline(), "started at 000100\n")
+        it.end.close()
+        self.is_so(process.stdout.readline(), f"gone: 17 keys, {4 + 10 + 3 + 5 + 5 + 7 + 4} characters answered, 0 lost\n")
+
+    def test_losses_and_changes(self):
+        """Of a hundred characters so many, each way."""
+        process, it = self.at_a_port("--loss", "50", "--seed", "1")
+        it.types("Z" * 200)
+        while not it.hears_nothing(3 * self.quiet / 1000):
+            it.heard += it.read(64).decode()
+        self.assertTrue(140 < len(it.heard) < 260, len(it.heard))
+        it.end.close()
+        self.assertRegex(process.stdout.readline(), rf"^gone: 200 keys, {len(it.heard)} characters answered, \d+ lost\n$")
+        process, it = self.at_a_port("--change", "100")
+        it.types("Z")
+        self.is_so([(ord(it.read(1)) ^ ord(wanted)).bit_count() for wanted in "?\r\n@"], [1] * 4)
+        it.end.close()
+        self.is_so(process.stdout.readline(), "gone: 1 keys, 4 characters answered, 0 lost, 5 changed\n")
+
+    def test_a_line_that_breaks(self):
+        """Behind five keys and twelve characters it is over."""
+        _, it = self.at_a_port("--break-after", "17")
+        it.types("1000/")
+        self.is_so(it.hears(" "), "1000/000000 ")
+        self.is_so(it.read(1), b"")
+
+    def test_a_line_of_a_speed(self):
+        """Five keys and twelve characters of a thirtieth of a second."""
+        _, it = self.at_a_port("--baud", "300")
+        began = time.monotonic()
+        it.types("1000/")
+        it.hears(" ")
+        self.assertGreaterEqual(time.monotonic() - began, 17 / 30)
+
+    def test_a_device(self):
+        """Set as it is asked for; else as a load wants it."""
+        for options, speed in (((), termios.B38400), (("--stty", "raw -echo 300"), termios.B300)):
+            _, name = self.begun("--device", *options)
+            end = os.open(name, os.O_RDWR | os.O_NOCTTY)
+            self.addCleanup(os.close, end)
+            _, _, _, local, *speeds = termios.tcgetattr(end)[:6]
+            self.is_so((local & (termios.ECHO | termios.ICANON), speeds), (0, [speed] * 2))
+            it = Terminal((end, lambda size, end=end: os.read(end, size)), lambda keys, end=end: os.write(end, keys))
+            it.types("1000/")
+            self.is_so(it.hears(" "), "1000/000000 ")
+
+
+class Busy:
+    """A machine whose program computes on and on."""
+
+    is_busy = True
+
+    def go_on(self):
+        return ""
+
+    def take(self, _key):
+        return ""
+
+
+class Rests(unittest.TestCase):
+    """How long a machine rests, so that a program which computes on and on leaves this computer to others."""
+
+    def setUp(self):
+        loader = importlib.machinery.SourceFileLoader("machine", f"{TOP}/tools/machine")
+        self.machine = importlib.util.module_from_spec(importlib.util.spec_from_loader("machine", loader))
+        loader.exec_module(self.machine)
+        keys, self.keyboard = os.pipe()
+        for end in (keys, self.keyboard):
+            self.addCleanup(os.close, end)
+        self.console = self.machine.Console(Busy(), keys, 0, 0, 0, None)
+
+    def rests(self, turns):
+        """How long it rests behind each of so many turns."""
+        with unittest.mock.patch.object(self.machine.time, "sleep") as sleep:
+            for _ in range(turns):
+                self.console.turn()
+        return [call.args[0] for call in sleep.call_args_list]
+
+    def test_a_program_without_an_end(self):
+        """Behind 10,000 characters' times without a key a millisecond behind each; a key is heard at once, and it is awake again."""
+        self.assertEqual(sum(self.rests(10_000)), 0)
+        self.assertEqual(self.rests(100), [0.001] * 100)
+        os.write(self.keyboard, b"A")
+        self.assertEqual(sum(self.rests(10_001)), 0)
+        self.assertEqual(self.rests(1), [0.001])
 
 
 def bytes_of_tape(address, data):

@@ -3,6 +3,7 @@ what a scan finds, and what is heard between a load and a terminal. Beside a `st
 called; then with the real `stty` and the real program; and where it is installed."""
 import contextlib
 import fcntl
+import grp
 import os
 import pty
 import re
@@ -32,6 +33,9 @@ exit "${!ended-0}"
 
 # The program's help of a command.
 HELPING = '[ "${2-}" != --help ] || exec cat "$HELPS/$1"\n'
+
+# A group that is no user's of these tests.
+ANOTHER_GROUP = 1
 
 # What the script calls and a test has no stand-in for.
 CALLED = "bash dirname readlink flock stat cat timeout sleep mktemp grep sed tee rm ls".split()
@@ -358,8 +362,14 @@ class Troubles(Script):
         os.chmod(self.room, 0o777)
         self.put("notes", b"")
         os.chmod(self.path("notes"), 0o666)
-        given = self.serial("9600 DEVICE probe", lone=False, **({"user": 65534} if is_root else {}))
-        self.is_trouble(given, self.device, "Permission denied", "dialout")
+        whose = {"user": 65534} if is_root else {}
+        self.is_trouble(self.serial("9600 DEVICE probe", lone=False, **whose), self.device, "Permission denied", "dialout")
+        if is_root:
+            os.chown(self.device, -1, ANOTHER_GROUP)
+        # Its own group is told, and not that of a link to it.
+        os.symlink(self.device, self.path("line"))
+        group = grp.getgrgid(os.stat(self.device).st_gid).gr_name
+        self.is_trouble(self.serial("9600 ./line probe", lone=False, **whose), "./line", "Permission denied", f"you may lack the group {group}, ")
 
     def test_a_device_that_somebody_has(self):
         """Whoever locks it, as each load does, keeps the settings that it has."""
@@ -370,6 +380,9 @@ class Troubles(Script):
         self.is_so(noted, ["stty -F DEVICE clocal -hupcl"])
         self.put("notes", b"")
         self.is_trouble(given, self.device, "in use by another program", "fuser -v")
+        # What is told can be pasted, also where its name has a space.
+        os.symlink(self.device, self.path("my line"))
+        self.is_trouble(self.serial(["9600", "./my line", "probe"]), "./my\\ line", "in use by another program", "'fuser -v ./my\\ line'")
         fcntl.flock(self.theirs, fcntl.LOCK_UN)
         self.ends(self.serial("9600 DEVICE probe"), 0)
 
@@ -572,9 +585,18 @@ class Terminals(Script):
             with self.subTest(words):
                 self.is_so(self.serial(f"9600 DEVICE {words}", env={"minicom_ends": "3"}).status, 3)
                 self.is_so(self.notes()[-2:], [f"ldaodt {called}", "minicom -o -D DEVICE -b 9600"])
-        for status in range(1, 8):
+        # 130 is an interrupt, here of a load that started nothing.
+        for status in (*range(1, 8), 130):
             self.ends(self.serial("9600 DEVICE load a.lda --talk", env={"ldaodt_ends": str(status)}), status)
             self.is_so(self.notes()[-1], "ldaodt load a.lda DEVICE --listen 1")
+
+
+    def test_behind_a_load_at_a_slow_line(self):
+        """It has the quiet time of that, too."""
+        self.stand_in("bin/minicom")
+        given = self.serial("110 DEVICE load a.lda --talk")
+        self.is_so((given.status, given.err.split("\n")[0]), (0, "ldaodt-serial: --quiet 4100: at 110 baud 34 characters take 3400 ms"))
+        self.is_so(self.notes()[-2], "ldaodt load --quiet 4100 a.lda DEVICE --listen 1")
 
 
 class Machines(Script):

@@ -69,6 +69,9 @@ IMAGE = random.Random("image").randbytes(45)
 FIRST_BYTE, START = 0o1001, 0o1002
 RARELY = 1 / 300
 
+# So many words are loaded where characters are counted.
+COUNTED = 10
+
 
 class CarefulLoads(Case):
     """Loads over such a line, by turns of memory that holds anything, and of one that differs from the tape by single bits."""
@@ -107,15 +110,40 @@ class CarefulLoads(Case):
             ends = list(pool.map(self.load, range(40)))
         self.is_so([it for it in ends if it not in ("end Started", "end Uncertain")], [])
 
-    def test_a_whole_word_costs_no_character_more(self):
-        """Over a line that changes nothing: a word that is deposited costs 22 keys as ever, one that stands 16 in place of 8, and
-        half a word that is deposited 30."""
-        self.put("whole.lda", tape_of([(0o1000, bytes(range(1, 21)))], 1))
-        self.put("half.lda", tape_of([(0o1001, b"\1")], 1))
-        for tape, sent in (("whole.lda", 10 * 22), ("whole.lda", 10 * 16), ("half.lda", 30)):
-            line = self.console_at(Console(memory={} if sent != 160 else as_memory(0o1000, [it + 1 + 256 * (it + 2) for it in range(0, 20, 2)])))
-            given = self.ldaodt(self.words_at(line, f"load {tape} LINE --careful"))
-            self.is_so(given.out.split("\n")[0].split(" verified")[0], f"sent {1 + sent} spent 0")
+    def passes(self, tape, memory, style, option):
+        """How many keys come to a console in this style, as the report says, too, and how many characters it answers."""
+        line = self.console_at(Console(memory=memory, style=style))
+        given = self.ldaodt(self.words_at(line, f"load {tape} LINE{option}"))
+        line.settle()
+        self.ends(given, 0, f"sent {line.keys} spent 0 verified {COUNTED} of {COUNTED}\nend Loaded\n")
+        return line.keys, line.answered
+
+    def test_how_many_characters_pass(self):
+        """Counted at the console, in each style, over a line that changes nothing: with `--careful` a whole word that is deposited costs
+        62 characters as without it, or 66, one that stands 50 in place of 25, and half a word that is deposited 87 in place of 62."""
+        self.put("whole.lda", tape_of([(0o1000, bytes(range(1, 2 * COUNTED + 1)))], 1))
+        self.put("half.lda", tape_of([(0o1001 + 2 * number, b"\1") for number in range(COUNTED)], 1))
+        stands = {0o1000 + 2 * number: 2 * number + 1 + (2 * number + 2 << 8) for number in range(COUNTED)}
+        # What a word costs: keys, characters answered in style 0, and how many looks it has, each of which is closed.
+        rows = (
+            ("whole.lda", {}, "", 22, 40, 2),
+            ("whole.lda", {}, " --careful", 22, 40, 2),
+            ("whole.lda", stands, "", 8, 17, 1),
+            ("whole.lda", stands, " --careful", 16, 34, 2),
+            ("half.lda", {}, "", 22, 40, 2),
+            ("half.lda", {}, " --careful", 30, 57, 3),
+        )
+
+        def trial(row):
+            (tape, memory, option, keys, answers, looks), style = row
+            space, second_return, echo = style & 1, style >> 1 & 1, style >> 2
+            # Behind the key that resynchronises.
+            prompted = 4 + second_return + echo
+            wanted = 1 + COUNTED * keys, prompted + COUNTED * (answers + looks * (space + second_return))
+            self.is_so((row, self.passes(tape, memory, style, option)), (row, wanted))
+
+        with ThreadPoolExecutor(8) as pool:
+            list(pool.map(trial, [(row, style) for row in rows for style in range(8)]))
 
 
 class WhatDecides(Case):

@@ -26,6 +26,9 @@ TRIAL, KEYS = 30, 44
 DEPOSIT, LOOK = 22, 8
 LOOKED, TRIED, PROMPTED, WORD, KNOWN, DONE = 30, 97, 5, 124, 46, 120
 
+# The same of a word that is deposited by a load, and of one that is looked at alone.
+DEPOSITED, LOOKED_AT = 62, 25
+
 
 class Chip(ChipCase):
     """What a memory's test says."""
@@ -290,7 +293,7 @@ class Ends(Chip):
 
     WORDS = f"memory LINE {FIRST:o} {FIRST + 2:o}"
 
-    def killed(self, keys, number):
+    def killed(self, keys, number, **chips):
         """A test that is sent a signal behind so many keys; returns the line, what was read before, how it ended, and what its terminal shows."""
         is_begun, process = threading.Event(), []
 
@@ -298,7 +301,7 @@ class Ends(Chip):
             is_begun.wait()
             process[0].send_signal(number)
 
-        line = self.console_at(KillingConsole(Chips(count=FEW), keys, kill))
+        line = self.console_at(KillingConsole(Chips(count=FEW, **chips), keys, kill))
         before, words = line.machine.words.readings(), self.words_at(line, self.WORDS)
 
         def run(terminal):
@@ -341,6 +344,22 @@ class Ends(Chip):
         begun = TRIAL + 1 + 2 * KEYS
         self.at_once(trial, range(begun + 1, begun + 1 + 5 * (1 + DEPOSIT) + LOOK * (LINES - 1), 2), threads=16)
 
+    def test_a_kill_at_keys_of_a_bad_bus(self):
+        """An address line makes no difference: so two addresses read what is lent to the word, which is named."""
+        line = 3
+        other_name = FIRST ^ 1 << line
+
+        def trial(keys):
+            line_killed, before, ended, shown = self.killed(keys, signal.SIGKILL, dead=(line,))
+            self.is_so(ended, (-signal.SIGKILL, b""))
+            other, named = changed(line_killed.machine, before), shown_at_last(shown)
+            self.is_harmless(line_killed, before, [*named, *(other_name for _ in named)], bus=FIRST)
+            self.is_so(({it: before[it // 2] for it in named}, other in ([], [FIRST, other_name])), (named, True))
+
+        # Behind the old number that is put back each line is looked at again.
+        begun = TRIAL + 1 + 2 * KEYS
+        self.at_once(trial, range(begun + 1, begun + 1 + 5 * (1 + DEPOSIT) + 2 * LOOK * (LINES - 1), 5), threads=16)
+
     def test_an_interrupt(self):
         self.at_once(lambda keys: self.is_named(keys, signal.SIGINT), range(TRIAL + 4, TRIAL + 2 + KEYS, 5))
 
@@ -361,6 +380,27 @@ class Ends(Chip):
             self.is_harmless(line, before, [named])
 
         self.at_once(trial, range(1, TRIED + PROMPTED + 2 * WORD, 3), threads=16)
+
+    def test_a_line_that_breaks_in_the_test_of_the_bus(self):
+        """The word is named where it may hold another number; each other one is what it was."""
+        test = Test(FIRST, FIRST + 2, 1, count=FEW)
+        head = re.escape("".join(f"{it}\n" for it in (HEADER, *test.rows(), "tested 2 words, 0 do not hold")))
+
+        def trial(characters):
+            line = self.console_at(ChipConsole(Chips(count=FEW)), close_after=characters)
+            before = line.machine.words.readings()
+            given = self.ldaodt(self.words_at(line, self.WORDS))
+            line.settle()
+            named, other = named_in(given.out), changed(line.machine, before)
+            self.is_harmless(line, before, named, bus=FIRST)
+            self.is_so(({it: before[it // 2] for it in named}, other in ([], [FIRST])), (named, True))
+            self.is_so((given.status, given.err), (4, line_failed("closed")))
+            self.assertRegex(given.out, f"^{head}tested the bus at 001000, beside [0-9]+ words\n(the word at 001000 held [0-7]{{6}}, now look at it\n)?end LineFailed\n$")
+
+        tested = TRIED + PROMPTED + 2 * WORD
+        # The first number, those behind it, the looks, those at addresses where nothing answers, and the old number.
+        bus = 5 * (PROMPTED + DEPOSITED) + PROMPTED + len(test.around(FIRST)) * LOOKED_AT
+        self.at_once(trial, range(tested + 1, tested + bus, 11), threads=16)
 
     def going(self, looks):
         """A test of four words, the second of which answers so many looks and no more."""

@@ -395,10 +395,11 @@ class Ends(Chip):
             self.is_harmless(line, before, named, bus=FIRST)
             self.is_so(({it: before[it // 2] for it in named}, other in ([], [FIRST])), (named, True))
             self.is_so((given.status, given.err), (4, line_failed("closed")))
-            self.assertRegex(given.out, f"^{head}tested the bus at 001000, beside [0-9]+ words\n(the word at 001000 held [0-7]{{6}}, now look at it\n)?end LineFailed\n$")
+            tail = "tested the bus at 001000, beside [0-9]+ words\n(the word at 001000 held [0-7]{6}, now look at it\n)?end LineFailed\n"
+            self.assertRegex(given.out, f"^{head}{tail}$")
 
         tested = TRIED + PROMPTED + 2 * WORD
-        # The first number, those behind it, the looks, those at addresses where nothing answers, and the old number.
+        # All that passes, but for looks where nothing answers: four numbers, the looks at the words around, and the old number.
         bus = 5 * (PROMPTED + DEPOSITED) + PROMPTED + len(test.around(FIRST)) * LOOKED_AT
         self.at_once(trial, range(tested + 1, tested + bus, 11), threads=16)
 

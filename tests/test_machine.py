@@ -1,5 +1,5 @@
-"""`tools/machine`, the simulated machine of the pages, and `tools/odt_peer.py` where what is started runs: programs that print, hear, are
-interrupted, wait, go on for ever and halt; the HALT switch, bad memory, losses, and a line that breaks while a program prints."""
+"""`tools/machine`, the simulated machine of the pages, and `tools/odt_peer.py`, also where what is started runs: programs that print, hear, are
+interrupted, wait, go on for ever and halt; the HALT switch, bad memory, losses, changes, speeds, and a line that breaks while a program prints."""
 import contextlib
 import glob
 import importlib.machinery

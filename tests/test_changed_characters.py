@@ -7,7 +7,6 @@ import unittest
 from concurrent.futures import ThreadPoolExecutor
 
 from cases import Case, Console
-from commands import StubbornConsole
 from outside import bytes_of, kept_in, tape_of
 from test_looks import as_memory, as_tape, numbers
 
@@ -144,21 +143,6 @@ class CarefulLoads(Case):
 
         with ThreadPoolExecutor(8) as pool:
             list(pool.map(trial, [(row, style) for row in rows for style in range(8)]))
-
-
-class WhatDecides(Case):
-    """Memory that does not hold a word, or a line that makes it seem so."""
-
-    def test_a_terminal_is_told(self):
-        """A careful load has decided."""
-        self.put("word.lda", tape_of([(0o1000, b"\x34\x12")], 0o1000))
-        for option, is_told in (("", True), (" --careful", False)):
-            line = self.console_at(StubbornConsole())
-            words = self.words_at(line, f"load word.lda LINE{option}")
-            given, shown = self.at_a_terminal(lambda it, words=words: self.ldaodt(words, stderr=it))
-            self.is_so((given.status, given.out.split("\n")[1]), (5, "end WontHold 001000"))
-            told_of = "or the line changed a character: the same line with --careful decides\r\n" in shown
-            self.is_so((option, told_of), (option, is_told))
 
 
 if __name__ == "__main__":

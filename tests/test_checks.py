@@ -73,6 +73,12 @@ class Tree(Case):
         self.put(name, f"#!/bin/bash\n{text}\n".encode())
         os.chmod(self.path(name), 0o755)
 
+    def set_line(self, tool, old, new):
+        """Puts another line in the place of one in a tool."""
+        text = bytes_of(self.path(tool))
+        self.assertEqual(text.count(f"\n{old}\n".encode()), 1)
+        self.put(tool, text.replace(f"\n{old}\n".encode(), f"\n{new}\n".encode()))
+
     def runs(self, tool, *words):
         ran = subprocess.run([self.path(f"tools/{tool}"), *words], cwd="/", stdin=subprocess.DEVNULL, capture_output=True, text=True, timeout=120)
         return ran.returncode, ran.stdout.splitlines(), ran.stderr
@@ -145,11 +151,7 @@ class Tests(Tree):
 
     def test_a_test_without_end_is_ended(self):
         """And what it waits for is named. Its time is made two seconds here."""
-        with open(self.path("tools/check-tests"), "r+", encoding="utf-8") as tool:
-            text = tool.read()
-            self.assertEqual(text.count("\nTIME = 600\n"), 1)
-            tool.seek(0)
-            tool.write(text.replace("\nTIME = 600\n", "\nTIME = 2  \n"))
+        self.set_line("tools/check-tests", "TIME = 600", "TIME = 2")
         self.put("tests/cases.py", b"PATIENT_QUIET = 1\nclass Case:\n    pass\n")
         self.put_script("ldaodt", "exec sleep 50")
         status, lines, _ = self.runs("check-tests")
@@ -254,11 +256,7 @@ class Transcripts(Tree):
 
     def test_what_differs_on_a_busy_computer_is_run_once_more(self):
         """With a long quiet time. Here a computer that was not held up at all counts as busy."""
-        with open(self.path("tools/check-transcripts"), "r+", encoding="utf-8") as tool:
-            text = tool.read()
-            self.assertEqual(text.count("\nBUSY_SECONDS = 0.03\n"), 1)
-            tool.seek(0)
-            tool.write(text.replace("\nBUSY_SECONDS = 0.03\n", "\nBUSY_SECONDS = -1  \n"))
+        self.set_line("tools/check-transcripts", "BUSY_SECONDS = 0.03", "BUSY_SECONDS = -1")
         page = "```\n$ echo --quiet 200; echo --quiet 20\n--quiet 3000\n--quiet 20\n```\n"
         self.assertEqual(self.verdicts(page), (0, [], "1 transcripts run, 0 left out, 0 wrong"))
         self.assertEqual(self.verdicts(page.replace("3000", "200")), (0, [], "1 transcripts run, 0 left out, 0 wrong"))
@@ -318,8 +316,8 @@ class Around(Tree):
         return bytes_of(self.path("ldaodt")).decode().splitlines()[-1]
 
     def test_a_gate_that_is_passed(self):
-        status, lines, _, notes = self.run_with("gate", "--anew")
-        self.assertEqual((status, lines[-1], notes, self.program()), (0, "3 passed, 0 failed", ["rt ci --anew", "checked"], "echo new"))
+        status, lines, _, notes = self.run_with("gate")
+        self.assertEqual((status, lines[-1], notes, self.program()), (0, "3 passed, 0 failed", ["rt ci", "checked"], "echo new"))
 
     def test_a_gate_that_the_program_does_not_pass(self):
         status, lines, _, notes = self.run_with("gate", wrong=1)

@@ -2,8 +2,8 @@
 that memory is what it was.
 
 On a line that loses nothing a probe types `Z001000/` and CR, which is 9 keys and 21 characters of answers at style 0; then
-`Z001000/123Z`, 12 keys and 25 characters; and the first again. So the first look is over behind 30 characters, the trial
-behind 67, the second look behind 97. Behind these the search begins, or the old number is put back.
+`Z001000/123Z`, 12 keys and 25 characters, and `a`, a key and 4; and the first again. So the first look is over behind 30
+characters, the trial behind 72, the second look behind 102. Behind these the search begins, or the old number is put back.
 """
 import errno
 import functools
@@ -17,19 +17,26 @@ import time
 import unittest
 from concurrent.futures import ThreadPoolExecutor
 
-from cases import BabblingPeer, Case, Console, DeafConsole, Keeping, LossyConsole, SlowConsole, StoringConsole, pace, timeless
+from cases import BabblingPeer, Case, Console, DeafConsole, Keeping, Losing, LossyConsole, SlowConsole, StoringConsole, pace, timeless
 from outside import NO_OUTPUT, NO_TERMINAL, PROGRAM, fault, line_failed
 import odt_peer
 
 FAILED = line_failed("closed")
 WORD, HELD = 0o1000, 0o123456
-LOOK_OVER, TRIAL_OVER, SECOND_OVER = 30, 67, 97
+LOOK_OVER, TRIAL_OVER, SECOND_OVER = 30, 72, 102
 
 # The first prompt is whole behind five characters, and of the trial's answers all that tells the style behind 20 of it.
 PROMPTED, STYLE_SEEN = 5, LOOK_OVER + 20
 
 # What is lost of a look, a trial and a look: each key, and each third character of the answers.
-LOSSES = [{"lost_key": it} for it in range(30)] + [{"lost_answer": it} for it in range(0, 67, 3)]
+LOSSES = [{"lost_key": it} for it in range(31)] + [{"lost_answer": it} for it in range(0, 71, 3)]
+
+# What is said of small letters.
+KEPT, NOT_KNOWN, FOLDED = (f"keeps small letters {it}" for it in ("yes", "not known", "no: do not load with --fast"))
+
+
+class FoldingConsole(Losing, Keeping, odt_peer.FoldingMachine):
+    """It makes capitals of small letters."""
 
 
 class WideConsole(Keeping, odt_peer.WideMachine):
@@ -114,9 +121,9 @@ def numbers(words):
     return {2 * it: chance.randrange(65536) for it in range(words)}
 
 
-def tried(address=WORD, digits="123"):
+def tried(address=WORD, digits="123", letter="a"):
     """The keys of a look, a trial and a look."""
-    return f"Z{address:06o}/\rZ{address:06o}/{digits}ZZ{address:06o}/\r"
+    return f"Z{address:06o}/\rZ{address:06o}/{digits}Z{letter}Z{address:06o}/\r"
 
 
 def put_back(old, address=WORD):
@@ -145,14 +152,20 @@ def said(*lines):
     return "".join(f"{it}\n" for it in lines)
 
 
-def found(style=0, words=28672, more=()):
+def letters_of(style):
+    """What is said of small letters at a console that keeps them: nothing comes back of an illegal key that is not echoed."""
+    return KEPT if style & 4 else NOT_KNOWN
+
+
+def found(style=0, words=28672, more=(), letters=None):
     """What is said of a console that may be trusted."""
-    return said("prompt yes", f"style {style}", *more, "forgets digits yes", f"memory 000000 to {2 * words - 2:06o}", pace(words), "end Probed")
+    return said("prompt yes", f"style {style}", *more, letters or letters_of(style), "forgets digits yes",
+                f"memory 000000 to {2 * words - 2:06o}", pace(words), "end Probed")
 
 
 def refused(old, style=0, address=WORD):
     """What is said of a console that stores, once the word holds its number again."""
-    return said("prompt yes", f"style {style}", "forgets digits no: do not load this machine",
+    return said("prompt yes", f"style {style}", letters_of(style), "forgets digits no: do not load this machine",
                 f"the word at {address:06o} holds {old:06o} again", "end NotTrusted")
 
 
@@ -193,7 +206,7 @@ class Probes(Case):
         return given
 
     def is_right(self, line, before, out=""):
-        self.assertIsNone(re.search(r"/[0-7]+\r|[^0-7/\rZ]", line.machine.typed), repr(line.machine.typed))
+        self.assertIsNone(re.search(r"/[0-7]+\r|[^0-7/\rZa]", line.machine.typed), repr(line.machine.typed))
         self.assertNotIn("forgets digits no:", out)
         self.is_so((line.machine.words == before, line.machine.starts), (True, []))
 
@@ -336,6 +349,37 @@ class Known(Probes):
         self.holds({})
 
 
+class Letters(Probes):
+    """A small letter, typed where the console waits for a command. That it is not kept is no hindrance, nor that it is not known."""
+
+    def test_a_console_that_folds(self):
+        """It shows so where it echoes an illegal key."""
+        def trial(row):
+            style, place = row
+            line = getattr(self, place)(FoldingConsole(memory=numbers(28672), style=style))
+            return line, self.probe_rightly(line)
+
+        for (style, place), (line, given) in self.at_once(trial, [(style, place) for style in range(8) for place in ("console_at", "device_at")]):
+            with self.subTest(style, place=place):
+                self.ends(given, 0, found(style, letters=FOLDED if style & 4 else NOT_KNOWN))
+                self.is_so(line.machine.typed, tried() + searched(28672))
+
+    def test_each_lost_character_of_its_answer(self):
+        """One CR of two may be lost; else a refusal that is not whole shows nothing, and costs no mishap. The letter is the 22nd key, its
+        answer's first character the 50th at style 4, `Z?` and two CRs make the 54th of it at style 6."""
+        def trial(row):
+            console, style, loss = row
+            return self.probe_rightly(self.console_at(console(memory={WORD: HELD}, style=style, **loss)), "--patience 0")
+
+        rows = [(4, {"lost_key": 21}, ""), *((4, {"lost_answer": 49 + it}, "") for it in range(5)),
+                *((6, {"lost_answer": 53 + it}, "CR" if it in (2, 3) else "") for it in range(6))]
+        for console, shown in ((LossyConsole, KEPT), (FoldingConsole, FOLDED)):
+            for (_, style, loss), given in self.at_once(trial, [(console, style, loss) for style, loss, _ in rows]):
+                with self.subTest(console.__name__, style=style, **loss):
+                    is_whole = (style, loss, "CR") in rows
+                    self.ends(given, 0, found(style, letters=shown if is_whole else NOT_KNOWN))
+
+
 class Wavering(Probes):
     """Consoles whose answers differ from time to time."""
 
@@ -350,7 +394,7 @@ class Wavering(Probes):
     def test_after_a_mishap(self):
         """The second digit is lost, so that the word is opened twice."""
         line = self.console_at(WaveringConsole(lost_key=18))
-        self.ends(self.probe_rightly(line), 0, found(7, more=(self.CR + self.MISHAP, self.SPACE + self.MISHAP, self.ECHO + self.MISHAP)))
+        self.ends(self.probe_rightly(line), 0, found(7, more=(self.CR + self.MISHAP, self.SPACE + self.MISHAP, self.ECHO + self.MISHAP), letters=NOT_KNOWN))
 
     def test_a_lost_return(self):
         """One of two, at the trial's first prompt: no mishap, and no statement about the console either."""
@@ -389,7 +433,7 @@ class Storing(Probes):
     def test_a_number_that_does_not_come_back(self):
         """It says what the word held, once: `NotTrusted` is not put up with either way."""
         line = self.console_at(StuckConsole(memory={WORD: HELD}))
-        self.ends(self.probe(line), 5, said("prompt yes", "style 0", "forgets digits no: do not load this machine", held(HELD), "end NotTrusted"))
+        self.ends(self.probe(line), 5, said("prompt yes", "style 0", NOT_KNOWN, "forgets digits no: do not load this machine", held(HELD), "end NotTrusted"))
         self.is_so(line.machine.word(WORD), 0o123)
 
     def test_each_lost_character(self):
@@ -427,7 +471,7 @@ class Storing(Probes):
         begins = len(tried())
         for lost_key, (given, now) in self.at_once(trial, (begins + 7, begins + 8, begins + 14)):
             with self.subTest(lost_key):
-                self.ends(given, 5, said("prompt yes", "style 0", "forgets digits no: do not load this machine", held(HELD), "end NotTrusted"))
+                self.ends(given, 5, said("prompt yes", "style 0", NOT_KNOWN, "forgets digits no: do not load this machine", held(HELD), "end NotTrusted"))
                 self.is_so(now, 0o123)
 
 
@@ -491,12 +535,12 @@ class Strangers(Probes):
         """There is a second look behind it, and what that shows counts."""
         line = self.console_at(BabblingConsole(memory={WORD: HELD}))
         characters = "-" * 40 + "?\r\n@" + "?\r\n@001000/123456 \r\n@"
-        self.ends(self.probe_rightly(line), 5, said("prompt yes", heard(characters), look_at("It never falls silent"), "style 0",
+        self.ends(self.probe_rightly(line), 5, said("prompt yes", heard(characters), look_at("It never falls silent"), "style 0", NOT_KNOWN,
                                                     "forgets digits not known", held(HELD), "end TurnsOver"))
-        self.is_so(line.machine.typed, tried())
+        self.is_so(line.machine.typed, tried(letter=""))
         line = self.console_at(BabblingStoringConsole(memory={WORD: HELD}))
         self.ends(self.probe(line), 5, refused(HELD))
-        self.is_so((line.machine.typed, line.machine.word(WORD)), (tried() + put_back(HELD), HELD))
+        self.is_so((line.machine.typed, line.machine.word(WORD)), (tried(letter="") + put_back(HELD), HELD))
 
     def test_the_echo_left_on(self):
         """A device that sends back what it hears never falls silent."""
@@ -521,7 +565,8 @@ class Losses(Probes):
                 self.ends(given, 0, found())
 
     def test_each_lost_character_without_patience(self):
-        """The first look ends a probe; behind a trial that gave up there is a second one, and all that is known is said."""
+        """The first look ends a probe; behind a trial that gave up there is a second one, and all that is known is said. Nothing hangs on the
+        letter."""
         def trial(loss):
             line = self.console_at(LossyConsole(memory={WORD: HELD}, **loss))
             return line, self.probe_rightly(line, "--patience 0")
@@ -529,8 +574,11 @@ class Losses(Probes):
         for loss, (line, given) in self.at_once(trial, LOSSES):
             with self.subTest(loss):
                 is_key, place = "lost_key" in loss, next(iter(loss.values()))
-                first_over, trial_over = (9, 21) if is_key else (21, 46)
+                first_over, trial_over, letter_over = (9, 21, 22) if is_key else (21, 46, 50)
                 lines = given.out.split("\n")
+                if trial_over <= place < letter_over:
+                    self.ends(given, 0, found())
+                    continue
                 self.is_so((given.status, given.err), (5, ""))
                 if place < first_over:
                     self.assertRegex(given.out, r"\Aprompt (yes|no)\nheard .*\nhelp: .*\nend (NoPrompt|GaveUp)\n\Z")
@@ -544,7 +592,7 @@ class Losses(Probes):
         line = self.console_at(LossyConsole(memory={WORD: HELD}, lost_answer=39))
         given = self.probe_rightly(line, "--patience 0")
         characters = "\r\n@" + "?\r\n@001000/123456 " + "?\r\n@001000/123456 \r\n@"
-        self.ends(given, 5, said("prompt yes", heard(characters), OTHERS, "style 0", "forgets digits not known", held(HELD), "end GaveUp"))
+        self.ends(given, 5, said("prompt yes", heard(characters), OTHERS, "style 0", NOT_KNOWN, "forgets digits not known", held(HELD), "end GaveUp"))
         self.is_so(line.machine.typed, "Z001000/\rZ001000/1Z001000/\r")
 
 
@@ -563,6 +611,8 @@ class Failures(Probes):
                 lines = ["prompt yes" if characters >= PROMPTED else "prompt no"]
                 if characters >= STYLE_SEEN:
                     lines.append("style 0")
+                if characters >= LOOK_OVER:
+                    lines.append(NOT_KNOWN)
                 if characters >= SECOND_OVER:
                     lines.append("forgets digits yes")
                 elif characters >= LOOK_OVER:
@@ -589,10 +639,10 @@ class Failures(Probes):
             with self.subTest(characters):
                 self.is_so((now, held(HELD) in given.out, "forgets digits yes" in given.out), (0o123, True, False))
                 if characters < SECOND_OVER:
-                    self.ends(given, 4, said("prompt yes", "style 0", "forgets digits not known", held(HELD), "end LineFailed"), FAILED)
+                    self.ends(given, 4, said("prompt yes", "style 0", NOT_KNOWN, "forgets digits not known", held(HELD), "end LineFailed"), FAILED)
                 else:
                     self.is_so((given.status, given.out), (5, said(
-                        "prompt yes", "style 0", "forgets digits no: do not load this machine", held(HELD), "end NotTrusted")))
+                        "prompt yes", "style 0", NOT_KNOWN, "forgets digits no: do not load this machine", held(HELD), "end NotTrusted")))
 
     def test_a_probe_that_is_killed(self):
         """At any moment: memory is what it was, and the next probe finds the same as the first would have."""
@@ -608,7 +658,7 @@ class Failures(Probes):
             self.is_right(line, before)
             return self.ldaodt(self.words_of(line, "--patience 0"))
 
-        for keys, given in self.at_once(trial, (0, 5, 16, 17, 18, 19, 20, 21, 25, 40)):
+        for keys, given in self.at_once(trial, (0, 5, 16, 17, 18, 19, 20, 21, 22, 25, 40)):
             with self.subTest(keys):
                 self.ends(given._replace(out=timeless(given.out)), 0, found(words=1024))
 

@@ -18,6 +18,9 @@ pub struct Asked {
 
     /// The number that was read, if one was.
     number: Option<u16>,
+
+    /// No loss explains what was heard.
+    foreign: bool,
 }
 
 impl Host for Reading {
@@ -40,13 +43,18 @@ impl Host for Reading {
     ghost news_in = { λ r asked. option_to_list asked.number };
 
     fn step(&mut self, heard: Heard) -> Asked {
+        let foreign = self.core.is_foreign(heard);
         let before = self.core.values().len();
         let key = self.core.step(heard);
         let number = match self.core.values().get(before) {
             Some(number) => Some(*number),
             None => None,
         };
-        Asked { key, number }
+        Asked {
+            key,
+            number,
+            foreign,
+        }
     }
 
     fn keys(&self, step: &Asked) -> Keys {
@@ -81,6 +89,7 @@ impl Host for Reading {
             key: step.key,
             done: self.core.values().len() as u32,
             spent: self.core.spent(),
+            foreign: step.foreign,
         }
     }
 }

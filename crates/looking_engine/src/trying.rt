@@ -68,12 +68,14 @@ impl Host for Trying {
         self.trial.end()
     }
 
+    // Nothing says yet which characters a trial can't await, so none is foreign.
     fn sight(&self, heard: Heard, step: &Tried) -> Sight {
         Sight {
             heard,
             key: step.key,
             done: 0,
             spent: self.trial.spent,
+            foreign: false,
         }
     }
 }

@@ -21,8 +21,8 @@ use Rattle.reading_core.specs.ReadingTable.{ask}
 use Rattle.line_world.specs.Scene.{over}
 use Rattle.looking_law.specs.Inquiry.{Inquiry}
 use Rattle.looking_law.specs.Harmless.{HoldsRead, HasCause, IsHarmless, OnlyLook}
-use Rattle.looking_law.specs.Belief.{dialogue, MayLook, IsReadyMachine, IsTrueReading, HonestReadingsAreTrue, ReadingsLeaveItReady, UnsaidReadingsAreTrue}
-use Rattle.looking_law.proofs.Harmless.{mirrored_events, harmless}
+use Rattle.looking_law.specs.Belief.{dialogue, MayLook, IsReadyMachine, IsTrueReading, HonestReadingsAreTrue, ReadingsHearNothingForeign, ReadingsLeaveItReady, UnsaidReadingsAreTrue}
+use Rattle.looking_law.proofs.Harmless.{events_count, mirrored_events, harmless}
 use Rattle.looking_law.proofs.Looks.{events_look}
 use Rattle.looking_law.proofs.Mirrors.{IsMirrored, opened_mirrored}
 use Rattle.looking_law.proofs.Events.{Leads, dialogue_leads}
@@ -39,14 +39,18 @@ begin_mirrored r machine waiting is may few =
 pub run_mirrored : (memory : List ℕ) (w next : Inquiry) (typing : List ℕ) → IsMirrored memory w → Leads w typing next → IsMirrored memory next
 run_mirrored memory w next typing k run = subst (IsMirrored memory) run.world (mirrored_events memory w run.events k)
 
-run_true : (memory : List ℕ) (w next : Inquiry) (typing : List ℕ) → IsMirrored memory w → Leads w typing next → IsTrueReading memory next.core next.machine.memory typing next.lost
-run_true memory w next typing k run =
-    let fine : IsHarmless memory next = harmless memory next (run_mirrored memory w next typing k run) in
+run_counts : (memory : List ℕ) (w next : Inquiry) (typing : List ℕ) → IsMirrored memory w → Leads w typing next → next.core.foreign ≡ w.core.foreign
+run_counts memory w next typing k run = subst (λ (x : Inquiry). x.core.foreign ≡ w.core.foreign) run.world (events_count memory w run.events k)
+
+run_true : (memory : List ℕ) (w next : Inquiry) (typing : List ℕ) → IsMirrored memory w → w.core.foreign ≡ 0 → Leads w typing next → IsTrueReading memory next.core next.machine.memory typing next.lost
+run_true memory w next typing k none run =
+    let fine : IsHarmless memory next = harmless memory next (run_mirrored memory w next typing k run) (run_counts memory w next typing k run ∙ none) in
     record {
       same = fine.same;
       read = subst (λ m. HoldsRead m next.core) (sym fine.same) fine.read;
       looks = subst (OnlyLook false) run.keys_are (events_look false w run.events (λ e. absurd (cc e)));
       spent = fine.spent;
+      foreign = fine.foreign;
       cause = subst (λ m. HasCause next.core.phase m next.core.patience next.lost) (sym fine.same) fine.cause;
     }
 
@@ -72,7 +76,7 @@ dialogue_true : (r : Reader) (things : List Heard) (machine : Machine) (waiting 
     IsTrueReading machine.memory (led r things) end.machine.memory (keys_of (dialogue r things)) end.lost
 dialogue_true r things machine waiting end is may few passes =
     subst (λ keys. IsTrueReading machine.memory (led r things) end.machine.memory keys end.lost) (sym (keys_of-dialogue things r))
-    (run_true machine.memory (over r (resting machine waiting 0)) (over (led r things) end) (replay r things) (begin_mirrored r machine waiting is may few)
+    (run_true machine.memory (over r (resting machine waiting 0)) (over (led r things) end) (replay r things) (begin_mirrored r machine waiting is may few) (ap (λ (x : Reader). x.foreign) may.begun)
     (dialogue_leads things r (resting machine waiting 0) end passes))
 
 pub honest_are_true : HonestReadingsAreTrue
@@ -83,6 +87,9 @@ honest_are_true r things is machine now lost may honest =
   where
     more : (n : ℕ) → n ≡ n + 0
     more n = omega arith
+
+pub hear_nothing_foreign : ReadingsHearNothingForeign
+hear_nothing_foreign r things machine now lost is may honest = (honest_are_true r things is machine now lost may honest).foreign
 
 -- ---- what a dialogue leaves
 
@@ -113,7 +120,7 @@ looks_front slash (c ∷ keys) more h = (h.0, looks_front (c == 47) keys more h.
 unsaid_true : (before : List ℕ) (next : Reader) (now typing : List ℕ) (key lost : ℕ) → IsTrueReading before next now (typing ++ key ∷ []) (1 + lost) → IsTrueReading before next now typing (lost + 1)
 unsaid_true before next now typing key lost t =
     subst (λ n. IsTrueReading before next now typing n) (turned lost)
-    record { same = t.same; read = t.read; looks = looks_front false typing (key ∷ []) t.looks; spent = t.spent; cause = t.cause }
+    record { same = t.same; read = t.read; looks = looks_front false typing (key ∷ []) t.looks; spent = t.spent; foreign = t.foreign; cause = t.cause }
   where
     turned : (n : ℕ) → 1 + n ≡ n + 1
     turned n = omega arith

@@ -1,4 +1,4 @@
--- Digits, `/` and `Z` store nothing and start nothing: in the key table, and on a line.
+-- Digits, `/`, `Z` and `a` store nothing and start nothing: in the key table, and on a line.
 use Rattle.std.proofs.Common.{◌≡◌, ℕ, zero, suc, ◌+◌, ◌≤◌, Bool, true, false, min, List, [], ◌∷◌, ◌++◌, length, inl, inr, refl, arith, sym, subst, ◌∙◌, lit≤}
 use Rattle.std.proofs.lemmas.List.Elements.{All-head, All-tail}
 use Rattle.std.specs.Prelude.{if◌then◌else◌, All}
@@ -72,7 +72,8 @@ digit_tries false key e = absurd (cc e)
 key_tries : (c : ℕ) → IsTrying c → TriesKey (key_of c)
 key_tries c (inl digit) = digit_tries (is_digit c) _ digit
 key_tries c (inr (inl is)) = subst (λ d. TriesKey (key_of d)) (sym is) tt
-key_tries c (inr (inr is)) = subst (λ d. TriesKey (key_of d)) (sym is) tt
+key_tries c (inr (inr (inl is))) = subst (λ d. TriesKey (key_of d)) (sym is) tt
+key_tries c (inr (inr (inr is))) = subst (λ d. TriesKey (key_of d)) (sym is) tt
 
 -- ---- a machine
 

@@ -1,5 +1,5 @@
 -- Step by step a reading host does what a loading host does whose plan says what memory holds already.
-use Rattle.std.proofs.Common.{◌≡◌, ℕ, zero, suc, ◌+◌, ◌≤◌, Bool, true, false, ◌==◌, nat_lt, ◌&&◌, ◌||◌, if◌then◌else◌, List, [], ◌∷◌, length, take, get_or, Option, Some, None, inl, inr, refl, ap, sym, ◌∙◌, length-take}
+use Rattle.std.proofs.Common.{◌≡◌, ℕ, zero, suc, ◌+◌, ◌≤◌, Bool, true, false, ◌==◌, nat_lt, ◌&&◌, ◌||◌, not, if◌then◌else◌, List, [], ◌∷◌, length, take, get_or, Option, Some, None, inl, inr, refl, ap, sym, ◌∙◌, length-take}
 use Rattle.std.specs.Prelude.{◌⊎◌}
 use Rattle.std.proofs.lemmas.Bool.{eq-eqb}
 use Rattle.std.proofs.lemmas.List.{length_push}
@@ -21,6 +21,7 @@ use Rattle.host_core.specs.declared.turn.Turn.{Turn as LoadTurn}
 use Rattle.host_core.specs.declared.turn.Turn.TheVariants.{Listen as LoadListen, Key as LoadKey, Verified, Next as LoadNext, Stop as LoadStop, Stray as LoadStray, Timeout as LoadTimeout}
 use Rattle.host_core.specs.Answers.{resynchronise_reply, return_reply, digit_echo, reading_start, reading_rest}
 use Rattle.host_core.specs.Core.{Core, word_nr, word_under_way, begun as load_begun, restarted as load_restarted}
+use Rattle.host_core.specs.Foreign.{may_come, is_foreign as load_is_foreign}
 use Rattle.host_core.specs.PhaseTable.{Move, move, sends as load_sends, listens as load_listens, taken as load_taken, turn_of as load_turn_of, hears as load_hears, waits as load_waits, read as load_read, mends, next_word as load_next_word, synced as load_synced, echoed as load_echoed, address_hears as load_address_hears, reads as load_reads, returns as load_returns}
 use Rattle.reading_core.specs.declared.phase.Phase.{Phase}
 use Rattle.reading_core.specs.declared.phase.Phase.TheVariants.{Settle, Sync, Address, Slash, Before, Value, Close, Refused, Ended}
@@ -28,30 +29,15 @@ use Rattle.reading_core.specs.declared.phase.End.{End}
 use Rattle.reading_core.specs.declared.phase.End.TheVariants.{Complete, GaveUp, NoWord}
 use Rattle.reading_core.specs.declared.turn.Turn.{Turn}
 use Rattle.reading_core.specs.declared.turn.Turn.TheVariants.{Listen, Key, Read, Again, Next, Stop, Stray, Timeout}
+use Rattle.reading_core.specs.Foreign.{end_for, is_foreign, phase_for}
 use Rattle.reading_core.specs.Reader.{Reader, Manner, address_under_way, begun_in, looks_twice, restarted}
-use Rattle.reading_core.specs.ReadingTable.{ReaderStep, ask, taken, turn_of, hears, waits, next_word, sends, listens, synced, addressed, Target, doubts, judged, target_of, questioned, reads, closed, refused}
+use Rattle.reading_core.specs.ReadingTable.{ReaderStep, ask, counted as counts, taken, turn_of, hears, waits, next_word, sends, listens, synced, addressed, Target, doubts, judged, target_of, questioned, reads, closed, refused}
 use Rattle.host_core.specs.Console.{carriage_return}
 use Rattle.host_core.specs.declared.answers.Reading.{Reading}
 use Rattle.host_core.proofs.Replies.{either, resynchronise_walk, return_walk, echo_walk, rest_walk}
 use Rattle.looking_law.proofs.Saying.{plan_for, words_for, nr_for, length_for}
 
 -- ---- the same of the loading host
-
-abbrev end_for : End → LoadEnd
-end_for Complete = Loaded
-end_for GaveUp = LoadGaveUp
-end_for (NoWord a) = LoadNoWord a
-
-abbrev pub phase_for : Phase → LoadPhase
-phase_for Settle = LoadSettle
-phase_for (Sync place) = LoadSync place
-phase_for (Address place) = LoadAddress Look place
-phase_for Slash = LoadSlash Look
-phase_for Before = LoadBefore Look
-phase_for (Value value place) = LoadValue Look value place
-phase_for (Close place) = Return Closes place
-phase_for (Refused place) = Return Closes place
-phase_for (Ended end) = LoadEnded (end_for end)
 
 abbrev pub turn_for : Turn → LoadTurn
 turn_for (Listen phase) = LoadListen (phase_for phase)
@@ -231,6 +217,14 @@ turn_is memory r Quiet right = waits_for r.phase
 
 pub move_is : (memory : List ℕ) (r : Reader) (heard : Heard) → HearsRight memory r heard → move (core_for memory r) heard ≡ next_for_turn memory r (turn_of r heard)
 move_is memory r heard right = ap (load_taken (core_for memory r)) (turn_is memory r heard right) ∙ taken_for memory r (turn_of r heard)
+
+-- the same of a reader with another count of what no loss explains
+pub counted_move_is : (memory : List ℕ) (r : Reader) (heard : Heard) → HearsRight memory r heard → move (core_for memory r) heard ≡ next_for_turn memory (counts r heard) (turn_of r heard)
+counted_move_is memory r heard right = ap (load_taken (core_for memory r)) (turn_is memory r heard right) ∙ taken_for memory (counts r heard) (turn_of r heard)
+
+-- what no loss explains to one, none explains to the other
+pub foreign_for : (memory : List ℕ) (r : Reader) (c : ℕ) → load_is_foreign (core_for memory r) (Got c) ≡ is_foreign (address_under_way r) r.phase (Got c)
+foreign_for memory r c = ap (λ address. not (may_come false address 0 (phase_for r.phase) c)) (under_way_for memory r.addresses (length r.values))
 
 -- ---- the beginning of a life
 

@@ -18,7 +18,7 @@ use Rattle.reading_core.specs.declared.turn.Turn.{Turn}
 use Rattle.reading_core.specs.declared.turn.Turn.TheVariants.{Listen, Key, Read, Again, Next, Stop, Stray, Timeout}
 use Rattle.reading_core.specs.Laws.{replay}
 use Rattle.reading_core.specs.Reader.{Reader, address_under_way, looks_twice, restarted}
-use Rattle.reading_core.specs.ReadingTable.{ask, taken, turn_of, hears, waits, sends, listens, synced, addressed, Target, doubts, judged, target_of, questioned, reads, closed, refused}
+use Rattle.reading_core.specs.ReadingTable.{ask, counted, taken, turn_of, hears, waits, sends, listens, synced, addressed, Target, doubts, judged, target_of, questioned, reads, closed, refused}
 use Rattle.line_world.specs.Scene.{wire_of, over_when}
 use Rattle.line_world.specs.Happening.{takes, host_hears as world_hears, times_out, typed_hearing, typed_timeout}
 use Rattle.looking_law.specs.Inquiry.{Inquiry, happens, typed_in, typed, reading}
@@ -155,7 +155,7 @@ turn_looks slash r (Got c) a = hears_look slash (target_of r) r.phase c a
 turn_looks slash r Silence a = waits_look slash r.phase a
 
 ask_looks : (slash : Bool) (r : Reader) (heard : Heard) → Agrees slash r.phase → LooksOn slash (ask r heard).key (ask r heard).next.phase
-ask_looks slash r heard a = taken_looks slash r (turn_of r heard) (turn_looks slash r heard a)
+ask_looks slash r heard a = taken_looks slash (counted r heard) (turn_of r heard) (turn_looks slash r heard a)
 
 -- ---- events
 

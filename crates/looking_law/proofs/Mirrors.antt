@@ -36,6 +36,7 @@ use Rattle.line_world.specs.Invariant.{IsKept, InPhase}
 use Rattle.line_world.specs.Safe.{OnlyImage}
 use Rattle.line_world.proofs.Opening.{opening_kept}
 use Rattle.line_world.proofs.Events.{kept_event, steps_event}
+use Rattle.line_world.proofs.Explained.{never_foreign}
 use Rattle.line_world.proofs.Stores.{same_or}
 use Rattle.reading_core.specs.declared.care.Care.{Care}
 use Rattle.reading_core.specs.declared.care.Care.TheVariants.{Once, Twice, TwiceWhereOther}
@@ -52,7 +53,8 @@ use Rattle.line_world.specs.Happening.{takes, host_hears, times_out}
 use Rattle.looking_law.specs.Inquiry.{Inquiry, happens, opened, reading}
 use Rattle.looking_law.specs.Harmless.{HoldsRead}
 use Rattle.looking_law.proofs.Saying.{plan_for, words_for, word_for, image_for, nr_for, length_for, is_plan, unchanged, merged_for}
-use Rattle.looking_law.proofs.Loading.{core_for, phase_for, move_for, move_is, next_for_turn, under_way_for, GoesOn, IsRight, IsWholeAnswer, ReadBefore, begun_for, restarted_for}
+use Rattle.looking_law.proofs.Loading.{core_for, move_for, move_is, next_for_turn, under_way_for, GoesOn, IsRight, IsWholeAnswer, foreign_for, ReadBefore, begun_for, restarted_for}
+use Rattle.reading_core.specs.Foreign.{count_after, is_foreign, phase_for}
 use borrow.Author.Tests.{eqb-true}
 
 not_both : (b : Bool) → b ≡ true → b ≡ false → ⊥
@@ -502,16 +504,16 @@ mirrored_by memory w same calm books k = record { same = same; calm = calm; book
 abbrev in_phase : Reader → Phase → Reader
 in_phase r phase = record r { phase = phase }
 
-hears_ordinary : (memory : List ℕ) (m : Machine) (r : Reader) (c : ℕ) (up : List ℕ) (real : ℕ) → IsOrdinary memory r r.phase c → IsMirrored memory (quiet m r (c ∷ up) real) → IsMirrored memory (behind m up real (ask r (Got c)))
+hears_ordinary : (memory : List ℕ) (m : Machine) (r : Reader) (c : ℕ) (up : List ℕ) (real : ℕ) → IsOrdinary memory r r.phase c → IsMirrored memory (quiet m r (c ∷ up) real) → IsMirrored memory (behind m up real (taken r (turn_of r (Got c))))
 hears_ordinary memory m r c up real o k =
     let b : IsBooked memory (quiet m r (c ∷ up) real) = k.books in
     let before : Scene = as_load memory (booked (quiet m r (c ∷ up) real) b.sent b.lost) in
     let next : IsKept (load_behind before up (next_for_turn memory (record r { sent = b.sent }) (turn_of r (Got c)))) =
     subst (λ mv. IsKept (load_behind before up mv)) (move_is memory (record r { sent = b.sent }) (Got c) o.right) (calmly before up _ refl (kept_event before Hear b.kept)) in
-    mirrored_by memory (behind m up real (ask r (Got c))) k.same refl (books_after memory m r (turn_of r (Got c)) up b.sent b.lost real b.less b.exact o.past next) (knows_after memory r (turn_of r (Got c)) o.takes o.past (knows memory _ k))
+    mirrored_by memory (behind m up real (taken r (turn_of r (Got c)))) k.same refl (books_after memory m r (turn_of r (Got c)) up b.sent b.lost real b.less b.exact o.past next) (knows_after memory r (turn_of r (Got c)) o.takes o.past (knows memory _ k))
 
 hears_question : (memory : List ℕ) (m : Machine) (r : Reader) (c : ℕ) (up : List ℕ) (real : ℕ) → c ≡ 63 → looks_twice r.manner.care ≡ true → IsMirrored memory (quiet m (in_phase r Before) (c ∷ up) real) →
-    IsMirrored memory (behind m up real (ask (in_phase r Before) (Got c)))
+    IsMirrored memory (behind m up real (taken (in_phase r Before) (turn_of (in_phase r Before) (Got c))))
 hears_question memory m r c up real is twice k =
     let b : IsBooked memory (quiet m (in_phase r Before) (c ∷ up) real) = k.books in
     let asked = asked_books memory m r up b.sent b.lost real b.less twice k.same (subst (λ x. IsKept (as_load memory (quiet m (record r { sent = b.sent; phase = Before }) (x ∷ up) b.lost))) is b.kept) in
@@ -519,7 +521,7 @@ hears_question memory m r c up real is twice k =
     subst (λ t. IsMirrored memory (behind m up real (taken (in_phase r Before) t))) (sym turn) (mirrored_by memory (quiet m (in_phase r (Refused 0)) up real) k.same refl asked.1 (record { holds = k.holds; earlier = k.earlier; refused = asked.0 }))
 
 hears_refusal : (memory : List ℕ) (m : Machine) (r : Reader) (place c : ℕ) (up : List ℕ) (real : ℕ) → return_reply place c ≡ Over → IsMirrored memory (quiet m (in_phase r (Refused place)) (c ∷ up) real) →
-    IsMirrored memory (behind m up real (ask (in_phase r (Refused place)) (Got c)))
+    IsMirrored memory (behind m up real (taken (in_phase r (Refused place)) (turn_of (in_phase r (Refused place)) (Got c))))
 hears_refusal memory m r place c up real is k =
     let b : IsBooked memory (quiet m (in_phase r (Refused place)) (c ∷ up) real) = k.books in
     let turn : turn_of (in_phase r (Refused place)) (Got c) ≡ Stop (NoWord (address_under_way r)) = ap (refused (address_under_way r)) is in
@@ -533,22 +535,35 @@ phased P r phase is h = subst (λ x. P (in_phase r x)) is h
 back_from : (P : Reader → Type 0) (r : Reader) (phase : Phase) → r.phase ≡ phase → P (in_phase r phase) → P r
 back_from P r phase is h = subst (λ x. P (in_phase r x)) (sym is) h
 
+-- in such a world nothing is heard that no loss explains, so that a step is what the table's turn does
+never_unexplained : (memory : List ℕ) (m : Machine) (r : Reader) (c : ℕ) (up : List ℕ) (real : ℕ) → IsMirrored memory (quiet m r (c ∷ up) real) → is_foreign (address_under_way r) r.phase (Got c) ≡ false
+never_unexplained memory m r c up real k =
+    let b : IsBooked memory (quiet m r (c ∷ up) real) = k.books in
+    sym (foreign_for memory (record r { sent = b.sent }) c) ∙ never_foreign m (core_for memory (record r { sent = b.sent })) [] c up (record { count = b.lost; hurt = false }) refl b.kept
+
+plain_step : (r : Reader) (c : ℕ) → is_foreign (address_under_way r) r.phase (Got c) ≡ false → ask r (Got c) ≡ taken r (turn_of r (Got c))
+plain_step r c known = ap (λ foreign. taken (record r { foreign = count_after r.foreign foreign }) (turn_of r (Got c))) known
+
+heard_mirrored : (memory : List ℕ) (m : Machine) (r : Reader) (c : ℕ) (up : List ℕ) (real : ℕ) → IsMirrored memory (quiet m r (c ∷ up) real) → IsMirrored memory (behind m up real (taken r (turn_of r (Got c))))
+heard_mirrored memory m r c up real k =
+    elim (outcome memory (booked (quiet m r (c ∷ up) real) k.books.sent k.books.lost) r.phase c up k.same k.earlier k.refused k.books.kept.host.fits k.books.kept.phase) [
+      | inl o ↦ hears_ordinary memory m r c up real (record { right = o.right; takes = o.takes; past = o.past }) k
+      | inr other ↦ elim other [
+        | inl asks ↦
+            back_from (λ x. IsMirrored memory (behind m up real (taken x (turn_of x (Got c))))) r Before asks.0
+            (hears_question memory m r c up real asks.1 asks.2 (phased (λ x. IsMirrored memory (quiet m x (c ∷ up) real)) r Before asks.0 k))
+        | inr ends ↦
+            back_from (λ x. IsMirrored memory (behind m up real (taken x (turn_of x (Got c))))) r (Refused ends.0) ends.1
+            (hears_refusal memory m r ends.0 c up real ends.2 (phased (λ x. IsMirrored memory (quiet m x (c ∷ up) real)) r (Refused ends.0) ends.1 k))
+      ]
+    ]
+
 hearing_mirrored : (memory : List ℕ) (m : Machine) (r : Reader) (down up : List ℕ) (real : ℕ) → IsMirrored memory (record { machine = m; core = r; down = down; up = up; lost = real; changed = false }) →
     IsMirrored memory (unwrap_or (host_hears reading (record { machine = m; core = r; down = down; up = up; lost = real; changed = false }) up) (record { machine = m; core = r; down = down; up = up; lost = real; changed = false }))
 hearing_mirrored memory m r down [] real k = k
 hearing_mirrored memory m r (key ∷ down) (c ∷ up) real k = absurd (cc k.books.kept.one_way.1)
 hearing_mirrored memory m r [] (c ∷ up) real k =
-    elim (outcome memory (booked (quiet m r (c ∷ up) real) k.books.sent k.books.lost) r.phase c up k.same k.earlier k.refused k.books.kept.host.fits k.books.kept.phase) [
-      | inl o ↦ hears_ordinary memory m r c up real (record { right = o.right; takes = o.takes; past = o.past }) k
-      | inr other ↦ elim other [
-        | inl asks ↦
-            back_from (λ x. IsMirrored memory (behind m up real (ask x (Got c)))) r Before asks.0
-            (hears_question memory m r c up real asks.1 asks.2 (phased (λ x. IsMirrored memory (quiet m x (c ∷ up) real)) r Before asks.0 k))
-        | inr ends ↦
-            back_from (λ x. IsMirrored memory (behind m up real (ask x (Got c)))) r (Refused ends.0) ends.1
-            (hears_refusal memory m r ends.0 c up real ends.2 (phased (λ x. IsMirrored memory (quiet m x (c ∷ up) real)) r (Refused ends.0) ends.1 k))
-      ]
-    ]
+    subst (λ a. IsMirrored memory (behind m up real a)) (sym (plain_step r c (never_unexplained memory m r c up real k))) (heard_mirrored memory m r c up real k)
 
 -- no turn at a silence leads on to the end of a refusal
 silence_past : (memory : List ℕ) (r : Reader) (phase : Phase) → GoesOnPast memory r (waits phase)
@@ -655,6 +670,59 @@ pub mirrored_event : (memory : List ℕ) (w : Inquiry) (event : Event) → IsMir
 mirrored_event memory w event k =
     subst (λ b. IsMirrored memory (happens (record w { changed = b }) event)) (sym k.calm)
     (calm_event memory w event (subst (λ b. IsMirrored memory (record w { changed = b })) k.calm k))
+
+-- ---- the count of what no loss explains
+
+foreign_if : (n : ℕ) (test : Bool) (a b : ReaderStep) → a.next.foreign ≡ n → b.next.foreign ≡ n → (if test then a else b).next.foreign ≡ n
+foreign_if n true a b one other = one
+foreign_if n false a b one other = other
+
+turn_counts : (r : Reader) (turn : Turn) → (taken r turn).next.foreign ≡ r.foreign
+turn_counts r (Listen phase) = refl
+turn_counts r (Key key phase) = refl
+turn_counts r (Read value) = refl
+turn_counts r (Again value) = refl
+turn_counts r Next = foreign_if r.foreign (nat_lt (length r.values) (length r.addresses)) _ _ refl refl
+turn_counts r (Stop end) = refl
+turn_counts r Stray = foreign_if r.foreign (nat_lt r.spent r.patience) _ _ refl refl
+turn_counts r Timeout = foreign_if r.foreign (nat_lt r.spent r.patience) _ _ refl refl
+
+hearing_counts : (memory : List ℕ) (m : Machine) (r : Reader) (down up : List ℕ) (real : ℕ) → IsMirrored memory (record { machine = m; core = r; down = down; up = up; lost = real; changed = false }) →
+    (unwrap_or (host_hears reading (record { machine = m; core = r; down = down; up = up; lost = real; changed = false }) up) (record { machine = m; core = r; down = down; up = up; lost = real; changed = false })).core.foreign ≡ r.foreign
+hearing_counts memory m r down [] real k = refl
+hearing_counts memory m r (key ∷ down) (c ∷ up) real k = absurd (cc k.books.kept.one_way.1)
+hearing_counts memory m r [] (c ∷ up) real k =
+    ap (λ (a : ReaderStep). a.next.foreign) (plain_step r c (never_unexplained memory m r c up real k)) ∙ turn_counts r (turn_of r (Got c))
+
+silence_counts : (m : Machine) (r : Reader) (down up : List ℕ) (real : ℕ) →
+    (unwrap_or (times_out reading (record { machine = m; core = r; down = down; up = up; lost = real; changed = false }) down up) (record { machine = m; core = r; down = down; up = up; lost = real; changed = false })).core.foreign ≡ r.foreign
+silence_counts m r [] [] real = turn_counts r (waits r.phase)
+silence_counts m r (c ∷ down) up real = refl
+silence_counts m r [] (c ∷ up) real = refl
+
+taking_counts : (m : Machine) (r : Reader) (down up : List ℕ) (real : ℕ) →
+    (unwrap_or (takes (record { machine = m; core = r; down = down; up = up; lost = real; changed = false }) down) (record { machine = m; core = r; down = down; up = up; lost = real; changed = false })).core.foreign ≡ r.foreign
+taking_counts m r [] up real = refl
+taking_counts m r (c ∷ down) up real = refl
+
+losing_counts : (w next : Inquiry) (test : Bool) → next.core ≡ w.core → (unwrap_or (if test then Some next else None) w).core.foreign ≡ w.core.foreign
+losing_counts w next true is = ap (λ (r : Reader). r.foreign) is
+losing_counts w next false is = refl
+
+calm_counts : (memory : List ℕ) (w : Inquiry) (event : Event) → IsMirrored memory (record w { changed = false }) → (happens (record w { changed = false }) event).core.foreign ≡ w.core.foreign
+calm_counts memory w Take k = taking_counts w.machine w.core w.down w.up w.lost
+calm_counts memory w Hear k = hearing_counts memory w.machine w.core w.down w.up w.lost k
+calm_counts memory w (LoseDown n) k = losing_counts (record w { changed = false }) (over_when false w.core (without_down (wire_of w) n)) (ltb n (length w.down)) refl
+calm_counts memory w (LoseUp n) k = losing_counts (record w { changed = false }) (over_when false w.core (without_up (wire_of w) n)) (ltb n (length w.up)) refl
+calm_counts memory w (ChangeDown n c) k = refl
+calm_counts memory w (ChangeUp n c) k = refl
+calm_counts memory w Quiet k = silence_counts w.machine w.core w.down w.up w.lost
+calm_counts memory w (Restart kept) k = refl
+
+pub event_counts : (memory : List ℕ) (w : Inquiry) (event : Event) → IsMirrored memory w → (happens w event).core.foreign ≡ w.core.foreign
+event_counts memory w event k =
+    subst (λ b. (happens (record w { changed = b }) event).core.foreign ≡ w.core.foreign) (sym k.calm)
+    (calm_counts memory w event (subst (λ b. IsMirrored memory (record w { changed = b })) k.calm k))
 
 -- of a host that looks at each word once the books are the world's
 pub once_kept : (memory : List ℕ) (w : Inquiry) → IsMirrored memory w → looks_twice w.core.manner.care ≡ false → IsKept (as_load memory w)

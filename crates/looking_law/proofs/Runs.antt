@@ -43,7 +43,7 @@ more_pay (Refused place) memory patience lost more le cause = tt
 
 still_true : (memory : List ℕ) (r : Reader) (keys : List ℕ) (lost more : ℕ) → lost ≤ more → IsTrueReading memory r memory keys lost → IsTrueReading memory r memory keys more
 still_true memory r keys lost more le t =
-    record { same = t.same; read = t.read; looks = t.looks; spent = omega (arith, le, t.spent); cause = more_pay r.phase memory r.patience lost more le t.cause }
+    record { same = t.same; read = t.read; looks = t.looks; spent = omega (arith, le, t.spent); foreign = t.foreign; cause = more_pay r.phase memory r.patience lost more le t.cause }
 
 true_before : (before now : List ℕ) (r : Reader) (keys : List ℕ) (lost : ℕ) → IsTrueReading before r now keys (lost + 0) → IsTrueReading before r before keys lost
 true_before before now r keys lost t =

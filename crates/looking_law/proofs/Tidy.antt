@@ -9,7 +9,7 @@ use Rattle.odt_machine.specs.KeyTable.{take_of}
 use Rattle.odt_machine.specs.Machine.{Machine}
 use Rattle.host_core.specs.declared.heard.Heard.{Heard}
 use Rattle.host_core.specs.declared.heard.Heard.TheVariants.{Got, Quiet}
-use Rattle.host_core.specs.Answers.{resynchronise_reply, digit_echo, reading_start, reading_rest}
+use Rattle.host_core.specs.Answers.{refusal_reply, resynchronise_reply, digit_echo, reading_start, reading_rest}
 use Rattle.host_core.proofs.Frame.{on_test}
 use Rattle.host_core.proofs.Replies.{resynchronise_walk, echo_walk, start_walk, rest_walk}
 use Rattle.line_world.specs.Invariant.{OneWay}
@@ -18,16 +18,18 @@ use Rattle.honest_line.specs.Moves.{Gives, Moves, MovesTimes, Passes}
 use Rattle.honest_line.specs.Honest.{resting}
 use Rattle.honest_line.proofs.Passings.{passing_said}
 use Rattle.trial_core.specs.declared.phase.Phase.{Phase}
-use Rattle.trial_core.specs.declared.phase.Phase.TheVariants.{Settle, Sync, Address, Slash, Before, Value, Typed, Done, Ended}
+use Rattle.trial_core.specs.declared.phase.Phase.TheVariants.{Settle, Sync, Address, Slash, Before, Value, Typed, Done, Letter, Refused, Ended}
 use Rattle.trial_core.specs.declared.phase.End.TheVariants.{GaveUp}
 use Rattle.host_core.specs.declared.answers.Reply.{Reply}
 use Rattle.host_core.specs.declared.answers.Reply.TheVariants.{On, Over, Wrong}
 use Rattle.trial_core.specs.declared.turn.Turn.{Turn}
 use Rattle.trial_core.specs.declared.turn.Turn.TheVariants.{Listen, Key, Stop, Stray, Timeout}
+use Rattle.trial_core.specs.declared.letter.SmallLetters.{SmallLetters}
 use Rattle.trial_core.specs.declared.trial.Trial.{Trial}
 use Rattle.trial_core.specs.Laws.{led}
+use Rattle.trial_core.specs.Letter.{small_letter}
 use Rattle.trial_core.specs.Trial.{begun_trial}
-use Rattle.trial_core.specs.TrialTable.{TrialStep, ask, synced, addressed, reads, typed, finished, hears, waits, turn_of, taken, noted, listens, sends}
+use Rattle.trial_core.specs.TrialTable.{TrialStep, ask, synced, addressed, reads, typed, finished, echoed, refused, hears, waits, turn_of, taken, noted, listens, sends}
 use Rattle.looking_law.specs.Trying.{trial_dialogue}
 use Rattle.looking_law.specs.Splitting.{EndsTidily, TrialsEndTidily}
 use Rattle.looking_law.proofs.Answers.{Alone, EndsAt, answer_short, digit_ends, ends_behind, ends_removed, none_removed, resync_ends, slash_ends}
@@ -43,6 +45,7 @@ Fits Slash up = EndsAt 32 (drop 2 up)
 Fits Before up = EndsAt 32 (drop 1 up)
 Fits (Value place) up = EndsAt 32 up
 Fits (Typed place) up = (e : ℕ) → EndsAt e up
+Fits (Done place) up = EndsAt 64 up
 Fits phase up = Unit {0}
 
 -- whatever the console is in the middle of, its answer to a key fits
@@ -66,6 +69,8 @@ none_fits (Value place) = tt
 none_fits (Typed place) = λ e. tt
 none_fits Settle = tt
 none_fits (Done place) = tt
+none_fits Letter = tt
+none_fits (Refused letters place) = tt
 none_fits (Ended end) = tt
 
 removed_fits : (phase : Phase) (up : List ℕ) (k : ℕ) → Fits phase up → Fits phase (remove up k)
@@ -76,7 +81,9 @@ removed_fits Before up k fits = ends_behind 32 1 up k fits
 removed_fits (Value place) up k fits = ends_removed 32 up k fits
 removed_fits (Typed place) up k fits = λ e. ends_removed e up k (fits e)
 removed_fits Settle up k fits = tt
-removed_fits (Done place) up k fits = tt
+removed_fits (Done place) up k fits = ends_removed 64 up k fits
+removed_fits Letter up k fits = tt
+removed_fits (Refused letters place) up k fits = tt
 removed_fits (Ended end) up k fits = tt
 
 -- ---- moves
@@ -151,10 +158,18 @@ synced_fits address (On place) left fits = fits
 synced_fits address Over left fits = (fits, digit_fits address 1 1)
 synced_fits address Wrong left fits = tt
 
-finished_fits : (r : Reply) (left : List ℕ) → TurnFits (finished r) left
-finished_fits (On place) left = tt
-finished_fits Over left = tt
-finished_fits Wrong left = tt
+finished_fits : (r : Reply) (left : List ℕ) → ReplyFits r left → TurnFits (finished r) left
+finished_fits (On place) left fits = fits
+finished_fits Over left fits = (fits, λ m. tt)
+finished_fits Wrong left fits = tt
+
+refused_fits : (letters : SmallLetters) (r : Reply) (left : List ℕ) → TurnFits (refused letters r) left
+refused_fits letters (On place) left = tt
+refused_fits letters Over left = tt
+refused_fits letters Wrong left = tt
+
+echoed_fits : (c : ℕ) (left : List ℕ) → TurnFits (echoed c) left
+echoed_fits c left = either left (c == 97) _ _ (λ _. tt) (λ _. either left (c == 65) _ _ (λ _. tt) (λ _. tt))
 
 address_fits : (address place c : ℕ) (left : List ℕ) → ((e : ℕ) → EndsAt e (c ∷ left)) → TurnFits (addressed place (digit_echo address place c)) left
 address_fits address place c left ends =
@@ -171,7 +186,7 @@ value_fits digits place c left ends =
 digits_fit : (digits place c : ℕ) (left : List ℕ) → ((e : ℕ) → EndsAt e (c ∷ left)) → TurnFits (typed place (digit_echo digits (place + 3) c)) left
 digits_fit digits place c left ends =
     let none : (c == digit_of digits (place + 3)) ≡ true → left ≡ [] = λ is. last_one (c == digit_of digits (place + 3)) left (ends (digit_of digits (place + 3))).0 is in
-    echo_walk (λ e. TurnFits (typed place e) left) digits (place + 3) c tt (λ is _. (none is, typed_fits digits (place + 3 + 1) (place + 1))) (λ is _. (none is, λ m. tt))
+    echo_walk (λ e. TurnFits (typed place e) left) digits (place + 3) c tt (λ is _. (none is, typed_fits digits (place + 3 + 1) (place + 1))) (λ is _. (none is, resync_ends))
 
 hears_fits : (address digits : ℕ) (phase : Phase) (c : ℕ) (left : List ℕ) → Fits phase (c ∷ left) → TurnFits (hears address digits phase c) left
 hears_fits address digits Settle c left fits = tt
@@ -181,7 +196,9 @@ hears_fits address digits Slash c left fits = either left (c == 47) _ _ (λ _. f
 hears_fits address digits Before c left fits = before_fits digits c left fits
 hears_fits address digits (Value place) c left fits = value_fits digits place c left fits
 hears_fits address digits (Typed place) c left fits = digits_fit digits place c left fits
-hears_fits address digits (Done place) c left fits = finished_fits (resynchronise_reply place c) left
+hears_fits address digits (Done place) c left fits = finished_fits (resynchronise_reply place c) left (reply_fits place c left fits)
+hears_fits address digits Letter c left fits = echoed_fits c left
+hears_fits address digits (Refused letters place) c left fits = refused_fits letters (refusal_reply small_letter place c) left
 hears_fits address digits (Ended end) c left fits = tt
 
 waits_fits : (phase : Phase) (left : List ℕ) → left ≡ [] → TurnFits (waits phase) left
@@ -193,6 +210,8 @@ waits_fits Before left none = none
 waits_fits (Value place) left none = none
 waits_fits (Typed place) left none = none
 waits_fits (Done place) left none = none
+waits_fits Letter left none = tt
+waits_fits (Refused letters place) left none = tt
 waits_fits (Ended end) left none = tt
 
 -- a trial that took a step where no key is under way and this is left

@@ -26,13 +26,14 @@ pub record MayLook (r : Reader) (machine : Machine) : Type 0 where
   pub stopped : is_running machine.mode ≡ false
   pub read : HoldsRead machine.memory r
 
--- what came of it: memory is what it was, what was read is what it holds, only looking keys were typed, and no mishap
--- and no end is without its losses
+-- what came of it: memory is what it was, what was read is what it holds, only looking keys were typed, no mishap and
+-- no end is without its losses, and nothing was heard that no loss explains
 pub record IsTrueReading (before : List ℕ) (r : Reader) (now : List ℕ) (typed : List ℕ) (lost : ℕ) : Type 0 where
   pub same : now ≡ before
   pub read : HoldsRead now r
   pub looks : OnlyLook false typed
   pub spent : r.spent ≤ lost
+  pub foreign : r.foreign ≡ 0
   pub cause : HasCause r.phase now r.patience lost
 
 -- a host that went from one reader to another while these items were sent and heard may be believed over every machine
@@ -45,6 +46,12 @@ IsBelievable old new items more =
 -- a reading host that heard an honest line may be believed
 abbrev pub HonestReadingsAreTrue : Type 0
 HonestReadingsAreTrue = (r : Reader) (things : List Heard) → IsReader r → IsBelievable r (led r things) (dialogue r things) 0
+
+-- one that heard an honest line heard nothing that no loss explains
+abbrev pub ReadingsHearNothingForeign : Type 0
+ReadingsHearNothingForeign =
+    (r : Reader) (things : List Heard) (machine machine' : Machine) (lost : ℕ) → IsReader r → MayLook r machine →
+    IsHonest machine (dialogue r things) lost machine' → (led r things).foreign ≡ 0
 
 -- one whose last key was never sent may be believed as one over a line that lost this key
 abbrev pub UnsaidReadingsAreTrue : Type 0

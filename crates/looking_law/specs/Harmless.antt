@@ -42,12 +42,13 @@ abbrev pub OnlyLook : Bool → List ℕ → Type 0
 OnlyLook behind_slash [] = ⊤
 OnlyLook behind_slash (key ∷ keys) = IsLooking behind_slash key × OnlyLook (key == slash) keys
 
--- what holds against the memory before: it is what it was, what was read is what it holds, and no mishap and no end is
--- without its losses
+-- what holds against the memory before: it is what it was, what was read is what it holds, no mishap and no end is
+-- without its losses, and nothing was heard that no loss explains
 pub record IsHarmless (memory : List ℕ) (w : Inquiry) : Type 0 where
   pub same : w.machine.memory ≡ memory
   pub read : HoldsRead memory w.core
   pub spent : w.core.spent ≤ w.lost
+  pub foreign : w.core.foreign ≡ 0
   pub cause : HasCause w.core.phase memory w.core.patience w.lost
 
 -- in every manner and over every machine that runs no program, whatever it is in the middle of and whatever few answers wait:

@@ -34,7 +34,7 @@ abbrev pub AreTold : List Run → List Item → Type 0
 AreTold [] told = told ≡ []
 AreTold (run ∷ runs) told = (first : List Item) × (rest : List Item) × IsToldOf (dialogue_of run) first × AreTold runs rest × (told ≡ first ++ rest)
 
--- what a host read is what memory holds, and its mishaps and its end are paid by losses; one that tries types digits, `/` and `Z` alone
+-- what a host read is what memory holds, and its mishaps and its end are paid by losses; one that tries types digits, `/`, `Z` and `a` alone
 abbrev pub IsBorneOut : (memory : List ℕ) (lost : ℕ) → Run → Type 0
 IsBorneOut memory lost (Look addresses patience heard) =
     IsTrueReading memory (led (begun addresses [] patience) heard) memory (keys_of (dialogue (begun addresses [] patience) heard)) lost

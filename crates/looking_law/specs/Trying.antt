@@ -17,8 +17,8 @@ pub record IsLeftAlone (machine machine' : Machine) : Type 0 where
   pub stopped : is_running machine.mode ≡ false → is_running machine'.mode ≡ false
   pub console : IsMachine machine → IsMachine machine'
 
--- digits, `/` and `Z` alone store nothing and start nothing: whatever the console is in the middle of, whatever answers wait,
--- whatever is lost
+-- digits, `/`, `Z` and `a` alone store nothing and start nothing: whatever the console is in the middle of, whatever answers
+-- wait, whatever is lost
 abbrev pub TryingKeysStoreNothing : Type 0
 TryingKeysStoreNothing =
     (machine machine' : Machine) (items : List Item) (lost : ℕ) → All IsTrying (keys_of items) →
@@ -33,7 +33,7 @@ trial_dialogue t (heard ∷ more) = Came heard ∷ (said (ask t heard).key ++ tr
 abbrev pub IsToldOf : (all told : List Item) → Type 0
 IsToldOf all told = (told ≡ all) ⊎ LacksKey all told
 
--- whatever a trial hears, its keys are digits, `/` and `Z`
+-- whatever a trial hears, its keys are digits, `/`, `Z` and `a`
 abbrev pub TrialsOnlyTry : Type 0
 TrialsOnlyTry =
     (t : Trial) (things : List Heard) (told : List Item) → IsTrial t → IsToldOf (trial_dialogue t things) told → All IsTrying (keys_of told)

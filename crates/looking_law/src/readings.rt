@@ -1,4 +1,4 @@
-ghost use Rattle.looking_law.specs.Belief.{HonestReadingsAreTrue, ReadingsLeaveItReady, UnsaidReadingsAreTrue};
+ghost use Rattle.looking_law.specs.Belief.{HonestReadingsAreTrue, ReadingsHearNothingForeign, ReadingsLeaveItReady, UnsaidReadingsAreTrue};
 ghost use Rattle.looking_law.specs.Harmless.{ReadingsDoNoHarm};
 
 /// Readings do no harm, whatever happens on the line and however often the host is restarted. This
@@ -17,6 +17,12 @@ pub fn honest_readings_are_true()
 /// nothing: its contract is the law.
 pub fn unsaid_readings_are_true()
     ensures { UnsaidReadingsAreTrue }
+{}
+
+/// A reading host that heard an honest line heard nothing that no loss explains. This function does
+/// nothing: its contract is the law.
+pub fn readings_hear_nothing_foreign()
+    ensures { ReadingsHearNothingForeign }
 {}
 
 /// Behind a reading the machine is ready for the next host. This function does nothing: its contract is

@@ -4,14 +4,14 @@ ghost use Rattle.looking_law.specs.Runs.{LooksAndTrialsDoNoHarm, OthersMayFollow
 ghost use Rattle.looking_law.specs.Splitting.{HonestLinesSplit, ReadingsEndTidily, TrialsEndTidily};
 ghost use Rattle.looking_law.specs.Trying.{TrialsOnlyTry, TryingKeysStoreNothing};
 
-/// Digits, `/` and `Z` store nothing and start nothing, whatever happens on the line. This function does
-/// nothing: its contract is the law.
+/// Digits, `/`, `Z` and `a` store nothing and start nothing, whatever happens on the line. This function
+/// does nothing: its contract is the law.
 pub fn trying_keys_store_nothing()
     ensures { TryingKeysStoreNothing }
 {}
 
-/// A trial types digits, `/` and `Z` alone, whatever it hears. This function does nothing: its contract
-/// is the law.
+/// A trial types digits, `/`, `Z` and `a` alone, whatever it hears. This function does nothing: its
+/// contract is the law.
 pub fn trials_only_try()
     ensures { TrialsOnlyTry }
 {}

@@ -26,8 +26,8 @@ use std::marker::Brand;
 use std::time::Clock;
 
 /// Tries whether a console forgets digits at an illegal key, and reports what it found: whether a prompt
-/// was heard, the console's style, whether it forgets, where memory ends, how fast it goes, and how the
-/// probe ended.
+/// was heard, the console's style, whether it keeps small letters, whether it forgets, where memory ends,
+/// how fast it goes, and how the probe ended.
 ///
 /// The word at the address is looked at, tried and looked at again, also where the trial gave up. Where
 /// the second look reads another number, the old one is put back; where it reads the same and the trial

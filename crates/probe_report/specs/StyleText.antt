@@ -1,4 +1,4 @@
--- What a probe prints of a console's style (this project's own).
+-- What a probe prints of a console's style and of small letters (this project's own).
 use Rattle.std.specs.Prelude.{ℕ, Bool, true, false, ◌&&◌, if◌then◌else◌, List, [], ◌++◌, codes, decimal, Option, Some, None}
 use Rattle.odt_machine.specs.Style.{style_number}
 use Rattle.odt_machine.specs.declared.style.Style.{Style}
@@ -6,6 +6,8 @@ use Rattle.byte_io.specs.Text.{line}
 use Rattle.trial_core.specs.declared.habit.Habit.{Habit}
 use Rattle.trial_core.specs.declared.habit.Habit.TheVariants.{Unseen, Yes, Mixed}
 use Rattle.trial_core.specs.declared.habit.Seen.{Seen}
+use Rattle.trial_core.specs.declared.letter.SmallLetters.{SmallLetters}
+use Rattle.trial_core.specs.declared.letter.SmallLetters.TheVariants.{NotKnown, Kept, Folded}
 use Rattle.probe_report.specs.declared.findings.TrialFindings.{TrialFindings}
 
 -- the thing was seen, or seen to be missing
@@ -51,7 +53,13 @@ seen_lines seen had_mishap =
     ++ mixed_lines (codes "the space before a word") seen.space_before had_mishap
     ++ mixed_lines (codes "the echo of an illegal key") seen.echo_illegal had_mishap
 
+-- whether a small letter comes through as it is typed: a console that folds it to a capital may take a letter of a fast load for a command
+abbrev pub letters_text : SmallLetters → List ℕ
+letters_text NotKnown = codes "keeps small letters not known"
+letters_text Kept = codes "keeps small letters yes"
+letters_text Folded = codes "keeps small letters no: do not load with --fast"
+
 -- of a trial, if there was one
 abbrev pub style_lines : Option TrialFindings → List ℕ
 style_lines None = []
-style_lines (Some trial) = seen_lines trial.seen trial.had_mishap
+style_lines (Some trial) = seen_lines trial.seen trial.had_mishap ++ line (letters_text trial.seen.small_letters)

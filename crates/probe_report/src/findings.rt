@@ -45,7 +45,7 @@ pub struct TrialFindings {
     /// How it ended.
     pub end: TrialEnd,
 
-    /// What was seen of the console's style.
+    /// What was seen of the console's style, and of small letters.
     pub seen: Seen,
 
     /// Whether there was a mishap: a character that was lost looks like another style.

@@ -54,7 +54,7 @@ fn push_prompt(text: &mut Report, prompt: bool)
 
 // Puts whether the console forgets and what became of the word, where a first look read it.
 fn push_trust(text: &mut Report, findings: &Findings)
-    requires { array_vec_len text.old ≤ 600 }
+    requires { array_vec_len text.old ≤ 700 }
     ensures items { text.new.items ≡ text.old.items ++ trust_lines findings.now findings.now.first }
     ensures length { array_vec_len text.new ≤ array_vec_len text.old + 91 }
 {
@@ -67,7 +67,7 @@ fn push_trust(text: &mut Report, findings: &Findings)
 }
 
 fn push_verdict(text: &mut Report, verdict: Verdict)
-    requires { array_vec_len text.old ≤ 600 }
+    requires { array_vec_len text.old ≤ 700 }
     ensures items { text.new.items ≡ text.old.items ++ line (verdict_text verdict) }
     ensures length { array_vec_len text.new ≤ array_vec_len text.old + 44 }
 {
@@ -79,7 +79,7 @@ fn push_verdict(text: &mut Report, verdict: Verdict)
 }
 
 fn push_word(text: &mut Report, address: u16, old: u16, verdict: Verdict, put_back: Option<bool>)
-    requires { array_vec_len text.old ≤ 700 }
+    requires { array_vec_len text.old ≤ 800 }
     ensures items { text.new.items ≡ text.old.items ++ word_lines address old verdict put_back }
     ensures length { array_vec_len text.new ≤ array_vec_len text.old + 47 }
 {
@@ -91,7 +91,7 @@ fn push_word(text: &mut Report, address: u16, old: u16, verdict: Verdict, put_ba
 }
 
 fn push_holds_again(text: &mut Report, address: u16, old: u16)
-    requires { array_vec_len text.old ≤ 700 }
+    requires { array_vec_len text.old ≤ 800 }
     ensures items { text.new.items ≡ text.old.items ++ line (holds_again address old) }
     ensures length { array_vec_len text.new ≤ array_vec_len text.old + 47 }
 {
@@ -103,7 +103,7 @@ fn push_holds_again(text: &mut Report, address: u16, old: u16)
 }
 
 fn push_held_once(text: &mut Report, address: u16, old: u16)
-    requires { array_vec_len text.old ≤ 700 }
+    requires { array_vec_len text.old ≤ 800 }
     ensures items { text.new.items ≡ text.old.items ++ line (held_once address old) }
     ensures length { array_vec_len text.new ≤ array_vec_len text.old + 47 }
 {
@@ -116,7 +116,7 @@ fn push_held_once(text: &mut Report, address: u16, old: u16)
 
 // Puts memory's end and the pace, where the search found an end.
 fn push_memory(text: &mut Report, search: Option<Extent>, pace: Pace)
-    requires { array_vec_len text.old ≤ 700 }
+    requires { array_vec_len text.old ≤ 720 }
     ensures items { text.new.items ≡ text.old.items ++ memory_lines search pace }
     ensures length { array_vec_len text.new ≤ array_vec_len text.old + 158 }
 {
@@ -129,7 +129,7 @@ fn push_memory(text: &mut Report, search: Option<Extent>, pace: Pace)
 }
 
 fn push_top(text: &mut Report, top: u16)
-    requires { array_vec_len text.old ≤ 700 }
+    requires { array_vec_len text.old ≤ 800 }
     ensures items { text.new.items ≡ text.old.items ++ line (extent_text top) }
     ensures length { array_vec_len text.new ≤ array_vec_len text.old + 24 }
 {
@@ -141,7 +141,7 @@ fn push_top(text: &mut Report, top: u16)
 }
 
 fn push_last_word(text: &mut Report, last: u16)
-    requires { array_vec_len text.old ≤ 700 }
+    requires { array_vec_len text.old ≤ 800 }
     ensures items { text.new.items ≡ text.old.items ++ line (codes "memory 000000 to " ++ octal_text last) }
     ensures length { array_vec_len text.new ≤ array_vec_len text.old + 24 }
 {

@@ -1,24 +1,40 @@
-//! What a probe prints of a console's style.
+//! What a probe prints of a console's style and of small letters.
 ghost use Rattle.std.specs.Prelude.{◌≡◌, ◌+◌, ◌≤◌, ◌++◌, length, codes, decimal};
 ghost use Rattle.arrayvec.specs.ArrayVec.{array_vec_len};
 ghost use Rattle.byte_io.specs.Text.{line};
-ghost use Rattle.probe_report.specs.StyleText.{is_done, is_seen, mishap_text, mixed_lines, number_lines, seen_lines, style_lines, style_of};
+ghost use Rattle.probe_report.specs.StyleText.{is_done, is_seen, letters_text, mishap_text};
+ghost use Rattle.probe_report.specs.StyleText.{mixed_lines, number_lines, seen_lines, style_lines, style_of};
 
 use crate::findings::TrialFindings;
 use crate::report::Report;
 use byte_io::{push_bytes, push_decimal};
 use odt_machine::Style;
-use trial_core::{Habit, Seen};
+use trial_core::{Habit, Seen, SmallLetters};
 
-/// Puts the lines of the style that a trial saw, if there was one.
+/// Puts the lines of the style that a trial saw and of small letters, if there was one.
 pub(crate) fn push_style(text: &mut Report, trial: Option<TrialFindings>)
     requires { array_vec_len text.old ≤ 300 }
     ensures items { text.new.items ≡ text.old.items ++ style_lines trial }
-    ensures length { array_vec_len text.new ≤ array_vec_len text.old + 314 }
+    ensures length { array_vec_len text.new ≤ array_vec_len text.old + 362 }
 {
-    match trial {
-        Some(trial) => push_seen(text, trial.seen, trial.had_mishap),
-        None => {}
+    let Some(trial) = trial else {
+        return;
+    };
+    push_seen(text, trial.seen, trial.had_mishap);
+    push_letters(text, trial.seen.small_letters);
+}
+
+fn push_letters(text: &mut Report, letters: SmallLetters)
+    requires { array_vec_len text.old ≤ 700 }
+    ensures items { text.new.items ≡ text.old.items ++ line (letters_text letters) }
+    ensures length { array_vec_len text.new ≤ array_vec_len text.old + 48 }
+{
+    match letters {
+        SmallLetters::NotKnown => push_bytes(text, b"keeps small letters not known\n"),
+        SmallLetters::Kept => push_bytes(text, b"keeps small letters yes\n"),
+        SmallLetters::Folded => {
+            push_bytes(text, b"keeps small letters no: do not load with --fast\n");
+        }
     }
 }
 

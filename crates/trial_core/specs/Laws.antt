@@ -14,6 +14,6 @@ abbrev pub replay : Trial → List Heard → List ℕ
 replay t [] = []
 replay t (heard ∷ more) = option_to_list (ask t heard).key ++ replay (ask t heard).next more
 
--- whatever is heard, this trial types digits, `/` and `Z` alone
+-- whatever is heard, this trial types digits, `/`, `Z` and `a` alone
 abbrev pub TypesOnlyTrying : Trial → Type 0
 TypesOnlyTrying t = (heard : List Heard) → All IsTrying (replay t heard)

@@ -1,5 +1,6 @@
 pub mod Digits
 pub mod Laws
+pub mod Letter
 pub mod Style
 pub mod Trial
 pub mod TrialTable

@@ -3,16 +3,17 @@ use Rattle.std.specs.Prelude.{◌≡◌, ℕ, ◌^◌, ◌<◌, ◌≤◌, ◌�
 use Rattle.host_core.specs.Host.{IsPlace}
 use Rattle.reading_core.specs.Addresses.{IsAddress}
 use Rattle.trial_core.specs.declared.phase.Phase.{Phase}
-use Rattle.trial_core.specs.declared.phase.Phase.TheVariants.{Settle, Sync, Address, Value, Typed, Done, Ended}
+use Rattle.trial_core.specs.declared.phase.Phase.TheVariants.{Settle, Sync, Address, Value, Typed, Done, Refused, Ended}
 use Rattle.trial_core.specs.declared.phase.End.{End}
 use Rattle.trial_core.specs.declared.habit.Habit.TheVariants.{Unseen}
 use Rattle.trial_core.specs.declared.habit.Seen.{Seen}
+use Rattle.trial_core.specs.declared.letter.SmallLetters.TheVariants.{NotKnown}
 use Rattle.trial_core.specs.declared.trial.Trial.{Trial}
 use Rattle.trial_core.specs.Digits.{digits_for}
 
--- nothing was seen of a console's style
+-- nothing was seen of a console's style or of small letters
 abbrev pub nothing_seen : Seen
-nothing_seen = record { space_before = Unseen; two_returns = Unseen; echo_illegal = Unseen }
+nothing_seen = record { space_before = Unseen; two_returns = Unseen; echo_illegal = Unseen; small_letters = NotKnown }
 
 -- a trial at the beginning of its life, of the word at an address, which holds this number
 abbrev pub begun_trial : ℕ → ℕ → ℕ → Trial
@@ -37,6 +38,7 @@ PhaseFits (Address place) = IsPlace place
 PhaseFits (Value place) = place ≤ 6
 PhaseFits (Typed place) = (1 ≤ place) × (place ≤ 3)
 PhaseFits (Done place) = place ≤ 5
+PhaseFits (Refused letters place) = place ≤ 5
 PhaseFits phase = ⊤
 
 -- every trial is so: it is of a word's address, types one of two numbers, has had no more mishaps than its patience, and its phase fits

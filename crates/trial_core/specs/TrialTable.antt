@@ -1,6 +1,6 @@
 -- The table of a host that tries whether a console forgets digits: what it does on what it hears (this project's choice). It
--- opens the word at its address as a host does that only looks, types three digits into it, and then `Z`. It types no CR, which
--- alone stores, and no `G`, which alone starts a program.
+-- opens the word at its address as a host does that only looks, types three digits into it, then `Z`, and at the prompt `a`. It
+-- types no CR, which alone stores, and no `G`, which alone starts a program.
 use Rattle.std.specs.Prelude.{◌≡◌, ℕ, ◌+◌, true, ◌==◌, ◌⊎◌, nat_lt, if◌then◌else◌, Option, Some, None, ⊤}
 use Rattle.octal.specs.Octal.{digit_of, is_digit}
 use Rattle.host_core.specs.declared.answers.Reply.{Reply}
@@ -11,14 +11,17 @@ use Rattle.host_core.specs.declared.answers.Reading.{Reading}
 use Rattle.host_core.specs.declared.answers.Reading.TheVariants.{Digits, Number, NoMemory, NoReading}
 use Rattle.host_core.specs.declared.heard.Heard.{Heard}
 use Rattle.host_core.specs.declared.heard.Heard.TheVariants.{Got, Quiet}
-use Rattle.host_core.specs.Answers.{resynchronise_reply, digit_echo, reading_start, reading_rest}
+use Rattle.host_core.specs.Answers.{refusal_reply, resynchronise_reply, digit_echo, reading_start, reading_rest}
 use Rattle.host_core.specs.Console.{resynchronise, slash}
 use Rattle.trial_core.specs.declared.phase.Phase.{Phase}
-use Rattle.trial_core.specs.declared.phase.Phase.TheVariants.{Settle, Sync, Address, Slash, Before, Value, Typed, Done, Ended}
+use Rattle.trial_core.specs.declared.phase.Phase.TheVariants.{Settle, Sync, Address, Slash, Before, Value, Typed, Done, Letter, Refused, Ended}
 use Rattle.trial_core.specs.declared.phase.End.TheVariants.{Tried, GaveUp, NoWord}
+use Rattle.trial_core.specs.declared.letter.SmallLetters.{SmallLetters}
+use Rattle.trial_core.specs.declared.letter.SmallLetters.TheVariants.{Kept, Folded}
 use Rattle.trial_core.specs.declared.turn.Turn.{Turn}
 use Rattle.trial_core.specs.declared.turn.Turn.TheVariants.{Listen, Key, Stop, Stray, Timeout}
 use Rattle.trial_core.specs.declared.trial.Trial.{Trial}
+use Rattle.trial_core.specs.Letter.{small_letter, capital_letter}
 use Rattle.trial_core.specs.Style.{seen_after}
 
 -- Sync: behind the first answer to `Z` the address is typed
@@ -50,11 +53,21 @@ typed place (More digit) = Key digit (Typed (place + 1))
 typed place Whole = Key resynchronise (Done 0)
 typed place NoEcho = Stray
 
--- Done: behind the last answer to `Z` the trial is over
+-- Done: behind the last answer to `Z` the small letter is typed
 abbrev pub finished : Reply → Turn
 finished (On place) = Listen (Done place)
-finished Over = Stop Tried
+finished Over = Key small_letter Letter
 finished Wrong = Stray
+
+-- Letter: the echo of the small letter, as it was typed or as a capital; with anything else the trial is over, and nothing was seen of it
+abbrev pub echoed : ℕ → Turn
+echoed c = if c == small_letter then Listen (Refused Kept 1) else (if c == capital_letter then Listen (Refused Folded 1) else Stop Tried)
+
+-- Refused: the rest of the answer to the small letter; behind it, and with anything else, the trial is over
+abbrev pub refused : SmallLetters → Reply → Turn
+refused letters (On place) = Listen (Refused letters place)
+refused letters Over = Stop Tried
+refused letters Wrong = Stop Tried
 
 -- a character is heard; which number the word holds was read before, so its digits are counted as those of zero
 abbrev pub hears : ℕ → ℕ → Phase → ℕ → Turn
@@ -66,11 +79,15 @@ hears address digits Before c = reads digits (reading_start c)
 hears address digits (Value place) c = reads digits (reading_rest 0 place c)
 hears address digits (Typed place) c = typed place (digit_echo digits (place + 3) c)
 hears address digits (Done place) c = finished (resynchronise_reply place c)
+hears address digits Letter c = echoed c
+hears address digits (Refused letters place) c = refused letters (refusal_reply small_letter place c)
 hears address digits (Ended end) c = Listen (Ended end)
 
 -- nothing is heard for the quiet time
 abbrev pub waits : Phase → Turn
 waits Settle = Key resynchronise (Sync 0)
+waits Letter = Stop Tried
+waits (Refused letters place) = Stop Tried
 waits (Ended end) = Listen (Ended end)
 waits _ = Timeout
 
@@ -112,9 +129,9 @@ noted t heard = record t { seen = seen_after t.seen t.phase heard }
 abbrev pub ask : Trial → Heard → TrialStep
 ask t heard = taken (noted t heard) (turn_of t heard)
 
--- a key that stores nothing and starts nothing, whatever the console is in the middle of: a digit, `/` or `Z`
+-- a key that stores nothing and starts nothing, whatever the console is in the middle of: a digit, `/`, `Z` or `a`
 abbrev pub IsTrying : ℕ → Type 0
-IsTrying c = (is_digit c ≡ true) ⊎ ((c ≡ slash) ⊎ (c ≡ resynchronise))
+IsTrying c = (is_digit c ≡ true) ⊎ ((c ≡ slash) ⊎ ((c ≡ resynchronise) ⊎ (c ≡ small_letter)))
 
 -- the character that is sent, if any, is so
 abbrev pub KeyTries : Option ℕ → Type 0

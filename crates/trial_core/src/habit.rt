@@ -1,3 +1,5 @@
+use crate::letter::SmallLetters;
+
 /// What was seen of a thing that a console may do or not.
 #[derive(Clone, Copy, Debug, PartialEq, Eq)]
 pub enum Habit {
@@ -14,7 +16,7 @@ pub enum Habit {
     Mixed,
 }
 
-/// What was seen of a console's style.
+/// What was seen of a console's style, and of small letters.
 #[derive(Clone, Copy, Debug, PartialEq, Eq)]
 pub struct Seen {
     /// One space stands before the digits of an opened word.
@@ -25,4 +27,7 @@ pub struct Seen {
 
     /// An illegal key is echoed before the question mark.
     pub echo_illegal: Habit,
+
+    /// A small letter comes through as it is typed.
+    pub small_letters: SmallLetters,
 }

@@ -2,7 +2,8 @@
 //!
 //! `Trial` opens one word, types three digits into it and then `Z`, an illegal key: a console that
 //! forgets them leaves the word as it was. Of the keys that ODT knows it types digits and `/` alone, so
-//! no CR, which stores, and no `G`, which starts a program. On its way it notes the console's style.
+//! no CR, which stores, and no `G`, which starts a program. On its way it notes the console's style, and
+//! whether a small letter that it types last, at the prompt, comes back as it is.
 //!
 //! The contract of `step` is the table of the phases. Which digits are typed depends on what the word
 //! holds: they tell a console that stores them from one that forgets. `looking_law` shows what this
@@ -12,6 +13,7 @@
 
 mod digits;
 mod habit;
+mod letter;
 mod phase;
 mod style;
 mod table;
@@ -19,5 +21,6 @@ mod trial;
 mod turn;
 
 pub use habit::{Habit, Seen};
+pub use letter::SmallLetters;
 pub use phase::{End, Phase};
 pub use trial::{Trial, TrialStep};

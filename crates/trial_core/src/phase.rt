@@ -1,3 +1,5 @@
+use crate::letter::SmallLetters;
+
 /// How a trial ended.
 #[derive(Clone, Copy, Debug, PartialEq, Eq)]
 pub enum End {
@@ -36,8 +38,14 @@ pub enum Phase {
     /// The echo of a digit that is typed into the open word, place 1 to 3.
     Typed(u8),
 
-    /// The answer to the `Z` that comes last, from place 0 to 5.
+    /// The answer to the `Z` behind the digits, from place 0 to 5.
     Done(u8),
+
+    /// The echo of the small letter that comes last.
+    Letter,
+
+    /// The rest of the answer to the letter, of which this was seen, from place 1 to 5.
+    Refused(SmallLetters, u8),
 
     /// Nothing more: the life is over.
     Ended(End),

@@ -1,10 +1,12 @@
-// What a trial sees of a console's style.
+// What a trial sees of a console's style, and of small letters.
 ghost use Rattle.std.specs.Prelude.{◌≡◌};
-ghost use Rattle.trial_core.specs.Style.{and_then, reply_seen, seen_after, shown, space_seen};
+ghost use Rattle.trial_core.specs.Style.{and_then, letters_seen, reply_seen, seen_after, shown, space_seen};
 
 use crate::habit::{Habit, Seen};
+use crate::letter::{SMALL_LETTER, SmallLetters};
 use crate::phase::Phase;
 use host_core::Heard;
+use host_core::answers::{Reply, refusal_reply};
 use host_core::console::{CARRIAGE_RETURN, LINE_FEED, QUESTION_MARK, RESYNCHRONISE, SPACE};
 
 impl Habit {
@@ -27,6 +29,7 @@ impl Seen {
         space_before: Habit::Unseen,
         two_returns: Habit::Unseen,
         echo_illegal: Habit::Unseen,
+        small_letters: SmallLetters::NotKnown,
     };
 
     /// What was seen, once one thing more was heard in a phase.
@@ -39,6 +42,9 @@ impl Seen {
         match phase {
             Phase::Sync(place) | Phase::Done(place) => self.after_reply(place, c),
             Phase::Before => self.after_space(c),
+            Phase::Refused(letters, place) => {
+                self.after_letter(letters, refusal_reply(SMALL_LETTER, place, c))
+            }
             _ => self,
         }
     }
@@ -61,6 +67,19 @@ impl Seen {
                 ..self
             },
             _ => self,
+        }
+    }
+
+    // The answer to the small letter: what its echo showed holds once the prompt is there.
+    fn after_letter(self, letters: SmallLetters, reply: Reply) -> Seen
+        ensures { result ≡ letters_seen self letters reply }
+    {
+        match reply {
+            Reply::Over => Seen {
+                small_letters: letters,
+                ..self
+            },
+            Reply::On(_) | Reply::Wrong => self,
         }
     }
 

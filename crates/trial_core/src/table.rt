@@ -1,8 +1,9 @@
 // The table of a trial: for each phase, what it does on what the console answers.
 
 ghost use Rattle.std.specs.Prelude.{◌≡◌, ◌≤◌};
-ghost use Rattle.trial_core.specs.TrialTable.{addressed, finished, reads, slash_hears, synced, typed, waits};
+ghost use Rattle.trial_core.specs.TrialTable.{addressed, echoed, finished, reads, refused, slash_hears, synced, typed, waits};
 
+use crate::letter::{CAPITAL_LETTER, SMALL_LETTER, SmallLetters};
 use crate::phase::{End, Phase};
 use crate::turn::Turn;
 use host_core::answers::{Echo, Reading, Reply, digit};
@@ -68,14 +69,36 @@ pub(crate) fn typed(place: u8, echo: Echo) -> Turn
     }
 }
 
-/// Behind the last answer to `Z` the trial is over.
+/// Behind the last answer to `Z` a small letter is typed.
 pub(crate) fn finished(reply: Reply) -> Turn
     ensures { result ≡ finished reply }
 {
     match reply {
         Reply::On(place) => Turn::Listen(Phase::Done(place)),
-        Reply::Over => Turn::Stop(End::Tried),
+        Reply::Over => Turn::Key(SMALL_LETTER, Phase::Letter),
         Reply::Wrong => Turn::Stray,
+    }
+}
+
+/// The echo of the small letter, as it was typed or as a capital. Where anything else comes, the trial is
+/// over: the word was tried, and that is no mishap.
+pub(crate) fn echoed(c: u8) -> Turn
+    ensures { result ≡ echoed c }
+{
+    match c {
+        SMALL_LETTER => Turn::Listen(Phase::Refused(SmallLetters::Kept, 1)),
+        CAPITAL_LETTER => Turn::Listen(Phase::Refused(SmallLetters::Folded, 1)),
+        _ => Turn::Stop(End::Tried),
+    }
+}
+
+/// The rest of the answer to the small letter. Behind it the trial is over, and where anything else comes.
+pub(crate) fn refused(letters: SmallLetters, reply: Reply) -> Turn
+    ensures { result ≡ refused letters reply }
+{
+    match reply {
+        Reply::On(place) => Turn::Listen(Phase::Refused(letters, place)),
+        Reply::Over | Reply::Wrong => Turn::Stop(End::Tried),
     }
 }
 
@@ -85,6 +108,7 @@ pub(crate) fn quiet(phase: Phase) -> Turn
 {
     match phase {
         Phase::Settle => Turn::Key(RESYNCHRONISE, Phase::Sync(0)),
+        Phase::Letter | Phase::Refused(_, _) => Turn::Stop(End::Tried),
         Phase::Ended(_) => Turn::Listen(phase),
         _ => Turn::Timeout,
     }

@@ -7,16 +7,20 @@ ghost use Rattle.trial_core.specs.TrialTable.{KeyTries, ask, listens, sends, tak
 
 use crate::digits::digits_for;
 use crate::habit::Seen;
+use crate::letter::SMALL_LETTER;
 use crate::phase::{End, Phase};
 use crate::table::{self, LEFT_OUT_DIGITS};
 use crate::turn::Turn;
 use host_core::Heard;
-use host_core::answers::{digit_echo, reading_rest, reading_start, resynchronise_reply};
+use host_core::answers::{
+    digit_echo, reading_rest, reading_start, refusal_reply, resynchronise_reply,
+};
 use host_core::console::RESYNCHRONISE;
 
 /// A host that tries whether a console forgets digits: it says which character to type next.
 ///
-/// It opens the word at its address, types three digits into it, and then `Z`.
+/// It opens the word at its address, types three digits into it, and then `Z`; and at the prompt a small
+/// letter.
 #[derive(Clone, Copy)]
 pub struct Trial {
     /// The word's address.
@@ -31,7 +35,7 @@ pub struct Trial {
     /// The mishaps so far.
     pub spent: u32,
 
-    /// What was seen of the console's style.
+    /// What was seen of the console's style, and of small letters.
     pub seen: Seen,
 
     /// What the host waits for.
@@ -77,7 +81,7 @@ impl Trial {
     }
 
     /// Hears one thing and answers the trial behind it, and the character to send now, if any: a step of
-    /// the table. Whatever is heard, the character is a digit, `/` or `Z`.
+    /// the table. Whatever is heard, the character is a digit, `/`, `Z` or `a`.
     pub fn step(self, heard: Heard) -> TrialStep
         requires { IsTrial self }
         ensures asked { result.next ≡ (ask self heard).next }
@@ -119,6 +123,10 @@ impl Trial {
                 table::typed(place, digit_echo(self.digits, place_in_number, c))
             }
             Phase::Done(place) => table::finished(resynchronise_reply(place, c)),
+            Phase::Letter => table::echoed(c),
+            Phase::Refused(letters, place) => {
+                table::refused(letters, refusal_reply(SMALL_LETTER, place, c))
+            }
             Phase::Ended(end) => Turn::Listen(Phase::Ended(end)),
         }
     }

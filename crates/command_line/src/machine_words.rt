@@ -95,7 +95,7 @@ Exit status:
   3  a tape was refused
   4  a file could not be read, or the output not be written, there was no
      connection, or the line failed
-  5  the look ended GaveUp, NoWord or TurnsOver
+  5  the look ended Changed, GaveUp, NoWord or TurnsOver
 
 Example, the morning after a load:
   ldaodt verify first.lda /dev/ttyUSB0",
@@ -129,7 +129,7 @@ Exit status:
   3  FILE.part is of another save
   4  the file is there already or could not be written, the output could not
      be written, there was no connection, or the line failed
-  5  the look ended GaveUp, NoWord, Stale or TurnsOver
+  5  the look ended Changed, GaveUp, NoWord, Stale or TurnsOver
 
 Example, what is at the bottom of memory, before anything is loaded:
   ldaodt save before.lda /dev/ttyUSB0 0 7776",

@@ -161,6 +161,7 @@ fn answered(key: u8, done: u32, spent: u32) -> Sight {
         key: Some(key),
         done,
         spent,
+        foreign: false,
     }
 }
 
@@ -171,6 +172,7 @@ fn noticed(heard: Heard, done: u32) -> Sight {
         key: None,
         done,
         spent: 0,
+        foreign: false,
     }
 }
 
@@ -437,6 +439,7 @@ fn the_longest_line_has_room(rt: HostRuntime) {
         key: None,
         done: 1,
         spent: u32::MAX,
+        foreign: false,
     });
     assert!(rt; terminal.has_shown(2, LONGEST));
     line.tests(TestedWord {

@@ -16,6 +16,10 @@ pub struct Sight {
 
     /// How many mishaps the host has met in this life.
     pub spent: u32,
+
+    /// Whether the host knows that no loss explains what was heard: the line changed or made up that
+    /// character. Some hosts know it of none.
+    pub foreign: bool,
 }
 
 /// Somebody who looks on at a load or at a reading. Nothing that happens here decides anything.

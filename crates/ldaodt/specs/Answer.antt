@@ -34,10 +34,12 @@ pub record IsMisplaced (request : Request) (before after : Moment) (ended : Stat
 abbrev pub IsTried : Request → Moment → Moment → Status → Type 0
 IsTried request before after ended = IsAttempted request (before ⇒ after) ended ⊎ IsMisplaced request before after ended
 
--- standard error has the line of a run at a machine that ended so, and nothing else is another than before; of any other run nothing is said
+-- standard error has the line of a run at a machine that ended so, with some report and number of changed characters, and nothing else is another
+-- than before; of any other run nothing is said
 abbrev pub IsRunLogged : Request → Status → Held → Held → Type 0
 IsRunLogged (Machine request) ended held held' =
-    (held' ≡ record held { err = held'.err }) × ((report : Noted) × IsLogged (record { request = request; status = ended; report = report }) held.err held'.err)
+    (held' ≡ record held { err = held'.err })
+    × ((report : Noted) × (changed : ℕ) × IsLogged (record { request = request; status = ended; report = report; changed = changed }) held.err held'.err)
 IsRunLogged (Tape request) ended held held' = held' ≡ held
 
 -- the same, where it is wanted

@@ -27,8 +27,8 @@ use witness::Witness;
 /// status.
 ///
 /// Reports and help go to standard output, which is flushed; refused command lines and faults go to
-/// standard error, a fault as one line, and behind it the system's reason, as the witness has it. What can't be written
-/// there is not told, nor that nobody reads any more what only prints. A load or a look shows on the terminal, where
+/// standard error, a fault as one line, and behind it the system's reason, as the witness has it, and that a machine's
+/// line changed characters. What can't be written there is not told, nor that nobody reads any more what only prints. A load or a look shows on the terminal, where
 /// there is one, how far it is. A run at a machine has the line of a log behind all else, where the words ask for one.
 pub(crate) fn program<K: Kinds, R: Read, W: Output, E: FaultOutput, T: Print>(
     rt: &HostRuntime,
@@ -62,7 +62,7 @@ pub(crate) fn program<K: Kinds, R: Read, W: Output, E: FaultOutput, T: Print>(
                     attempt(system, alloc, request, streams, terminal, witness)
                 }
             };
-            log_if_wanted(alloc, &system, &wanted, status, streams);
+            log_if_wanted(alloc, &system, &wanted, status, witness.changed(), streams);
             (system, status.code())
         }
         Err(answer) => {
@@ -72,12 +72,14 @@ pub(crate) fn program<K: Kinds, R: Read, W: Output, E: FaultOutput, T: Print>(
     }
 }
 
-// Says the line of a run that ended with this status, where one at a machine is to be in a log.
+// Says the line of a run that ended with this status, and whose line changed so many characters, where one at a machine
+// is to be in a log.
 fn log_if_wanted<K: Kinds, R: Read, W: Output, E: FaultOutput>(
     alloc: Global,
     system: &System<K>,
     wanted: &Wanted<'_>,
     status: Status,
+    changed: u32,
     streams: &mut Streams<R, NotedOutput<W>, E>,
 )
     ensures { IsLoggedIf wanted.now status streams.old streams.new }
@@ -91,6 +93,7 @@ fn log_if_wanted<K: Kinds, R: Read, W: Output, E: FaultOutput>(
             request,
             status,
             report,
+            changed,
         };
         log_run(alloc, &system.clock, &run, &mut streams.err);
     }

@@ -9,7 +9,7 @@ use Rattle.tape_shelf.specs.declared.shelf.ShelfFault.{ShelfFault}
 use Rattle.tape_shelf.specs.declared.shelf.ShelfFault.TheVariants as why
 use Rattle.machine_look.specs.LookFault.{IsKeepFault, IsReadFault, IsSaveFault, IsSaveNotBegun, TakesUpNothing, fault_of_shelf}
 use Rattle.machine_look.specs.Behind.{Saving}
-use Rattle.machine_look.specs.Save.{IsSaveRead, SaveTold, TakesUp, console_of, has_all, numbers_of}
+use Rattle.machine_look.specs.Save.{IsSaveRead, SaveTold, TakesUp, console_of, has_all, numbers_of, trusts}
 use Rattle.tape_shelf.specs.SavedSteps.{adds, closes, full, puts}
 use Rattle.tape_shelf.specs.SavedTape.{last_text}
 use Rattle.tape_shelf.specs.Shelf.{ShelfStep, Put, NotPut, put_step, IsPutFault}
@@ -63,7 +63,7 @@ not_read saving taking before after mid opened folder WriteTape takes is_open ta
 not_read saving taking before after mid opened folder other takes is_open taken fails same = absurd fails
 
 -- a tape that is not closed
-pub not_closed : (options : SaveOptions) (before after : SaveTold) (mid : ShelfTold) (mid' : ShelfAt) (opened : List ℕ → Type 0) (folder : List ℕ) (stop : LookStop) (read : IsSaveRead (Some stop) options before after) → has_all stop ≡ true → (fault : LookFault)
+pub not_closed : (options : SaveOptions) (before after : SaveTold) (mid : ShelfTold) (mid' : ShelfAt) (opened : List ℕ → Type 0) (folder : List ℕ) (stop : LookStop) (read : IsSaveRead (Some stop) options before after) → has_all stop (trusts read) ≡ true → (fault : LookFault)
     → mid'.is_opened_as folder → AreDone folder read.taking before.shelf mid → AreDone folder (adds options.range.from (numbers_of read) (full (numbers_of read))) mid mid'.told
     → IsKeepFault (last_text options.range.from (numbers_of read) options.start) mid' (record { told = after.shelf; is_opened_as = opened }) fault → Keeps before.out after.out → IsSaveFault options before after fault
 not_closed options before after mid mid' opened folder stop read all IsThere is_open taken added fails same =

@@ -134,9 +134,9 @@ pub few_numbers : (range : AddressRange) (found : List ℕ) (last : Reader) → 
 few_numbers range found last low are kept =
     omega (arith, low, length-append found last.values, kept.within, ap length are, length_from (range.from + 2 * length found) (words_in range - length found))
 
-pub memory_behind : (saving : Saving) (samples : List WordValue) (last : Reader) (machine : Change Machine) → IsRange saving.options.range.from saving.options.range.to → saving.options.start < 65536
-    → FillBlocks saving.options.range saving.found → last.addresses ≡ addresses_behind saving.options.range saving.found → IsReader last → IsReadBehind samples last machine → IsMemoryBehind saving last.values samples machine
-memory_behind saving samples last machine range begins fill are kept read =
+pub memory_behind : (saving : Saving) (samples : List WordValue) (looks last : Reader) (machine : Change Machine) → IsRange saving.options.range.from saving.options.range.to → saving.options.start < 65536
+    → FillBlocks saving.options.range saving.found → last.addresses ≡ addresses_behind saving.options.range saving.found → IsReader last → IsReadBehind samples looks last machine → IsMemoryBehind saving last.values samples machine
+memory_behind saving samples looks last machine range begins fill are kept read =
     let options : SaveOptions = saving.options in
     let found : List ℕ = saving.found in
     let few = few_numbers options.range found last fill.within are kept in

@@ -16,6 +16,7 @@ use Rattle.tape_shelf.specs.FoundPart.{FillBlocks}
 use Rattle.machine_look.specs.LookFault.{IsSaveFault}
 use Rattle.machine_look.specs.Save.{HeldUp, IsOver, LeftInPart, SaveTold, Shelved, TakesUp, console_of, has_all, counts_read}
 use Rattle.machine_look.specs.SaveReport.{save_end}
+use Rattle.machine_look.specs.Trust.{are_trusted}
 use Rattle.tape_shelf.specs.SavedSteps.{adds, full}
 use Rattle.tape_shelf.specs.SavedTape.{last_text}
 use Rattle.tape_shelf.specs.Shelf.{ShelfStep}
@@ -39,9 +40,9 @@ module _ (saving : Saving) (mid mid' : ShelfAt) where
         → IsUnclosed (closing_text saving course) mid' (record { told = after.shelf; is_opened_as = opened }) fault → Keeps before.out after.out → IsSaveFault saving.options before after fault
     not_concluded (WasHeldUp looked) fault h unclosed same = absurd unclosed
     not_concluded (WasRead looks last stop) fault h unclosed same =
-        let added = h.2 folder is_open in by added (has_all stop) refl unclosed
+        let added = h.2 folder is_open in by added (has_all stop (are_trusted saving.options.care looks last)) refl unclosed
       where
-        by : (mid'.is_opened_as folder × AreDone folder (adds saving.options.range.from (saving.found ++ last.values) (full (saving.found ++ last.values))) mid.told mid'.told) → (all : Bool) → has_all stop ≡ all
+        by : (mid'.is_opened_as folder × AreDone folder (adds saving.options.range.from (saving.found ++ last.values) (full (saving.found ++ last.values))) mid.told mid'.told) → (all : Bool) → has_all stop (are_trusted saving.options.care looks last) ≡ all
             → IsUnclosed (if all then Some (last_text saving.options.range.from (saving.found ++ last.values) saving.options.start) else None) mid' (record { told = after.shelf; is_opened_as = opened }) fault
             → IsSaveFault saving.options before after fault
         by added true all is =
@@ -50,7 +51,7 @@ module _ (saving : Saving) (mid mid' : ShelfAt) where
 
     pub concluded : (course : Course) (done : SaveCounts × SaveEnd) → IsRange saving.options.range.from saving.options.range.to → saving.options.start < 65536 → FillBlocks saving.options.range saving.found
         → IsCourse saving (record { shelf = mid; console = console_of before }) (record { shelf = mid'; console = console_of after }) course
-        → done.0 ≡ counts_of saving course → done.1 ≡ end_of course → IsTapeClosed saving course mid' (record { told = after.shelf; is_opened_as = opened }) → IsOver saving.options before after done.0 done.1
+        → done.0 ≡ counts_of saving course → done.1 ≡ end_of saving.options.care course → IsTapeClosed saving course mid' (record { told = after.shelf; is_opened_as = opened }) → IsOver saving.options before after done.0 done.1
     concluded (WasHeldUp looked) done range begins fill h counted ended closed =
         subst (λ c. IsOver saving.options before after c done.1) (sym counted) (subst (λ e. IsOver saving.options before after (counts_of saving (WasHeldUp looked)) e) (sym ended) (HeldUp (record {
           found = saving.found;
@@ -62,11 +63,11 @@ module _ (saving : Saving) (mid mid' : ShelfAt) where
         })))
     concluded (WasRead looks last stop) done range begins fill h counted ended closed =
         subst (λ c. IsOver saving.options before after c done.1) (sym counted)
-        (subst (λ e. IsOver saving.options before after (counts_of saving (WasRead looks last stop)) e) (sym ended) (by (h.2 folder is_open) (has_all stop) refl closed))
+        (subst (λ e. IsOver saving.options before after (counts_of saving (WasRead looks last stop)) e) (sym ended) (by (h.2 folder is_open) (has_all stop (are_trusted saving.options.care looks last)) refl closed))
       where
-        by : (mid'.is_opened_as folder × AreDone folder (adds saving.options.range.from (saving.found ++ last.values) (full (saving.found ++ last.values))) mid.told mid'.told) → (all : Bool) → has_all stop ≡ all
+        by : (mid'.is_opened_as folder × AreDone folder (adds saving.options.range.from (saving.found ++ last.values) (full (saving.found ++ last.values))) mid.told mid'.told) → (all : Bool) → has_all stop (are_trusted saving.options.care looks last) ≡ all
             → IsClosedWhere all saving.options.range.from (saving.found ++ last.values) saving.options.start mid' (record { told = after.shelf; is_opened_as = opened })
-            → IsOver saving.options before after (counts_read saving.options saving.found looks last) (save_end stop)
+            → IsOver saving.options before after (counts_read saving.options saving.found looks last) (save_end stop (are_trusted saving.options.care looks last))
         by added true all closed =
             let few = few_numbers saving.options.range saving.found last fill.within h.0.addresses h.0.kept in
             Shelved (record {

@@ -10,9 +10,9 @@ use Rattle.host_devices.specs.declared.item.Item.{Item}
 use Rattle.console_lines.specs.Console.{ConsoleTold}
 use Rattle.console_lines.specs.Dialling.{asked_once}
 use Rattle.reading_core.specs.Addresses.{AreAddresses, addresses_between, addresses_from, addresses_of}
-use Rattle.reading_core.specs.Bound.{life_bound, reading_bound}
+use Rattle.reading_core.specs.Bound.{life_bound}
 use Rattle.reading_core.specs.Invariant.{IsReader}
-use Rattle.reading_core.specs.Reader.{Reader, begun, begun_in, ended, manner_of}
+use Rattle.reading_core.specs.Reader.{Reader, begun_in, ended, manner_of}
 use Rattle.reading_core.specs.declared.phase.End.TheVariants.{Complete}
 use Rattle.looking_law.specs.Belief.{IsReadyMachine}
 use Rattle.looking_engine.specs.Honest.{IsHonest}
@@ -59,13 +59,17 @@ pub record AreOfFound (range : AddressRange) (found : List ℕ) (samples : List 
   pub spread : AreSamples (words_read (addresses_in range) found) (length found) samples
   pub asked : AreAddresses (addresses_of samples)
 
--- samples were looked at over a line on which nothing had been said, by a host of this patience, and it came to this
-pub record AreLookedAt (samples : List WordValue) (patience : ℕ) (looked : Looked) (said : List Item) : Type 0 where
-  pub inquired : Inquired most_turns (inquiry (begun (addresses_of samples) [] patience) looked.reader (Some looked.stop)) (Some []) (Some said)
+-- the host that looks at samples, at each as often as the save reads a word, with the patience of the save
+abbrev pub begun_at : SaveOptions → List WordValue → Reader
+begun_at options samples = begun_in (manner_of options.care []) (addresses_of samples) [] options.patience
+
+-- samples were looked at over a line on which nothing had been said, and it came to this
+pub record AreLookedAt (samples : List WordValue) (options : SaveOptions) (looked : Looked) (said : List Item) : Type 0 where
+  pub inquired : Inquired most_turns (inquiry (begun_at options samples) looked.reader (Some looked.stop)) (Some []) (Some said)
   pub end : TellsEnd looked.stop (ended looked.reader.phase)
   pub found : IsFound samples looked.reader.values looked.stop looked.finding
-  pub bound : looked.reader.sent ≤ reading_bound (length samples) patience
-  pub paid : looked.reader.spent ≤ patience
+  pub bound : looked.reader.sent ≤ life_bound options.care (length samples) options.patience
+  pub paid : looked.reader.spent ≤ options.patience
 
 -- what is so of memory wherever what was said is honest, of a machine that runs no program
 abbrev pub WhereHonest : List Item → (Change Machine → Type 0) → Type 0
@@ -87,7 +91,7 @@ pub record IsHeldUp (saving : Saving) (console : Change ConsoleTold) (looked : L
   pub samples : List WordValue
   pub of_found : AreOfFound saving.options.range saving.found samples
   pub said : List Item
-  pub looks : AreLookedAt samples saving.options.patience looked said
+  pub looks : AreLookedAt samples saving.options looked said
   pub not_all : looked.finding ≡ AllStand → ⊥
   pub asked : Gains console.before.asked console.after.asked (asked_once console.before.call)
   pub given : IsGivenBack (Some looked.stop) said (console.before.lines ⇒ console.after.lines)
@@ -108,7 +112,7 @@ pub record IsRead (saving : Saving) (console : Change ConsoleTold) (reading : Re
   pub of_found : AreOfFound saving.options.range saving.found samples
   pub looking : List Item
   pub said : List Item
-  pub looked : AreLookedAt samples saving.options.patience (all_stood reading.looks) looking
+  pub looked : AreLookedAt samples saving.options (all_stood reading.looks) looking
   pub read : Inquired most_turns (inquiry (begun_behind saving reading.looks) reading.last reading.stop) (Some looking) (Some said)
   pub asked : Gains console.before.asked console.after.asked (asked_once console.before.call)
   pub given : IsGivenBack reading.stop said (console.before.lines ⇒ console.after.lines)
@@ -118,3 +122,5 @@ pub record IsRead (saving : Saving) (console : Change ConsoleTold) (reading : Re
       ≤ life_bound saving.options.care (length (addresses_behind saving.options.range saving.found)) (saving.options.patience - reading.looks.spent)
   pub kept : IsReader reading.last
   pub is_memory : WhereHonest said (IsMemoryBehind saving reading.last.values samples)
+  -- and nothing was heard that no loss explains
+  pub none_foreign : WhereHonest said (λ machine. (reading.looks.foreign ≡ 0) × (reading.last.foreign ≡ 0))

@@ -2,6 +2,7 @@
 use Rattle.std.specs.Prelude.{◌≡◌, ℕ, ◌+◌, ◌*◌, ◌≤◌, Bool, true, false, if◌then◌else◌, List, ◌++◌, length, Option, Some, None, ⊤}
 use Rattle.tape_values.specs.Block.{top}
 use Rattle.reading_core.specs.Reader.{ended}
+use Rattle.reading_core.specs.declared.care.Care.{Care}
 use Rattle.looking_engine.specs.Stopping.{TellsEnd}
 use Rattle.request_values.specs.Change.{◌⇒◌}
 use Rattle.tape_shelf.specs.SavedSteps.{adds, closes, full}
@@ -18,6 +19,7 @@ use Rattle.machine_look.specs.Behind.{IsHeldUp, IsRead, Saving}
 use Rattle.machine_look.specs.LookFault.{IsKeepFault}
 use Rattle.machine_look.specs.Save.{SaveAt, counts_held, counts_read, has_all}
 use Rattle.machine_look.specs.SaveReport.{held_end, save_end}
+use Rattle.machine_look.specs.Trust.{are_trusted}
 
 -- looks held a save up, and the shelf is as it was; or what was found stood, and the words behind it were read, and each full block of both is on the
 -- shelf, in the same folder
@@ -34,10 +36,10 @@ abbrev pub counts_of : Saving → Course → SaveCounts
 counts_of saving (HeldUp looked) = counts_held saving.options looked.reader
 counts_of saving (Read looks last stop) = counts_read saving.options saving.found looks last
 
--- how it ends
-abbrev pub end_of : Course → SaveEnd
-end_of (HeldUp looked) = held_end looked.finding looked.stop
-end_of (Read looks last stop) = save_end stop
+-- how it ends, where its words are looked at with this care
+abbrev pub end_of : Care → Course → SaveEnd
+end_of care (HeldUp looked) = held_end looked.finding looked.stop
+end_of care (Read looks last stop) = save_end stop (are_trusted care looks last)
 
 -- the tape of numbers is closed where they are all that can be had; else nothing more is done on the shelf
 abbrev pub IsClosedWhere : Bool → ℕ → List ℕ → ℕ → ShelfAt → ShelfAt → Type 0
@@ -48,13 +50,13 @@ IsClosedWhere false from numbers start before after = after.told ≡ before.told
 abbrev pub IsTapeClosed : Saving → Course → ShelfAt → ShelfAt → Type 0
 IsTapeClosed saving (HeldUp looked) before after = after.told ≡ before.told
 IsTapeClosed saving (Read looks last stop) before after =
-    IsClosedWhere (has_all stop) saving.options.range.from (saving.found ++ last.values) saving.options.start before after
+    IsClosedWhere (has_all stop (are_trusted saving.options.care looks last)) saving.options.range.from (saving.found ++ last.values) saving.options.start before after
 
 -- the text with which it is closed then
 abbrev pub closing_text : Saving → Course → Option (List ℕ)
 closing_text saving (HeldUp looked) = None
 closing_text saving (Read looks last stop) =
-    if has_all stop then Some (last_text saving.options.range.from (saving.found ++ last.values) saving.options.start) else None
+    if has_all stop (are_trusted saving.options.care looks last) then Some (last_text saving.options.range.from (saving.found ++ last.values) saving.options.start) else None
 
 -- it can't be closed with this text, if with any
 abbrev pub IsUnclosed : Option (List ℕ) → ShelfAt → ShelfAt → LookFault → Type 0

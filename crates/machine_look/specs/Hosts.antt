@@ -1,17 +1,16 @@
 -- The hosts of a save, before the console is reached.
 use Rattle.std.specs.Prelude.{◌≡◌, ℕ, ◌≤◌, List, [], length, vec_capacity}
-use Rattle.reading_core.specs.Addresses.{AreAddresses, addresses_of}
+use Rattle.reading_core.specs.Addresses.{AreAddresses}
 use Rattle.reading_core.specs.Invariant.{IsReader}
-use Rattle.reading_core.specs.Reader.{begun}
-use Rattle.machine_look.specs.Behind.{AreOfFound, addresses_behind}
+use Rattle.machine_look.specs.Behind.{AreOfFound, addresses_behind, begun_at}
 use Rattle.machine_look.specs.declared.hosts.Hosts.{Hosts}
 use Rattle.machine_look.specs.declared.saving.SaveOptions.{SaveOptions}
 
--- one looks at samples of what was found, with the patience of the save, and for the other there are the addresses behind that, and room for as many
+-- one looks at samples of what was found, with the care and the patience of the save, and for the other there are the addresses behind that, and room for as many
 -- numbers
 pub record AreHosts (options : SaveOptions) (found : List ℕ) (hosts : Hosts) : Type 0 where
   pub of_found : AreOfFound options.range found hosts.samples.items
-  pub looker : hosts.looker ≡ begun (addresses_of hosts.samples.items) [] options.patience
+  pub looker : hosts.looker ≡ begun_at options hosts.samples.items
   pub looks : IsReader hosts.looker
   pub addresses : hosts.addresses.items ≡ addresses_behind options.range found
   pub asked : AreAddresses hosts.addresses.items

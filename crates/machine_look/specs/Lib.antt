@@ -9,5 +9,6 @@ pub mod Save
 pub mod SavedWords
 pub mod SaveReport
 pub mod Shown
+pub mod Trust
 pub mod Verify
 pub mod VerifyReport

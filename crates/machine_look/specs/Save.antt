@@ -25,6 +25,7 @@ use Rattle.tape_shelf.specs.declared.shelf.ShelfFault.TheVariants.{PartIsThere}
 use Rattle.tape_shelf.specs.SavedSteps.{adds, full, not_all_added, not_put, puts}
 use Rattle.tape_shelf.specs.SavedTape.{room_for, words_in}
 use Rattle.machine_look.specs.SavedWords.{HoldsWhatWasRead}
+use Rattle.machine_look.specs.Trust.{are_trusted}
 use Rattle.machine_look.specs.SaveReport.{save_end, held_end, save_report}
 use Rattle.tape_shelf.specs.Shelf.{ShelfStep, Reserve, NotReserved, Resume, written}
 use Rattle.tape_shelf.specs.ShelfAt.{ShelfAt, shelf_at}
@@ -100,27 +101,31 @@ pub record IsSaveRead (stop : Option LookStop) (options : SaveOptions) (before a
 abbrev pub numbers_of : {stop : Option LookStop} {options : SaveOptions} {before after : SaveTold} → IsSaveRead stop options before after → List ℕ
 numbers_of read = read.found ++ read.last.values
 
--- whether a reading that stopped so has all that can be had: every word, or each below the end of memory
-abbrev pub has_all : LookStop → Bool
-has_all (Ended Complete) = true
-has_all (Ended (NoWord address)) = true
-has_all other = false
+-- whether a reading that stopped so has all that can be had, every word, or each below the end of memory, and may be believed
+abbrev pub has_all : LookStop → (trusted : Bool) → Bool
+has_all (Ended Complete) trusted = trusted
+has_all (Ended (NoWord address)) trusted = trusted
+has_all other trusted = false
+
+-- whether what a save read may be believed
+abbrev pub trusts : {stop : Option LookStop} {options : SaveOptions} {before after : SaveTold} → IsSaveRead stop options before after → Bool
+trusts {stop} {options} read = are_trusted options.care read.looks read.last
 
 -- what was found and what was read is all that can be had, and was put where the tape goes
 pub record IsShelved (options : SaveOptions) (before after : SaveTold) : Type 0 where
   pub stop : LookStop
   pub read : IsSaveRead (Some stop) options before after
   pub end : TellsEnd stop (ended read.last.phase)
-  pub all : has_all stop ≡ true
+  pub all : has_all stop (trusts read) ≡ true
   pub tape : IsTapeOf options (numbers_of read)
   pub is_put : HasDone (read.taking ++ puts options.range.from (numbers_of read) options.start) before.shelf after.shelf
 
--- more could be had: the tape has not its place, and each full block of what was found and what was read is on the shelf, for a save that goes on
+-- more could be had, or what was read may not be believed: the tape has not its place, and each full block of what was found and what was read is on the shelf, for a save that goes on
 pub record IsLeftInPart (options : SaveOptions) (before after : SaveTold) : Type 0 where
   pub stop : LookStop
   pub read : IsSaveRead (Some stop) options before after
   pub end : TellsEnd stop (ended read.last.phase)
-  pub not_all : has_all stop ≡ false
+  pub not_all : has_all stop (trusts read) ≡ false
   pub is_left : HasDone (read.taking ++ adds options.range.from (numbers_of read) (full (numbers_of read))) before.shelf after.shelf
 
 -- looks held it up, and what is on the shelf is as it was
@@ -135,9 +140,9 @@ pub record IsHeld (options : SaveOptions) (before after : SaveTold) : Type 0 whe
 -- a save is over, with these counts and this end
 pub data IsOver (options : SaveOptions) (before after : SaveTold) : SaveCounts → SaveEnd → Type 0 where
   Shelved : (s : IsShelved options before after)
-      → IsOver options before after (counts_read options s.read.found s.read.looks s.read.last) (save_end s.stop)
+      → IsOver options before after (counts_read options s.read.found s.read.looks s.read.last) (save_end s.stop (trusts s.read))
   LeftInPart : (s : IsLeftInPart options before after)
-      → IsOver options before after (counts_read options s.read.found s.read.looks s.read.last) (save_end s.stop)
+      → IsOver options before after (counts_read options s.read.found s.read.looks s.read.last) (save_end s.stop (trusts s.read))
   HeldUp : (h : IsHeld options before after)
       → IsOver options before after (counts_held options h.looked.reader) (held_end h.looked.finding h.looked.stop)
 
@@ -159,7 +164,7 @@ pub record IsSavedUnreported (options : SaveOptions) (before after : SaveTold) :
 pub record IsUnput (fault : ShelfFault) (options : SaveOptions) (before after : SaveTold) : Type 0 where
   pub stop : LookStop
   pub read : IsSaveRead (Some stop) options before after
-  pub all : has_all stop ≡ true
+  pub all : has_all stop (trusts read) ≡ true
   pub refused : HasDone
       (read.taking ++ not_put options.range.from (numbers_of read) options.start fault)
       before.shelf after.shelf

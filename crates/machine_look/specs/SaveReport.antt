@@ -1,5 +1,5 @@
 -- What `save` prints (this project's own).
-use Rattle.std.specs.Prelude.{ℕ, List, ◌++◌, codes, decimal}
+use Rattle.std.specs.Prelude.{ℕ, Bool, true, if◌then◌else◌, List, ◌++◌, codes, decimal}
 use Rattle.octal.specs.Octal.{octal_text}
 use Rattle.byte_io.specs.Text.{line}
 use Rattle.reading_core.specs.declared.phase.End.TheVariants.{Complete, GaveUp as HostGaveUp, NoWord as HostFoundNoWord}
@@ -8,26 +8,27 @@ use Rattle.looking_engine.specs.declared.stop.Stop.TheVariants.{Ended, LineFaile
 use Rattle.sample_looks.specs.declared.finding.Finding.{Finding}
 use Rattle.sample_looks.specs.declared.finding.Finding.TheVariants.{AllStand, Stale as HasStaleWord, Unfinished}
 use Rattle.machine_look.specs.declared.save_end.SaveEnd.{SaveEnd}
-use Rattle.machine_look.specs.declared.save_end.SaveEnd.TheVariants.{Saved, NoWord, GaveUp, TurnsOver, LineFailed, Stale}
+use Rattle.machine_look.specs.declared.save_end.SaveEnd.TheVariants.{Saved, Changed, NoWord, GaveUp, TurnsOver, LineFailed, Stale}
 use Rattle.machine_look.specs.declared.save_report.SaveCounts.{SaveCounts}
 
--- how it ends, by how the reading stopped: memory is saved only where every word was read
-abbrev pub save_end : LookStop → SaveEnd
-save_end (Ended Complete) = Saved
-save_end (Ended HostGaveUp) = GaveUp
-save_end (Ended (HostFoundNoWord address)) = NoWord address
-save_end (LineHasFailed fault) = LineFailed fault
-save_end TurnsAreOver = TurnsOver
+-- how it ends, by how the reading stopped, and whether what was read may be believed: memory is saved only where every word was read
+abbrev pub save_end : LookStop → (trusted : Bool) → SaveEnd
+save_end (Ended Complete) trusted = if trusted then Saved else Changed
+save_end (Ended HostGaveUp) trusted = GaveUp
+save_end (Ended (HostFoundNoWord address)) trusted = if trusted then NoWord address else Changed
+save_end (LineHasFailed fault) trusted = LineFailed fault
+save_end TurnsAreOver trusted = TurnsOver
 
 -- how it ends that its looks held up, by what they found and how they stopped
 abbrev pub held_end : Finding → LookStop → SaveEnd
 held_end (HasStaleWord address) stop = Stale address
-held_end AllStand stop = save_end stop
-held_end Unfinished stop = save_end stop
+held_end AllStand stop = save_end stop true
+held_end Unfinished stop = save_end stop true
 
 -- the name of an end
 abbrev pub save_end_name : SaveEnd → List ℕ
 save_end_name Saved = codes "Saved"
+save_end_name Changed = codes "Changed"
 save_end_name (NoWord address) = codes "NoWord " ++ octal_text address
 save_end_name GaveUp = codes "GaveUp"
 save_end_name TurnsOver = codes "TurnsOver"

@@ -1,5 +1,5 @@
 -- What `verify` prints (this project's own).
-use Rattle.std.specs.Prelude.{ℕ, ◌==◌, if◌then◌else◌, List, ◌++◌, length, codes, decimal}
+use Rattle.std.specs.Prelude.{ℕ, Bool, ◌==◌, if◌then◌else◌, List, ◌++◌, length, codes, decimal}
 use Rattle.std.specs.List.{flat_map}
 use Rattle.octal.specs.Octal.{octal_text}
 use Rattle.tape_image.specs.Word.{WordValue, word_fields}
@@ -10,20 +10,24 @@ use Rattle.looking_engine.specs.Stopping.{LookStop}
 use Rattle.looking_engine.specs.declared.stop.Stop.TheVariants.{Ended, LineFailed as LineHasFailed, TurnsOver as TurnsAreOver}
 use Rattle.machine_look.specs.declared.difference.Difference.{Difference}
 use Rattle.machine_look.specs.declared.verify_end.VerifyEnd.{VerifyEnd}
-use Rattle.machine_look.specs.declared.verify_end.VerifyEnd.TheVariants.{Same, Differs, NoWord, GaveUp, TurnsOver, LineFailed}
+use Rattle.machine_look.specs.declared.verify_end.VerifyEnd.TheVariants.{Same, Changed, Differs, NoWord, GaveUp, TurnsOver, LineFailed}
+use Rattle.reading_core.specs.declared.care.Care.{Care}
 use Rattle.machine_look.specs.Differences.{differences}
+use Rattle.machine_look.specs.Trust.{is_trusted}
 
--- how it ends, by how many words differ and how the reading stopped: memory is the same only where every word was read
-abbrev pub verify_end : ℕ → LookStop → VerifyEnd
-verify_end differ (Ended Complete) = if differ == 0 then Same else Differs
-verify_end differ (Ended HostGaveUp) = GaveUp
-verify_end differ (Ended (HostFoundNoWord address)) = NoWord address
-verify_end differ (LineHasFailed fault) = LineFailed fault
-verify_end differ TurnsAreOver = TurnsOver
+-- how it ends, by whether what was read may be believed, how many words differ, and how the reading stopped: memory is the same only where
+-- every word was read
+abbrev pub verify_end : (trusted : Bool) → ℕ → LookStop → VerifyEnd
+verify_end trusted differ (Ended Complete) = if differ == 0 then (if trusted then Same else Changed) else Differs
+verify_end trusted differ (Ended HostGaveUp) = GaveUp
+verify_end trusted differ (Ended (HostFoundNoWord address)) = NoWord address
+verify_end trusted differ (LineHasFailed fault) = LineFailed fault
+verify_end trusted differ TurnsAreOver = TurnsOver
 
 -- the name of an end
 abbrev pub verify_end_name : VerifyEnd → List ℕ
 verify_end_name Same = codes "Same"
+verify_end_name Changed = codes "Changed"
 verify_end_name Differs = codes "Differs"
 verify_end_name (NoWord address) = codes "NoWord " ++ octal_text address
 verify_end_name GaveUp = codes "GaveUp"
@@ -52,11 +56,11 @@ abbrev pub difference_lines : List WordValue → List ℕ → List ℕ
 difference_lines words numbers = lines_of (differences words numbers)
 
 -- the counts, and the end
-abbrev pub last_lines : ℕ → Reader → ℕ → LookStop → List ℕ
-last_lines words reader differ stop =
-    line (verify_counts_text words reader differ) ++ line (codes "end " ++ verify_end_name (verify_end differ stop))
+abbrev pub last_lines : (trusted : Bool) → ℕ → Reader → ℕ → LookStop → List ℕ
+last_lines trusted words reader differ stop =
+    line (verify_counts_text words reader differ) ++ line (codes "end " ++ verify_end_name (verify_end trusted differ stop))
 
--- what `verify` prints of a reading of words
-abbrev pub verify_report : List WordValue → Reader → LookStop → List ℕ
-verify_report words reader stop =
-    difference_lines words reader.values ++ last_lines (length words) reader (length (differences words reader.values)) stop
+-- what `verify` prints of a reading of words with this care
+abbrev pub verify_report : Care → List WordValue → Reader → LookStop → List ℕ
+verify_report care words reader stop =
+    difference_lines words reader.values ++ last_lines (is_trusted care reader.foreign) (length words) reader (length (differences words reader.values)) stop

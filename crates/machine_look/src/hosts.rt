@@ -33,8 +33,8 @@ pub(crate) struct Hosts {
 }
 
 impl Hosts {
-    /// The hosts of a save that survives so many mishaps, behind what was found. The one error is want of
-    /// memory.
+    /// The hosts of a save, behind what was found: each looks so often, and survives so many mishaps. The one
+    /// error is want of memory.
     pub(crate) fn new(
         alloc: Global,
         options: SaveOptions,
@@ -45,7 +45,7 @@ impl Hosts {
     {
         let range = options.range;
         let samples = samples_of_found(alloc, range, found)?;
-        let looker = reader_of(alloc, &samples, options.patience)?;
+        let looker = reader_of(alloc, &samples, options.care, options.patience)?;
         let addresses = behind(alloc, range, found.len())?;
         let room = Vec::with_capacity(alloc, addresses.len())?;
         Ok(Hosts {

@@ -22,6 +22,7 @@ mod reading_blocks;
 mod save_end;
 mod save_report;
 mod saving;
+mod trust;
 mod verify_end;
 mod verify_report;
 mod verifying;

@@ -6,6 +6,10 @@ pub enum SaveEnd {
     /// Every word was read.
     Saved,
 
+    /// All was read that can be had, each word once, and the line changed a character: the tape is not where it
+    /// goes.
+    Changed,
+
     /// Memory has no word at this address.
     NoWord(u16),
 

@@ -38,14 +38,15 @@ pub(crate) fn save_report(counts: SaveCounts, end: SaveEnd) -> LastLines
     text
 }
 
-/// How a reading ends whose words are saved.
-pub(crate) fn save_end(stop: Stop<End>) -> SaveEnd
-    ensures { result ≡ save_end stop }
+/// How a reading ends whose words are saved, and may be believed or not.
+pub(crate) fn save_end(stop: Stop<End>, trusted: bool) -> SaveEnd
+    ensures { result ≡ save_end stop trusted }
 {
     match stop {
-        Stop::Ended(End::Complete) => SaveEnd::Saved,
+        Stop::Ended(End::Complete) if trusted => SaveEnd::Saved,
+        Stop::Ended(End::NoWord(address)) if trusted => SaveEnd::NoWord(address),
+        Stop::Ended(End::Complete | End::NoWord(_)) => SaveEnd::Changed,
         Stop::Ended(End::GaveUp) => SaveEnd::GaveUp,
-        Stop::Ended(End::NoWord(address)) => SaveEnd::NoWord(address),
         Stop::LineFailed(fault) => SaveEnd::LineFailed(fault),
         Stop::TurnsOver => SaveEnd::TurnsOver,
     }
@@ -57,7 +58,7 @@ pub(crate) fn held_end(finding: Finding, stop: Stop<End>) -> SaveEnd
 {
     match finding {
         Finding::Stale(address) => SaveEnd::Stale(address),
-        _ => save_end(stop),
+        _ => save_end(stop, true),
     }
 }
 
@@ -93,6 +94,7 @@ fn push_end_name(text: &mut LastLines, end: SaveEnd)
 {
     match end {
         SaveEnd::Saved => push_bytes(text, b"Saved"),
+        SaveEnd::Changed => push_bytes(text, b"Changed"),
         SaveEnd::NoWord(address) => push_no_word(text, address),
         SaveEnd::GaveUp => push_bytes(text, b"GaveUp"),
         SaveEnd::TurnsOver => push_bytes(text, b"TurnsOver"),

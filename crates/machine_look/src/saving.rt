@@ -17,6 +17,7 @@ use crate::look_fault::LookFault;
 use crate::reading_blocks::{Course, read_over};
 use crate::save_end::SaveEnd;
 use crate::save_report::{SaveCounts, held_end, save_end, save_report};
+use crate::trust::are_trusted;
 use byte_io::write_and_flush;
 use console_lines::Reach;
 use host_devices::Onlooker;
@@ -50,9 +51,9 @@ pub struct SaveOptions {
 /// nothing typed. Where an earlier save of the same words left blocks there, samples of their words are looked at
 /// first: where they stand, these blocks are added once more, and the words behind them are read; where one does
 /// not, or the looks do not come to their end, no word counts as read, and the shelf is as it was. The tape is
-/// closed, and has its place there, where it is all that can be had: every word was read, or each below the end of
-/// memory. Where the line failed, the host gave up or the turns were over, the blocks stay on the shelf, and a later
-/// save of the same words goes on behind them.
+/// closed, and has its place there, where it is all that can be had, every word or each below the end of memory, and
+/// may be believed: with less care than `Twice` it may not where a character came that no loss explains. Else the
+/// blocks stay on the shelf, and a later save of the same words goes on behind them.
 ///
 /// `IsThere`, `PartIsThere`, `NotOfSave` and `WriteTape` come before the console is reached; `IsThere` and `WriteTape` also
 /// where the tape can't have its place at the end, and `WriteTape` where a block can't be added: then the blocks
@@ -112,7 +113,7 @@ fn conclude<S: Shelf>(
     requires whole { length found.now ≡ 256 * full found.now }
     requires room { HasRoomForCounts options found.now course }
     ensures counted { IfOk result (λ done. done.0 ≡ counts_of (record { options = options; found = found.now }) course) }
-    ensures ended { IfOk result (λ done. done.1 ≡ end_of course) }
+    ensures ended { IfOk result (λ done. done.1 ≡ end_of options.care course) }
     ensures closed { OnOk result (IsTapeClosed (record { options = options; found = found.now }) course
         (shelf_at S.Shelf shelf.old) (shelf_at S.Shelf shelf.new)) }
     ensures fits { options.start < 65536 }
@@ -132,7 +133,8 @@ fn conclude<S: Shelf>(
         }
         Course::Read(looks, core, stop) => {
             let numbers = core.values();
-            if has_all(stop) {
+            let trusted = are_trusted(options.care, &looks, &core);
+            if has_all(stop, trusted) {
                 close(options, found, numbers, shelf)?;
             }
             let counts = SaveCounts {
@@ -141,17 +143,17 @@ fn conclude<S: Shelf>(
                 read: found.len() + numbers.len(),
                 words,
             };
-            Ok((counts, save_end(stop)))
+            Ok((counts, save_end(stop, trusted)))
         }
     }
 }
 
-// Whether a reading that stopped so has all that can be had.
-fn has_all(stop: Stop<End>) -> bool
-    ensures { result ≡ has_all stop }
+// Whether a reading that stopped so has all that can be had, and may be believed.
+fn has_all(stop: Stop<End>, trusted: bool) -> bool
+    ensures { result ≡ has_all stop trusted }
 {
     match stop {
-        Stop::Ended(End::Complete | End::NoWord(_)) => true,
+        Stop::Ended(End::Complete | End::NoWord(_)) => trusted,
         Stop::Ended(End::GaveUp) | Stop::LineFailed(_) | Stop::TurnsOver => false,
     }
 }

@@ -6,6 +6,9 @@ pub enum VerifyEnd {
     /// Every word was looked at, and each stands.
     Same,
 
+    /// Every word was looked at, and each seemed to stand, not all twice, and the line changed a character.
+    Changed,
+
     /// Every word was looked at, and one or more differ.
     Differs,
 

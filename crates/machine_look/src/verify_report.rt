@@ -21,13 +21,14 @@ const LAST_ROOM: usize = 151;
 /// The last two lines of a report, in room of their own.
 pub(crate) type LastLines = ArrayVec<u8, LAST_ROOM>;
 
-/// How a reading ends with which so many words differ.
-pub(crate) fn verify_end(differ: usize, stop: Stop<End>) -> VerifyEnd
-    ensures { result ≡ verify_end differ stop }
+/// How a reading ends that may be believed or not, and with which so many words differ.
+pub(crate) fn verify_end(trusted: bool, differ: usize, stop: Stop<End>) -> VerifyEnd
+    ensures { result ≡ verify_end trusted differ stop }
 {
     match stop {
-        Stop::Ended(End::Complete) if differ == 0 => VerifyEnd::Same,
-        Stop::Ended(End::Complete) => VerifyEnd::Differs,
+        Stop::Ended(End::Complete) if differ > 0 => VerifyEnd::Differs,
+        Stop::Ended(End::Complete) if trusted => VerifyEnd::Same,
+        Stop::Ended(End::Complete) => VerifyEnd::Changed,
         Stop::Ended(End::GaveUp) => VerifyEnd::GaveUp,
         Stop::Ended(End::NoWord(address)) => VerifyEnd::NoWord(address),
         Stop::LineFailed(fault) => VerifyEnd::LineFailed(fault),
@@ -54,12 +55,17 @@ pub(crate) fn difference_line(difference: Difference) -> ArrayVec<u8, LINE_ROOM>
 }
 
 /// The last lines of a report: the counts of the host's life, with so many words that differ, and how it ended.
-pub(crate) fn last_lines(core: &ReadingCore, differ: usize, stop: Stop<End>) -> LastLines
-    ensures { result.items ≡ last_lines (length core.now.addresses) core.now differ stop }
+pub(crate) fn last_lines(
+    core: &ReadingCore,
+    trusted: bool,
+    differ: usize,
+    stop: Stop<End>,
+) -> LastLines
+    ensures { result.items ≡ last_lines trusted (length core.now.addresses) core.now differ stop }
 {
     let mut text = LastLines::new();
     push_counts(&mut text, core, differ);
-    push_end(&mut text, verify_end(differ, stop));
+    push_end(&mut text, verify_end(trusted, differ, stop));
     text
 }
 
@@ -107,6 +113,7 @@ fn push_end_name(text: &mut LastLines, end: VerifyEnd)
 {
     match end {
         VerifyEnd::Same => push_bytes(text, b"Same"),
+        VerifyEnd::Changed => push_bytes(text, b"Changed"),
         VerifyEnd::Differs => push_bytes(text, b"Differs"),
         VerifyEnd::NoWord(address) => push_no_word(text, address),
         VerifyEnd::GaveUp => push_bytes(text, b"GaveUp"),

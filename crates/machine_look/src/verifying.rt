@@ -8,6 +8,7 @@ ghost use Rattle.request_values.specs.Change.{◌⇒◌};
 use crate::comparing::compare_over;
 use crate::difference::count_differences;
 use crate::look_fault::LookFault;
+use crate::trust::trusts;
 use crate::verify_end::VerifyEnd;
 use crate::verify_report::{last_lines, verify_end};
 use byte_io::write_and_flush;
@@ -31,7 +32,8 @@ pub struct VerifyOptions {
 /// Looks at every word of a plan, in the order of their addresses, changes none, and reports each one that
 /// differs, as soon as it was read, and in the end how far that came and how it ended.
 ///
-/// A plan without words needs no console: it ends as `Same`.
+/// A plan without words needs no console: it ends as `Same`. With less care than `Twice` that is `Changed` where a
+/// character came that no loss explains.
 ///
 /// `Connect` comes before anything was sent. `WriteOutput` is a report that could not be written whole: a front
 /// of it was, and nothing more is read. `Memory` comes only where a growth was refused, before the console is
@@ -54,6 +56,7 @@ pub fn verify<R: Reach, W: Write, O: Onlooker>(
     let words = plan.words();
     let (core, stop) = compare_over(core, words, console, out, onlooker)?;
     let differ = count_differences(words, core.values());
-    write_and_flush(out, &last_lines(&core, differ, stop))?;
-    Ok(verify_end(differ, stop))
+    let trusted = trusts(options.care, &core);
+    write_and_flush(out, &last_lines(&core, trusted, differ, stop))?;
+    Ok(verify_end(trusted, differ, stop))
 }

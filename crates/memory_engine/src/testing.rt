@@ -78,12 +78,14 @@ impl Host for Testing {
         self.core.end()
     }
 
+    // Nothing says yet which characters a test can't await, so none is foreign.
     fn sight(&self, heard: Heard, step: &Asked) -> Sight {
         Sight {
             heard,
             key: step.key,
             done: self.core.seen().len() as u32,
             spent: self.core.spent(),
+            foreign: false,
         }
     }
 }

@@ -13,7 +13,7 @@ use Rattle.reading_core.specs.Invariant.{IsReader}
 use Rattle.reading_core.specs.Laws.{led, replay, KeepsBound}
 use Rattle.reading_core.specs.Bound.{life_bound}
 use Rattle.reading_core.specs.Reader.{Reader, address_under_way, looks_twice}
-use Rattle.reading_core.specs.ReadingTable.{ReaderStep, ask, listens, sends, taken, turn_of, values_after}
+use Rattle.reading_core.specs.ReadingTable.{ReaderStep, ask, counted, listens, sends, taken, turn_of, values_after}
 use Rattle.reading_core.proofs.Turns.{kept, within_bound}
 
 -- what every turn does: addresses, manner and patience stay, a character that is sent is counted, and the numbers grow by
@@ -51,7 +51,8 @@ taken_asked r Timeout =
     record { addresses = refl; manner = refl; values = refl; patience = refl; sent = not_sent r.sent }
 
 pub asked : (r : Reader) (heard : Heard) → IsAsked r (turn_of r heard) (ask r heard)
-asked r heard = taken_asked r (turn_of r heard)
+asked r heard =
+    let a = taken_asked (counted r heard) (turn_of r heard) in record { addresses = a.addresses; manner = a.manner; values = a.values; patience = a.patience; sent = a.sent }
 
 pub led_kept : (r : Reader) (heard : List Heard) → IsReader r → IsReader (led r heard)
 led_kept r [] h = h

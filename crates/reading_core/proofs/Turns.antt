@@ -1,7 +1,8 @@
 -- Each turn of the table keeps what holds of every reader.
-use Rattle.std.proofs.Common.{◌≡◌, ℕ, ◌+◌, ◌-◌, ◌^◌, ◌<◌, ◌≤◌, Bool, true, false, ◌==◌, nat_lt, if◌then◌else◌, List, [], length, refl, arith, ap, sym, ◌∙◌, ◌*◌, length-append}
+use Rattle.std.proofs.Common.{◌≡◌, ℕ, ◌+◌, ◌-◌, ◌^◌, ◌<◌, ◌≤◌, Bool, true, false, ◌==◌, nat_lt, if◌then◌else◌, List, [], length, refl, arith, ap, sym, subst, ◌∙◌, ◌*◌, length-append}
 use Rattle.std.specs.Prelude.{All, Option, Some, None}
 use Rattle.tape_image.specs.Word.{WordValue, merged}
+use Rattle.std.proofs.lemmas.List.{length_push}
 use Rattle.std.proofs.lemmas.List.Elements.{All-nil, All-push}
 use Rattle.std.proofs.Math.Nat.{mul-le-mul_left}
 use borrow.Author.Tests.{ltb-true, ltb-false, eqb-true}
@@ -22,7 +23,7 @@ use Rattle.reading_core.specs.Addresses.{AreAddresses}
 use Rattle.reading_core.specs.Bound.{used_in, used_before, most_of_word, life_bound}
 use Rattle.reading_core.specs.Invariant.{IsReader, Basis, basis_of, PhaseFits, EndFits, HasWord, EarlierFits}
 use Rattle.reading_core.specs.Reader.{Reader, Manner, address_under_way, begun, begun_in, looks_twice, once}
-use Rattle.reading_core.specs.ReadingTable.{ReaderStep, ask, taken, turn_of, hears, waits, synced, addressed, doubts, judged, target_of, questioned, reads, closed, refused, next_word}
+use Rattle.reading_core.specs.ReadingTable.{ReaderStep, ask, counted, taken, turn_of, hears, waits, synced, addressed, doubts, judged, target_of, questioned, reads, closed, refused, next_word, is_read}
 
 -- what a turn needs of the reader that takes it, n being the characters that its phase may have used
 abbrev TurnFits : Turn → Reader → ℕ → Type 0
@@ -159,8 +160,34 @@ turn_fits : (r : Reader) (heard : Heard) → IsReader r → TurnFits (turn_of r 
 turn_fits r (Got c) h = hears_fits r r.phase c h.fits
 turn_fits r Quiet h = waits_fits r r.phase h.fits
 
+-- nothing is judged by the count of what no loss explains
+pub any_count : (r : Reader) (n : ℕ) → IsReader r → IsReader (record r { foreign = n })
+any_count r n h = record { asked = h.asked; within = h.within; numbers = h.numbers; patient = h.patient; long = h.long; again = h.again; fits = h.fits; paid = h.paid }
+
+counted_kept : (r : Reader) (heard : Heard) → IsReader r → IsReader (counted r heard)
+counted_kept r heard h = any_count r (counted r heard).foreign h
+
+pub kept_counted : (r : Reader) (heard : Heard) → IsReader (counted r heard) → IsReader (ask r heard).next
+kept_counted r heard h = taken_kept (counted r heard) (turn_of r heard) h (turn_fits (counted r heard) heard h)
+
 pub kept : (r : Reader) (heard : Heard) → IsReader r → IsReader (ask r heard).next
-kept r heard h = taken_kept r (turn_of r heard) h (turn_fits r heard h)
+kept r heard h = kept_counted r heard (counted_kept r heard h)
+
+-- the same of a reader that has counted, where this is the table's turn
+pub step_kept : (r old : Reader) (heard : Heard) (turn : Turn) → r ≡ counted old heard → turn ≡ turn_of old heard → IsReader r → IsReader (taken r turn).next
+step_kept r old heard turn is row h =
+    subst (λ t. IsReader (taken r t).next) (sym row) (subst (λ x. IsReader (taken x (turn_of old heard)).next) (sym is) (kept_counted old heard (subst IsReader is h)))
+
+-- there is an address for a number that a turn takes
+pub read_within : (r : Reader) (turn : Turn) → IsReader (taken r turn).next → is_read turn ≡ true → length r.values < length r.addresses
+read_within r (Listen phase) h e = absurd (cc e)
+read_within r (Key key phase) h e = absurd (cc e)
+read_within r (Read value) h e = omega (arith, h.within, length_push r.values value)
+read_within r (Again value) h e = absurd (cc e)
+read_within r Next h e = absurd (cc e)
+read_within r (Stop end) h e = absurd (cc e)
+read_within r Stray h e = absurd (cc e)
+read_within r Timeout h e = absurd (cc e)
 
 used_le : (phase : Phase) (b : Basis) → PhaseFits phase b → used_in phase ≤ 9
 used_le Settle b f = omega arith
@@ -181,7 +208,7 @@ within_bound r h =
 
 -- a life begins as every reader has to be; `done` says whether nothing is left to do
 begun_test : (addresses : List ℕ) (manner : Manner) (values : List ℕ) (patience : ℕ) (done : Bool) → (length values == length addresses) ≡ done → AreAddresses addresses → length values ≤ length addresses → All (λ v. v < 65536) values → patience < 2 ^ 32 →
-    IsReader (record { addresses = addresses; manner = manner; values = values; patience = patience; spent = 0; sent = 0; earlier = None; phase = if done then Ended Complete else Settle })
+    IsReader (record { addresses = addresses; manner = manner; values = values; patience = patience; spent = 0; foreign = 0; sent = 0; earlier = None; phase = if done then Ended Complete else Settle })
 begun_test addresses manner values patience true e asked le numbers long = record { asked = asked; within = le; numbers = numbers; patient = omega arith; long = long; again = tt; fits = eqb-true _ _ e; paid = omega arith }
 begun_test addresses manner values patience false e asked le numbers long = record { asked = asked; within = le; numbers = numbers; patient = omega arith; long = long; again = tt; fits = tt; paid = omega arith }
 

@@ -1,5 +1,6 @@
 pub mod Addresses
 pub mod Bound
+pub mod Foreign
 pub mod Invariant
 pub mod Laws
 pub mod Reader

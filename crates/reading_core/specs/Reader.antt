@@ -29,13 +29,15 @@ looks_twice Twice = true
 looks_twice TwiceWhereOther = true
 
 -- the addresses to be read, how, the numbers read so far at the first of them, how many mishaps a life survives and how
--- many it has had, the characters it has sent, what an earlier look at the word under way read, and its phase
+-- many it has had, how many characters came in all its lives that no loss explains, the characters it has sent, what an
+-- earlier look at the word under way read, and its phase
 pub record Reader : Type 0 where
   pub addresses : List ℕ
   pub manner : Manner
   pub values : List ℕ
   pub patience : ℕ
   pub spent : ℕ
+  pub foreign : ℕ
   pub sent : ℕ
   pub earlier : Option ℕ
   pub phase : Phase
@@ -60,6 +62,7 @@ begun_in manner addresses values patience = record {
   values = values;
   patience = patience;
   spent = 0;
+  foreign = 0;
   sent = 0;
   earlier = None;
   phase = first_phase (length addresses) (length values);
@@ -69,9 +72,10 @@ begun_in manner addresses values patience = record {
 abbrev pub begun : List ℕ → List ℕ → ℕ → Reader
 begun addresses values patience = begun_in once addresses values patience
 
--- a new life that keeps the addresses, the manner, the patience and at most the first `kept` numbers
+-- a new life that keeps the addresses, the manner, the patience, at most the first `kept` numbers, and the count of
+-- characters that no loss explains
 abbrev pub restarted : Reader → ℕ → Reader
-restarted r kept = begun_in r.manner r.addresses (take kept r.values) r.patience
+restarted r kept = record (begun_in r.manner r.addresses (take kept r.values) r.patience) { foreign = r.foreign }
 
 -- the end of the life, where it has ended
 abbrev pub ended : Phase → Option End
@@ -86,6 +90,7 @@ reader_of addresses manner values patience life = record {
   values = values;
   patience = patience;
   spent = life.spent;
+  foreign = life.foreign;
   sent = life.sent;
   earlier = life.earlier;
   phase = life.phase;

@@ -16,6 +16,7 @@ use Rattle.host_core.specs.declared.heard.Heard.TheVariants.{Got, Quiet}
 use Rattle.host_core.specs.Answers.{resynchronise_reply, return_reply, digit_echo, reading_start, reading_rest}
 use Rattle.host_core.specs.Console.{resynchronise, carriage_return, slash}
 use Rattle.host_core.specs.Core.{word_nr}
+use Rattle.reading_core.specs.Foreign.{count_after, is_foreign}
 use Rattle.reading_core.specs.Reader.{Reader, address_under_way, looks_twice}
 use Rattle.reading_core.specs.declared.care.Care.{Care}
 use Rattle.reading_core.specs.declared.care.Care.TheVariants.{Once, Twice, TwiceWhereOther}
@@ -158,6 +159,10 @@ abbrev pub turn_of : Reader → Heard → Turn
 turn_of r (Got c) = hears (target_of r) r.phase c
 turn_of r Quiet = waits r.phase
 
+-- a reader that has counted what it hears where no loss explains it
+abbrev pub counted : Reader → Heard → Reader
+counted r heard = record r { foreign = count_after r.foreign (is_foreign (address_under_way r) r.phase heard) }
+
 -- one step of the reading host
 abbrev pub ask : Reader → Heard → ReaderStep
-ask r heard = taken r (turn_of r heard)
+ask r heard = taken (counted r heard) (turn_of r heard)

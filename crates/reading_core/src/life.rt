@@ -1,5 +1,6 @@
 ghost use Rattle.std.specs.Prelude.{◌≡◌, ◌+◌, ◌^◌, ◌<◌, ◌==◌, Some, None};
 ghost use Rattle.host_core.specs.Console.{carriage_return};
+ghost use Rattle.reading_core.specs.Foreign.{count_after};
 ghost use Rattle.reading_core.specs.Reader.{first_phase};
 ghost use Rattle.reading_core.specs.declared.phase.Phase.TheVariants.{Close};
 
@@ -10,6 +11,9 @@ use host_core::console::CARRIAGE_RETURN;
 #[derive(Clone, Copy)]
 pub(crate) struct LifeState {
     pub(crate) spent: u32,
+
+    /// The characters of all lives that no loss explains.
+    pub(crate) foreign: u32,
     pub(crate) sent: u64,
 
     /// What an earlier look at the word under way read.
@@ -27,7 +31,7 @@ pub(crate) struct ReaderStep {
 impl LifeState {
     /// The beginning of a life: with every word read nothing is left to do.
     pub(crate) fn begun(addresses: usize, read: usize) -> LifeState
-        ensures { result ≡ record { spent = 0; sent = 0; earlier = None; phase = first_phase addresses read } }
+        ensures { result ≡ record { spent = 0; foreign = 0; sent = 0; earlier = None; phase = first_phase addresses read } }
     {
         let phase = if read == addresses {
             Phase::Ended(End::Complete)
@@ -36,9 +40,24 @@ impl LifeState {
         };
         LifeState {
             spent: 0,
+            foreign: 0,
             sent: 0,
             earlier: None,
             phase,
+        }
+    }
+
+    /// What was heard is counted where no loss explains it. The count stays at its largest.
+    pub(crate) fn counting(self, is_foreign: bool) -> LifeState
+        ensures { result ≡ record self { foreign = count_after self.foreign is_foreign } }
+    {
+        if is_foreign && self.foreign < u32::MAX {
+            LifeState {
+                foreign: self.foreign + 1,
+                ..self
+            }
+        } else {
+            self
         }
     }
 

@@ -2,10 +2,13 @@ ghost use Rattle.std.specs.Prelude.{◌≡◌, ◌+◌, ◌^◌, ◌<◌, ◌≤
 ghost use Rattle.host_core.specs.declared.heard.Heard.TheVariants.{Got};
 ghost use Rattle.reading_core.specs.Addresses.{AreAddresses, IsRange, addresses_between, addresses_of};
 ghost use Rattle.reading_core.specs.Bound.{life_bound};
+ghost use Rattle.reading_core.specs.Foreign.{is_foreign};
 ghost use Rattle.reading_core.specs.Invariant.{IsReader, HasWord, basis_of};
 ghost use Rattle.reading_core.specs.Laws.{KeepsBound};
 ghost use Rattle.reading_core.specs.Reader.{address_under_way, begun, begun_in, ended, looks_twice, manner_of, reader_of, restarted};
-ghost use Rattle.reading_core.specs.ReadingTable.{ask, doubts, is_read, judged, next_word, questioned, reads, taken, target_of, turn_of, values_after};
+ghost use Rattle.reading_core.specs.ReadingTable.{ask, counted, doubts, is_read, judged, next_word, questioned, reads, taken, target_of, turn_of, values_after};
+
+mod foreign;
 
 use crate::care::Care;
 use crate::life::{LifeState, ReaderStep};
@@ -26,7 +29,8 @@ use tape_image::{Word, merge};
 ///
 /// The constructors and each `restart` begin a life. Contracts see a record of the addresses, how
 /// their words are read, the numbers read at the first of them, the patience, the mishaps spent, the
-/// characters sent, an earlier look and the phase. Only the constructors take memory.
+/// characters heard that no loss explains, those sent, an earlier look and the phase. Only the
+/// constructors take memory.
 #[derive(Drop)]
 pub struct ReadingCore {
     addresses: Vec<u16>,
@@ -167,6 +171,25 @@ impl ReadingCore {
         self.life.spent
     }
 
+    /// How many characters were heard so far, in all lives, that no loss explains. Over a line that only
+    /// loses characters none ever is (`looking_law`, `readings_hear_nothing_foreign`), so that a count
+    /// above 0 says that the line changed or made up a character.
+    pub fn foreign_count(&self) -> u32
+        ensures { result ≡ self.now.foreign }
+    {
+        self.life.foreign
+    }
+
+    /// Whether no loss explains what is heard: the character is in no answer that is awaited here.
+    pub fn is_foreign(&self, heard: Heard) -> bool
+        ensures { result ≡ is_foreign (address_under_way self.now) self.now.phase heard }
+    {
+        match heard {
+            Heard::Got(c) => !self.may_come(c),
+            Heard::Quiet => false,
+        }
+    }
+
     /// The characters sent in this life so far, also the first `Z`. Whatever is heard, they never pass
     /// the bound of a life, which for all of memory, the largest patience and two looks at each word is
     /// 73,014,902,784.
@@ -192,13 +215,16 @@ impl ReadingCore {
     }
 
     /// Begins a new life, as after the host's computer was restarted: at most the first `kept` of the
-    /// numbers still count.
+    /// numbers still count, and so does what no loss explains.
     pub fn restart(&mut self, kept: u32)
         ensures begun { self.new ≡ restarted self.old kept }
         ensures kept { IsReader self.new }
     {
         self.values.truncate(kept as usize);
-        self.life = LifeState::begun(self.addresses.len(), self.values.len());
+        self.life = LifeState {
+            foreign: self.life.foreign,
+            ..LifeState::begun(self.addresses.len(), self.values.len())
+        };
     }
 
     /// Hears one thing and answers the character to send now, if any: a step of the table. It never
@@ -213,10 +239,19 @@ impl ReadingCore {
         ensures bound { self.new.sent ≤ life_bound self.new.manner.care (length self.new.addresses) self.new.patience }
     {
         let turn = self.turn(heard);
+        self.count(heard);
         let ReaderStep { life, key } = self.taken(turn);
         note(&mut self.values, turn);
         self.life = life;
         key
+    }
+
+    // What is heard counts where no loss explains it.
+    fn count(&mut self, heard: Heard)
+        ensures { self.new ≡ counted self.old heard }
+    {
+        let is_foreign = self.is_foreign(heard);
+        self.life = self.life.counting(is_foreign);
     }
 
     // The answer of the table.

@@ -10,7 +10,8 @@ use Rattle.request_values.specs.Change.{◌⇒◌}
 use Rattle.request_values.specs.declared.request.Request.{Request}
 use Rattle.request_values.specs.Request.{only_prints}
 use Rattle.requests.specs.Asked.{SystemTold}
-use Rattle.requests.specs.Attempt.{IsAttempted, IsDone, IsEndOf, IsFailed}
+use Rattle.requests.specs.Attempt.{IsAttempted, IsDone, IsEndOf, IsFailed, IsOver}
+use Rattle.requests.specs.ChangedLine.{IsChangeTold}
 use Rattle.requests.specs.Moment.{Moment, moment}
 
 -- the streams held this before standard error was told anything
@@ -18,14 +19,14 @@ before_telling : (before : Moment) (held last : Held) → held.err ≡ before.he
 before_telling before held last quiet told =
     ap (λ (h : Held). record h { err = before.held.err }) told ∙ ap (λ (e : StandardError). record held { err = e }) (sym quiet)
 
-pub attempted : {D : Type 0} (holds : D → List ℕ → Option (List ℕ)) (request : Request) (before : Moment) (asked : SystemTold D) (held last : Held) (outcome : Result Status Failure) (status : Status) (prints : Bool)
+over : {D : Type 0} (holds : D → List ℕ → Option (List ℕ)) (request : Request) (before : Moment) (asked : SystemTold D) (held last : Held) (outcome : Result Status Failure) (status : Status) (prints : Bool)
     → prints ≡ only_prints request → IfOk outcome (IsDone request (before ⇒ moment holds asked held)) → IfErr outcome (IsFailed request (before ⇒ moment holds asked held))
-    → held.err ≡ before.held.err → IsEndOf prints outcome (held ⇒ last) status → IsAttempted request (before ⇒ moment holds asked last) status
-attempted holds request before asked held last (Ok ended) status prints p ok err quiet end = inl (record {
+    → held.err ≡ before.held.err → IsEndOf prints outcome (held ⇒ last) status → IsOver request (before ⇒ moment holds asked last) status
+over holds request before asked held last (Ok ended) status prints p ok err quiet end = inl (record {
   done = subst (λ h. IsDone request (before ⇒ moment holds asked h) status) (sym end.0) (subst (IsDone request (before ⇒ moment holds asked held)) (sym end.1) ok);
   quiet = ap (λ (h : Held). h.err) end.0 ∙ quiet;
 })
-attempted holds request before asked held last (Err failure) status prints p ok err quiet end = inr (record {
+over holds request before asked held last (Err failure) status prints p ok err quiet end = inr (record {
   failure = failure;
   failed = subst (λ h. IsFailed request (before ⇒ moment holds asked h) failure) (sym (before_telling before held last quiet end.0)) err;
   told = subst (λ b. IsPrintedWithReason (is_unheard b last.unread failure) before.held.err last.err failure) p
@@ -46,6 +47,14 @@ pub came_to : {D : Type 0} (holds : D → List ℕ → Option (List ℕ)) (reque
 came_to holds request before came command held streams same is so =
     subst (λ c. CameTo holds request before c held) (sym same) (subst (CameTo holds request before command) (sym is) so)
 
-pub told : {D : Type 0} (holds : D → List ℕ → Option (List ℕ)) (request : Request) (before : Moment) (came : SystemTold D × Result Status Failure) (held last : Held) (status : Status) (prints : Bool)
-    → prints ≡ only_prints request → CameTo holds request before came held → IsEndOf prints came.1 (held ⇒ last) status → IsAttempted request (before ⇒ moment holds came.0 last) status
-told holds request before came held last status prints p so end = attempted holds request before came.0 held last came.1 status prints p so.ok so.err so.quiet end
+-- and behind that it is told of characters that came changed
+pub told : {D : Type 0} (holds : D → List ℕ → Option (List ℕ)) (request : Request) (before : Moment) (came : SystemTold D × Result Status Failure) (held between last : Held) (status : Status) (prints : Bool) (count : ℕ)
+    → prints ≡ only_prints request → CameTo holds request before came held → IsEndOf prints came.1 (held ⇒ between) status
+    → last ≡ record between { err = last.err } → IsChangeTold request count between.err last.err → IsAttempted request (before ⇒ moment holds came.0 last) status
+told holds request before came held between last status prints count p so end others changed = record {
+  between = between.err;
+  over = subst (λ h. IsOver request (before ⇒ moment holds came.0 h) status) (sym (ap (λ (h : Held). record h { err = between.err }) others))
+      (over holds request before came.0 held between came.1 status prints p so.ok so.err so.quiet end);
+  count = count;
+  changed = changed;
+}

@@ -1,11 +1,13 @@
 -- What becomes of each request: what the files that it names and standard input held decides what is written, the status, and the line
--- on standard error.
-use Rattle.std.specs.Prelude.{◌≡◌, ◌⊎◌, Bool, Result, Ok, Err}
+-- on standard error, behind which may stand another, of changed characters.
+use Rattle.std.specs.Prelude.{◌≡◌, ◌⊎◌, ℕ, Bool, Result, Ok, Err}
 use Rattle.endings.specs.declared.failure.Failure.{Failure}
 use Rattle.endings.specs.declared.status.Status.{Status}
 use Rattle.endings.specs.Held.{Held}
 use Rattle.endings.specs.Failure.{status_of, is_unheard}
+use Rattle.endings.specs.FaultOutput.{StandardError}
 use Rattle.endings.specs.SystemReason.{IsPrintedWithReason}
+use Rattle.requests.specs.ChangedLine.{IsChangeTold}
 use Rattle.requests.specs.Loading.{AreLoaded, AreUnloaded}
 use Rattle.requests.specs.Probing.{IsConsoleProbed, IsConsoleUnprobed}
 use Rattle.requests.specs.Saving.{AreWordsSaved, AreWordsUnsaved}
@@ -46,9 +48,13 @@ pub record IsDoneQuietly (request : Request) (moments : Change Moment) (status :
   pub done : IsDone request moments status
   pub quiet : moments.after.held.err ≡ moments.before.held.err
 
+-- the same moments, the second when standard error was as given
+abbrev pub when_error_was : StandardError → Change Moment → Change Moment
+when_error_was err moments = moments.before ⇒ record moments.after { held = record moments.after.held { err = err } }
+
 -- the same moments, the second before standard error was told anything
 abbrev pub before_telling : Change Moment → Change Moment
-before_telling moments = moments.before ⇒ record moments.after { held = record moments.after.held { err = moments.before.held.err } }
+before_telling moments = when_error_was moments.before.held.err moments
 
 -- it failed, standard error tells of it where somebody is to hear of it, and of the system's reason, and the status says so
 pub record IsFailedAloud (request : Request) (moments : Change Moment) (status : Status) : Type 0 where
@@ -57,9 +63,17 @@ pub record IsFailedAloud (request : Request) (moments : Change Moment) (status :
   pub told : IsPrintedWithReason (is_unheard (only_prints request) moments.after.held.unread failure) moments.before.held.err moments.after.held.err failure
   pub status_is : status ≡ status_of failure
 
--- a request was attempted from one moment to another, and the program ends so
-abbrev pub IsAttempted : Request → Change Moment → Status → Type 0
-IsAttempted request moments status = IsDoneQuietly request moments status ⊎ IsFailedAloud request moments status
+-- it was done or failed, and the program ends so
+abbrev pub IsOver : Request → Change Moment → Status → Type 0
+IsOver request moments status = IsDoneQuietly request moments status ⊎ IsFailedAloud request moments status
+
+-- a request was attempted from one moment to another, and the program ends so; behind all that, where it is one at a machine, standard error may
+-- have been told that some number of characters came changed
+pub record IsAttempted (request : Request) (moments : Change Moment) (status : Status) : Type 0 where
+  pub between : StandardError
+  pub over : IsOver request (when_error_was between moments) status
+  pub count : ℕ
+  pub changed : IsChangeTold request count between moments.after.held.err
 
 -- how the program ends with what a request came to: it was done, and nothing more is said; or it failed, and standard error tells why, where
 -- somebody is to hear of it

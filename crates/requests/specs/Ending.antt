@@ -94,6 +94,7 @@ IsLoadEndStatus (load_end.Stale address) status = ⊥
 abbrev pub after_verify : VerifyEnd → Result Status Failure
 after_verify verify.Same = Ok Done
 after_verify verify.Differs = Ok Differs
+after_verify verify.Changed = Ok NotLoaded
 after_verify (verify.NoWord address) = Ok NotLoaded
 after_verify verify.GaveUp = Ok NotLoaded
 after_verify verify.TurnsOver = Ok NotLoaded
@@ -102,6 +103,7 @@ after_verify (verify.LineFailed fault) = Err (LineFailed fault)
 -- how the program ended where a `save` ended so
 abbrev pub IsSaveEndStatus : SaveEnd → Status → Type 0
 IsSaveEndStatus save.Saved status = status ≡ Done
+IsSaveEndStatus save.Changed status = status ≡ NotLoaded
 IsSaveEndStatus (save.NoWord address) status = status ≡ NotLoaded
 IsSaveEndStatus save.GaveUp status = status ≡ NotLoaded
 IsSaveEndStatus save.TurnsOver status = status ≡ NotLoaded

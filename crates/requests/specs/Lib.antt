@@ -1,5 +1,6 @@
 pub mod Asked
 pub mod Attempt
+pub mod ChangedLine
 pub mod Ending
 pub mod Instead
 pub mod Listening

@@ -1,12 +1,13 @@
 //! What a person at the terminal is told beside the report.
 
+use crate::watch::Watch;
 use host_core::End;
 use host_devices::Line;
 use load_engine::Stop;
 use machine_load::{LoadEnd, Outcome, StubStop, Stubs, StubsEnd};
 use machine_look::{LookFault, SaveEnd};
 use octal::Octal;
-use progress_display::{KeptIn, LastWord, ProgressLine};
+use progress_display::{LastWord, ProgressLine};
 use request_values::Load;
 use std::alloc::Global;
 use std::fmt;
@@ -33,18 +34,6 @@ const LOOK_FIRST: &str =
 const PART_GOES_ON: &str =
     "the same line goes on where it was; power lost? remove the .part file\n";
 
-/// Who looks on: the line on the terminal, where there is one. What is done is kept there.
-pub(crate) fn onlooker<'o, C: Clock, T: Print>(
-    clock: &'o C,
-    terminal: Option<&'o T>,
-    kept_in: KeptIn,
-) -> Option<ProgressLine<'o, C, T>> {
-    match terminal {
-        Some(terminal) => Some(ProgressLine::new(clock, terminal, kept_in)),
-        None => None,
-    }
-}
-
 /// What is known of the words that a load is of.
 #[derive(Clone, Copy, Debug, PartialEq, Eq)]
 pub(crate) struct PlanSize {
@@ -70,12 +59,12 @@ impl PlanSize {
 /// where they were asked for, and what helps where the load did not come to its end.
 pub(crate) fn advise<C: Clock, T: Print, L: Line>(
     alloc: Global,
-    onlooker: &Option<ProgressLine<'_, C, T>>,
+    watch: &Watch<'_, C, T>,
     load: Load<'_>,
     size: PlanSize,
     outcome: &Outcome<L>,
 ) {
-    let Some(progress) = onlooker else {
+    let Some(progress) = watch.progress() else {
         return;
     };
     // Of a record that memory does not hold nothing counts.
@@ -116,10 +105,10 @@ pub(crate) fn advise<C: Clock, T: Print, L: Line>(
 
 /// Tells behind the report of a save that came to this what helps where it can be gone on with: a block was read.
 pub(crate) fn advise_save<C: Clock, T: Print>(
-    onlooker: &Option<ProgressLine<'_, C, T>>,
+    watch: &Watch<'_, C, T>,
     saved: Result<SaveEnd, LookFault>,
 ) {
-    let Some(progress) = onlooker else {
+    let Some(progress) = watch.progress() else {
         return;
     };
     match saved {

@@ -45,7 +45,9 @@ pub(crate) fn after_verify(end: VerifyEnd) -> Result<Status, Failure<'static>>
     match end {
         VerifyEnd::Same => Ok(Status::Done),
         VerifyEnd::Differs => Ok(Status::Differs),
-        VerifyEnd::NoWord(_) | VerifyEnd::GaveUp | VerifyEnd::TurnsOver => Ok(Status::NotLoaded),
+        VerifyEnd::Changed | VerifyEnd::NoWord(_) | VerifyEnd::GaveUp | VerifyEnd::TurnsOver => Ok(
+            Status::NotLoaded,
+        ),
         VerifyEnd::LineFailed(fault) => Err(Failure::LineFailed(fault)),
     }
 }
@@ -58,6 +60,7 @@ pub(crate) fn after_save(end: SaveEnd, file: &str) -> Result<Status, Failure<'_>
 {
     match end {
         SaveEnd::Saved => Ok(Status::Done),
+        SaveEnd::Changed => Ok(Status::NotLoaded),
         SaveEnd::NoWord(_) | SaveEnd::GaveUp | SaveEnd::TurnsOver => Ok(Status::NotLoaded),
         SaveEnd::LineFailed(fault) => Err(Failure::LineFailed(fault)),
         SaveEnd::Stale(_) => Err(Failure::PartStale(file)),

@@ -5,6 +5,7 @@ ghost use Rattle.requests.specs.Moment.{moment};
 ghost use Rattle.requests.specs.Attempt.{IsAttempted, IsEndOf};
 
 use crate::advice::say_probing;
+use crate::changed_line::say_changed;
 use crate::instead::say_instead;
 use crate::loading::load_tapes;
 use crate::making::make_words;
@@ -25,7 +26,8 @@ use witness::Witness;
 ///
 /// Reports go to standard output, which is flushed; a fault goes to standard error as one line, in one
 /// write, and behind it, where the system could not read, write or connect to something, its reason, as the witness
-/// of its parts has it. What can't be written there is not told. Nor is that standard output can't be written, where
+/// of its parts has it; and behind all that, of a request at a machine, that characters came changed, by the witness's
+/// count. What can't be written there is not told. Nor is that standard output can't be written, where
 /// the request does nothing but print and nobody reads any more. A load of a machine and a look at it show
 /// on the terminal, where there is one, how far they are; and what a refused tape is instead is told there.
 ///
@@ -55,23 +57,24 @@ pub fn attempt<K: Kinds, R: Read, W: Output, E: FaultOutput, T: Print>(
         }
         Request::Tape(TapeRequest::Make(make)) => make_words(system, alloc, *make, streams),
         Request::Machine(MachineRequest::Load(names, load)) => {
-            load_tapes(system, alloc, names, *load, streams, terminal)
+            load_tapes(system, alloc, names, *load, streams, terminal, witness)
         }
         Request::Machine(MachineRequest::Verify(names, look)) => {
-            verify_tapes(system, alloc, names, *look, streams, terminal)
+            verify_tapes(system, alloc, names, *look, streams, terminal, witness)
         }
         Request::Machine(MachineRequest::Save(save)) => {
-            save_words(system, alloc, *save, streams, terminal)
+            save_words(system, alloc, *save, streams, terminal, witness)
         }
         Request::Machine(MachineRequest::Probe(probe)) => {
             say_probing(terminal);
             probe_console(system, alloc, *probe, streams)
         }
         Request::Machine(MachineRequest::Memory(test)) => {
-            test_words(system, alloc, *test, streams, terminal)
+            test_words(system, alloc, *test, streams, terminal, witness)
         }
     };
     let status = end(alloc, only_prints, outcome, streams, terminal, witness);
+    say_changed(request, witness.changed(), streams);
     (system, status)
 }
 

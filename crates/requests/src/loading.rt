@@ -8,22 +8,24 @@ ghost use Rattle.requests.specs.Loading.{kept_in, planned_load, record_name};
 ghost use Rattle.requests.specs.Loading.{AreLoaded, AreUnloaded, IsEnded, IsEndFailure, IsLoadFailure, IsLoadOver};
 ghost use Rattle.requests.specs.Moment.{moment};
 
-use crate::advice::{PlanSize, advise, onlooker};
+use crate::advice::{PlanSize, advise};
 use crate::ending::after_load;
 use crate::listening::listen_behind;
 use crate::planning::plan_tapes;
 use crate::request_fault::RequestFault;
 use crate::system::{Kinds, System};
+use crate::watch::Watch;
 use console_lines::Way;
 use endings::{Failure, FaultOutput, Output, Status, Streams};
 use machine_load::{Around, InMemory, Outcome, Surroundings, load};
-use progress_display::{KeptIn, ProgressLine};
+use progress_display::KeptIn;
 use record_file::RecordFile;
 use request_values::Load;
 use std::alloc::Global;
 use std::io::{Print, Read, Write};
 use std::time::Clock;
 use tape_image::Plan;
+use witness::Witness;
 
 /// Loads tapes, as one, into a real machine, in a system that comes back, and answers the exit status.
 ///
@@ -49,6 +51,7 @@ pub(crate) fn load_tapes<'a, K: Kinds, R: Read, W: Output, E: FaultOutput, T: Pr
     request: Load<'a>,
     streams: &mut Streams<R, W, E>,
     terminal: Option<&T>,
+    witness: &Witness,
 ) -> (System<K>, Result<Status, Failure<'a>>)
     requires { FitsInMemory R.row }
     ensures ok { IfOk result.1 (AreLoaded names.now request.entry (moment K.Disk.holds system streams.old ⇒ moment K.Disk.holds result.0 streams.new)) }
@@ -68,7 +71,7 @@ pub(crate) fn load_tapes<'a, K: Kinds, R: Read, W: Output, E: FaultOutput, T: Pr
     let plan = planned.starting(request.start);
     let console = Way::to(request.line, request.quiet_ms, consoles);
     let out = &mut streams.out;
-    let shown = onlooker(&clock, terminal, kept_in(request.record));
+    let shown = Watch::new(&clock, terminal, kept_in(request.record), witness);
     match request.record {
         Some(name) => {
             let records = RecordFile::new(disk, name);
@@ -95,7 +98,7 @@ fn load_plan<'a, S: Surroundings, W: Write, C: Clock, T: Print>(
     request: Load<'a>,
     around: &mut S,
     out: &mut W,
-    onlooker: &Option<ProgressLine<'_, C, T>>,
+    watch: &Watch<'_, C, T>,
 ) -> Result<Status, Failure<'a>>
     ensures ok { IfOk result (IsLoadOver (planned_load plan request.entry)
         (scene S.Surroundings W.Write around.old out.old ⇒ scene S.Surroundings W.Write around.new out.new)) }
@@ -103,9 +106,9 @@ fn load_plan<'a, S: Surroundings, W: Write, C: Clock, T: Print>(
         (scene S.Surroundings W.Write around.old out.old ⇒ scene S.Surroundings W.Write around.new out.new)) }
 {
     let size = PlanSize::of(&plan);
-    match load(alloc, plan, request.options, around, out, onlooker) {
+    match load(alloc, plan, request.options, around, out, watch) {
         Ok(outcome) => {
-            advise(alloc, onlooker, request, size, &outcome);
+            advise(alloc, watch, request, size, &outcome);
             end(request, outcome, around, out)
         }
         Err(fault) => {

@@ -4,10 +4,11 @@ ghost use Rattle.request_values.specs.Change.{◌⇒◌};
 ghost use Rattle.requests.specs.Moment.{moment};
 ghost use Rattle.requests.specs.Saving.{AreWordsSaved, AreWordsUnsaved};
 
-use crate::advice::{advise_save, onlooker};
+use crate::advice::advise_save;
 use crate::ending::after_save;
 use crate::request_fault::RequestFault;
 use crate::system::{Kinds, System};
+use crate::watch::Watch;
 use console_lines::Way;
 use endings::{Failure, FaultOutput, Output, Status, Streams};
 use machine_look::{SaveOptions, save};
@@ -16,6 +17,7 @@ use request_values::Save;
 use std::alloc::Global;
 use std::io::{Print, Read};
 use tape_shelf::NewFile;
+use witness::Witness;
 
 /// Saves words of a real machine as a tape in a new file, in a system that comes back, and answers the exit
 /// status.
@@ -35,6 +37,7 @@ pub(crate) fn save_words<'a, K: Kinds, R: Read, W: Output, E: FaultOutput, T: Pr
     request: Save<'a>,
     streams: &mut Streams<R, W, E>,
     terminal: Option<&T>,
+    witness: &Witness,
 ) -> (System<K>, Result<Status, Failure<'a>>)
     ensures ok { IfOk result.1 (AreWordsSaved request.entry (moment K.Disk.holds system streams.old ⇒ moment K.Disk.holds result.0 streams.new)) }
     ensures err { IfErr result.1 (AreWordsUnsaved request.entry (moment K.Disk.holds system streams.old ⇒ moment K.Disk.holds result.0 streams.new)) }
@@ -56,7 +59,7 @@ pub(crate) fn save_words<'a, K: Kinds, R: Read, W: Output, E: FaultOutput, T: Pr
     let mut shelf = NewFile::new(disk, request.file);
     let mut console = Way::to(look.line, look.quiet_ms, consoles);
     let out = &mut streams.out;
-    let shown = onlooker(&clock, terminal, KeptIn::Part);
+    let shown = Watch::new(&clock, terminal, KeptIn::Part, witness);
     let saved = save(alloc, options, &mut shelf, &mut console, out, &shown);
     advise_save(&shown, saved);
     let system = System::new(inputs, shelf.close(), console.back(), clock);

@@ -1,27 +1,28 @@
 //! Who looks on at a test of memory.
 
 use crate::advice::ASK_PROBE;
+use crate::watch::Watch;
 use host_devices::{Onlooker, Sight};
 use machine_memory::{Borrowed, MemoryEnd, MemoryFault, WordWatch};
-use progress_display::{ProgressLine, TestedWord};
+use progress_display::TestedWord;
 use std::io::Print;
 use std::time::Clock;
 
-/// The line on the terminal, where there is one, which names the word that is tested, too.
+/// As of any command, but that the line on the terminal names the word that is tested, too.
 #[derive(Drop)]
 pub(crate) struct TestLine<'o, C: Clock, T: Print> {
-    progress: Option<ProgressLine<'o, C, T>>,
+    watch: Watch<'o, C, T>,
 }
 
 impl<'o, C: Clock, T: Print> TestLine<'o, C, T> {
     /// Over that of any command.
-    pub(crate) fn new(progress: Option<ProgressLine<'o, C, T>>) -> TestLine<'o, C, T> {
-        TestLine { progress }
+    pub(crate) fn new(watch: Watch<'o, C, T>) -> TestLine<'o, C, T> {
+        TestLine { watch }
     }
 
     /// Tells what helps where a test came to this.
     pub(crate) fn advise(&self, tested: Result<MemoryEnd, MemoryFault>) {
-        if let (Some(progress), Ok(MemoryEnd::GaveUp)) = (&self.progress, tested)
+        if let (Some(progress), Ok(MemoryEnd::GaveUp)) = (self.watch.progress(), tested)
             && progress.done() == 0
         {
             progress.say(ASK_PROBE);
@@ -31,25 +32,25 @@ impl<'o, C: Clock, T: Print> TestLine<'o, C, T> {
 
 impl<C: Clock, T: Print> Onlooker for TestLine<'_, C, T> {
     fn begins(&self, done: u32, words: u32) {
-        self.progress.begins(done, words);
+        self.watch.begins(done, words);
     }
 
     fn sees(&self, sight: Sight) {
-        self.progress.sees(sight);
+        self.watch.sees(sight);
     }
 
     fn stub_begins(&self) {
-        self.progress.stub_begins();
+        self.watch.stub_begins();
     }
 
     fn ends(&self) {
-        self.progress.ends();
+        self.watch.ends();
     }
 }
 
 impl<C: Clock, T: Print> WordWatch for TestLine<'_, C, T> {
     fn borrows(&self, word: Borrowed) {
-        if let Some(progress) = &self.progress {
+        if let Some(progress) = self.watch.progress() {
             progress.tests(TestedWord {
                 address: word.address,
                 held: word.old,

@@ -5,11 +5,11 @@ ghost use Rattle.requests.specs.Moment.{moment};
 ghost use Rattle.machine_memory.specs.Options.{IsAsked};
 ghost use Rattle.requests.specs.Testing.{AreWordsTested, AreWordsUntested, test_options};
 
-use crate::advice::onlooker;
 use crate::ending::after_test;
 use crate::request_fault::RequestFault;
 use crate::system::{Kinds, System};
 use crate::test_line::TestLine;
+use crate::watch::Watch;
 use console_lines::Way;
 use endings::{Failure, FaultOutput, Output, Status, Streams};
 use machine_memory::{MemoryOptions, test_memory};
@@ -17,6 +17,7 @@ use progress_display::KeptIn;
 use request_values::MemoryTest;
 use std::alloc::Global;
 use std::io::{Print, Read};
+use witness::Witness;
 
 /// Tests the memory of a real machine, in a system that comes back, and answers the exit status.
 ///
@@ -31,6 +32,7 @@ pub(crate) fn test_words<'a, K: Kinds, R: Read, W: Output, E: FaultOutput, T: Pr
     request: MemoryTest<'a>,
     streams: &mut Streams<R, W, E>,
     terminal: Option<&T>,
+    witness: &Witness,
 ) -> (System<K>, Result<Status, Failure<'a>>)
     ensures ok { IfOk result.1 (AreWordsTested request.entry (moment K.Disk.holds system streams.old ⇒ moment K.Disk.holds result.0 streams.new)) }
     ensures err { IfErr result.1 (AreWordsUntested request.entry (moment K.Disk.holds system streams.old ⇒ moment K.Disk.holds result.0 streams.new)) }
@@ -46,7 +48,7 @@ pub(crate) fn test_words<'a, K: Kinds, R: Read, W: Output, E: FaultOutput, T: Pr
     let options = test_options(&request);
     let mut console = Way::to(look.line, look.quiet_ms, consoles);
     let out = &mut streams.out;
-    let shown = TestLine::new(onlooker(&clock, terminal, KeptIn::Nothing));
+    let shown = TestLine::new(Watch::new(&clock, terminal, KeptIn::Nothing, witness));
     let tested = test_memory(alloc, options, &mut console, out, &shown);
     shown.advise(tested);
     let system = System::new(inputs, disk, console.back(), clock);

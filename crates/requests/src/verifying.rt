@@ -5,11 +5,11 @@ ghost use Rattle.request_values.specs.Change.{◌⇒◌};
 ghost use Rattle.requests.specs.Verifying.{AreVerified, AreUnverified};
 ghost use Rattle.requests.specs.Moment.{moment};
 
-use crate::advice::onlooker;
 use crate::ending::after_verify;
 use crate::planning::plan_tapes;
 use crate::request_fault::RequestFault;
 use crate::system::{Kinds, System};
+use crate::watch::Watch;
 use console_lines::Way;
 use endings::{Failure, FaultOutput, Output, Status, Streams};
 use machine_look::{VerifyOptions, verify};
@@ -17,6 +17,7 @@ use progress_display::KeptIn;
 use request_values::Look;
 use std::alloc::Global;
 use std::io::{Print, Read};
+use witness::Witness;
 
 /// Looks whether a real machine holds what tapes, as one, say, in a system that comes back, and answers the exit
 /// status.
@@ -38,6 +39,7 @@ pub(crate) fn verify_tapes<'a, K: Kinds, R: Read, W: Output, E: FaultOutput, T: 
     look: Look<'a>,
     streams: &mut Streams<R, W, E>,
     terminal: Option<&T>,
+    witness: &Witness,
 ) -> (System<K>, Result<Status, Failure<'a>>)
     requires { FitsInMemory R.row }
     ensures ok { IfOk result.1 (AreVerified names.now look.entry (moment K.Disk.holds system streams.old ⇒ moment K.Disk.holds result.0 streams.new)) }
@@ -56,7 +58,7 @@ pub(crate) fn verify_tapes<'a, K: Kinds, R: Read, W: Output, E: FaultOutput, T: 
     } = system;
     let mut console = Way::to(look.line, look.quiet_ms, consoles);
     let out = &mut streams.out;
-    let shown = onlooker(&clock, terminal, KeptIn::Nothing);
+    let shown = Watch::new(&clock, terminal, KeptIn::Nothing, witness);
     let options = VerifyOptions {
         care: look.care,
         patience: look.patience,

@@ -1,5 +1,5 @@
 -- The line of a run at a machine in a log (this project's own).
-use Rattle.std.specs.Prelude.{ℕ, List, [], ◌∷◌, ◌++◌, Option, codes, decimal}
+use Rattle.std.specs.Prelude.{ℕ, ◌==◌, if◌then◌else◌, List, [], ◌∷◌, ◌++◌, Option, codes, decimal}
 use Rattle.std.specs.Borrow.{Bor}
 use Rattle.std.specs.List.{flat_map}
 use Rattle.byte_io.specs.Text.{line}
@@ -32,16 +32,24 @@ request_text (Save save) = command_text (codes "save") (save.file ∷ []) save.l
 request_text (Probe probe) = command_text (codes "probe") [] probe.look.line.now
 request_text (Memory test) = command_text (codes "memory") [] test.look.line.now
 
--- a run that ended: what was asked for, how the program ends, and what is noted of the report
+-- how many characters came changed, where any did
+abbrev pub changed_text : ℕ → List ℕ
+changed_text count = if count == 0 then [] else codes " changed " ++ decimal count
+
+-- a run that ended: what was asked for, how the program ends, what is noted of the report, and how many characters came changed
 pub record RunValue : Type 0 where
   pub request : MachineRequest
   pub status : Status
   pub report : Noted
+  pub changed : ℕ
+
+-- what stands behind the names
+abbrev pub end_text : RunValue → List ℕ
+end_text run = codes " status " ++ (decimal (status_code run.status) ++ (report_text run.report ++ changed_text run.changed))
 
 -- the line of a run that ended at this time
 abbrev pub log_line : List ℕ → RunValue → List ℕ
-log_line time run =
-    line (time ++ (codes " " ++ (request_text run.request ++ (codes " status " ++ (decimal (status_code run.status) ++ report_text run.report)))))
+log_line time run = line (time ++ (codes " " ++ (request_text run.request ++ end_text run)))
 
 -- standard error has the line of a run behind all else, with the time of some clock
 abbrev pub IsLogged : RunValue → StandardError → StandardError → Type 0

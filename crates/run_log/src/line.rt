@@ -1,12 +1,11 @@
 //! The line of a run in a log.
 //!
 //! It is gathered first and written in one write, so that nothing else can stand in its midst.
-ghost use Rattle.std.specs.Prelude.{◌≡◌, ◌≤◌, ◌++◌, OnOk, OnErr, codes, decimal};
+ghost use Rattle.std.specs.Prelude.{◌≡◌, ◌≤◌, ◌+◌, ◌++◌, OnOk, OnErr};
 ghost use Rattle.byte_io.specs.Text.{line};
 ghost use Rattle.endings.specs.FaultOutput.{IsSaidInPart, IsSaidWhole};
-ghost use Rattle.endings.specs.Status.{status_code};
-ghost use Rattle.run_log.specs.LogLine.{IsLogged, command_text, log_line, name_behind, request_text};
-ghost use Rattle.run_log.specs.Report.{report_text};
+ghost use Rattle.arrayvec.specs.ArrayVec.{array_vec_len};
+ghost use Rattle.run_log.specs.LogLine.{IsLogged, changed_text, command_text, end_text, log_line, name_behind, request_text};
 
 use crate::report_notes::{REPORT_ROOM, ReportNotes};
 use crate::time_text::{TimeText, time_text};
@@ -21,8 +20,9 @@ use std::time::Clock;
 // What stands behind the names in a line.
 type LineEnd = ArrayVec<u8, END_ROOM>;
 
-// Room for the longest: the words and the number of a status, what is told of a report, and the line's end.
-const END_ROOM: usize = REPORT_ROOM + 29;
+// Room for the longest: the words and the number of a status, what is told of a report, the changed characters, and the
+// line's end.
+const END_ROOM: usize = REPORT_ROOM + 58;
 
 /// A run that has ended, and what is told of it.
 #[derive(Drop)]
@@ -35,6 +35,9 @@ pub struct Run<'r, 'a> {
 
     /// What was noted of the report.
     pub report: &'r ReportNotes,
+
+    /// How many characters came changed.
+    pub changed: u32,
 }
 
 impl<'r, 'a> Model for Run<'r, 'a> {
@@ -42,7 +45,7 @@ impl<'r, 'a> Model for Run<'r, 'a> {
 
     ghost Value = { RunValue };
 
-    ghost view = { λ run. record { request = run.request.now; status = run.status; report = run.report.now } };
+    ghost view = { λ run. record { request = run.request.now; status = run.status; report = run.report.now; changed = run.changed } };
 }
 
 /// Says the line of a run, with the time that the clock has: in one write, and in pieces where there is no memory to
@@ -87,16 +90,29 @@ fn write_line<E: FaultOutput>(
     say(err, &line_end(run))
 }
 
-// What stands behind the names: the status, and what was noted of the report.
+// What stands behind the names: the status, what was noted of the report, and how many characters came changed.
 fn line_end(run: &Run<'_, '_>) -> LineEnd
-    ensures { result.items ≡ line (codes " status " ++ (decimal (status_code run.now.status) ++ report_text run.now.report)) }
+    ensures { result.items ≡ line (end_text run.now) }
 {
     let mut end = LineEnd::new();
     push_bytes(&mut end, b" status ");
     push_decimal(&mut end, u64::from(run.status.code()));
     push_bytes(&mut end, &run.report.told());
+    push_changed(&mut end, run.changed);
     push_bytes(&mut end, b"\n");
     end
+}
+
+// Puts how many characters came changed behind the rest, where any did: a line without them is as it always was.
+fn push_changed(end: &mut LineEnd, count: u32)
+    requires { array_vec_len end.old ≤ 350 }
+    ensures items { end.new.items ≡ end.old.items ++ changed_text count }
+    ensures length { array_vec_len end.new ≤ array_vec_len end.old + 29 }
+{
+    if count > 0 {
+        push_bytes(end, b" changed ");
+        push_decimal(end, u64::from(count));
+    }
 }
 
 // Writes what was asked for.

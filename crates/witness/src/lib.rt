@@ -4,9 +4,11 @@
 //! seen beside them: a part of a system that is `Watched` hands each call on, unchanged, and so does a `WatchedFile`; how
 //! one failed stands in the `Witness` that they share, until something is opened, and so do the first bytes of the file
 //! that was begun last. What is asked of a watched part is what is asked of the part itself, which the contracts say where it
-//! tells. What a `Witness` holds they can't say. Used by `requests` and `ldaodt`.
+//! tells. Of each step of a host it is told, too, and counts the characters that the line changed. What a `Witness` holds
+//! contracts can't say. Used by `requests` and `ldaodt`.
 #![tactic(auto)]
 
+mod changed;
 mod disk;
 mod file;
 mod inputs;

@@ -17,7 +17,7 @@ pub const END_LENGTH: usize = 6;
 pub type End = [u8; END_LENGTH];
 
 /// What was seen of a system: how it failed last, since it opened something, and with which bytes the file begins that was
-/// begun to be read last, and which were read of it last.
+/// begun to be read last, and which were read of it last; and how many characters of a line no loss explains.
 ///
 /// Nothing is kept of a failure that says no more than the program's own words do: that a name is taken already, that a
 /// call was interrupted, which is then made again, or that nothing has a name which was asked after before it is made.
@@ -32,6 +32,8 @@ pub struct Witness {
 
     // Whether files may have been read ahead of their turn.
     is_ahead: Cell<bool>,
+
+    pub(crate) changed: Cell<u32>,
 }
 
 impl Witness {
@@ -43,6 +45,7 @@ impl Witness {
             front: Cell::new([0; FRONT_LENGTH]),
             end: Cell::new([0; END_LENGTH]),
             is_ahead: Cell::new(false),
+            changed: Cell::new(0),
         }
     }
 

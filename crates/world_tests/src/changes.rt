@@ -83,7 +83,7 @@ fn byte_of(word: u16, address: u16) -> u8 {
 }
 
 // A character with one of its seven bits changed.
-fn with_a_bit_changed(character: u8, random: &mut Random) -> u8 {
+pub(crate) fn with_a_bit_changed(character: u8, random: &mut Random) -> u8 {
     character ^ (1 << (random.next() % 7))
 }
 

@@ -24,6 +24,8 @@ mod devices;
 #[cfg(test)]
 mod driven;
 #[cfg(test)]
+mod foreign_readings;
+#[cfg(test)]
 mod host;
 #[cfg(test)]
 mod memory_line;

@@ -1,7 +1,7 @@
 use Rattle.std.proofs.Common.{◌≡◌, ◌∙◌, ℕ, ◌+◌, ◌*◌, ◌≤◌, ◌-◌, ◌++◌, [], List, length, Some, refl, subst, sym, ap, arith}
 use Rattle.std.specs.Prelude.{IfSome}
 use Rattle.tape_image.specs.Word.{WordValue}
-use Rattle.reading_core.specs.Bound.{reading_bound}
+use Rattle.reading_core.specs.Bound.{life_bound}
 use Rattle.console_lines.specs.Dialling.{asked_once}
 use Rattle.host_devices.specs.Devices.{line_told}
 use Rattle.host_devices.specs.Failures.{CountsFault}
@@ -38,9 +38,9 @@ returns-then-not-all_stand-clause-course g c =
     let saving : Saving = record { options = c.args.options; found = c.args.found.now } in
     let whose = ap (λ (r : Reader). r.patience) hosts.looker in (
       held_up saving _ looked.result samples inquired.turns.session.said hosts.of_found
-          (are_looked_at samples c.args.options.patience c.args.hosts.looker looked.result (told c.in_ok-line.line).said (told looked.new.line).said hosts.looker inquired.turns.session inquired.turns.end
+          (are_looked_at samples c.args.options c.args.hosts.looker looked.result (told c.in_ok-line.line).said (told looked.new.line).said hosts.looker inquired.turns.session inquired.turns.end
           (subst (λ (list : List WordValue). IsFound list looked.result.reader.values looked.result.stop looked.result.finding) c.deref.ensures.value looked.ensures.found)
-          (subst (λ (list : List WordValue). looked.result.reader.sent ≤ reading_bound (length list) c.args.hosts.looker.patience) c.deref.ensures.value looked.ensures.bound)
+          (subst (λ (list : List WordValue). looked.result.reader.sent ≤ life_bound c.args.hosts.looker.manner.care (length list) c.args.hosts.looker.patience) c.deref.ensures.value looked.ensures.bound)
           inquired.same_patience inquired.kept)
           inquired.kept (let long = hosts.looks.long in omega (arith, long, whose)) (λ all. absurd (cc (c.all_stand.ensures.1 all, c.if-not-all_stand.true)))
           (subst (λ asked. Gains (g.R.Reach.asked c.args.console.now) asked (asked_once (g.R.Reach.call c.args.console.now))) (sym c.let_go.ensures.asked) c.in_ok-line.ensures.asked)
@@ -76,8 +76,8 @@ returns-in-Some-clause-course g c =
     let all : looked.result.finding ≡ AllStand = c.all_stand.ensures.0 c.if-not-all_stand.false in
     let seen = subst (λ (list : List WordValue). IsFound list looked.result.reader.values looked.result.stop looked.result.finding) c.deref.ensures.value looked.ensures.found in
     let stop_is : looked.result.stop ≡ Ended Complete = (subst (λ f. IsFound samples looked.result.reader.values looked.result.stop f) all seen).0 in
-    let s = are_looked_at samples options.patience c.args.hosts.looker looked.result line mid hosts.looker inquired.turns.session inquired.turns.end seen
-    (subst (λ (list : List WordValue). looked.result.reader.sent ≤ reading_bound (length list) c.args.hosts.looker.patience) c.deref.ensures.value looked.ensures.bound) inquired.same_patience inquired.kept in
+    let s = are_looked_at samples options c.args.hosts.looker looked.result line mid hosts.looker inquired.turns.session inquired.turns.end seen
+    (subst (λ (list : List WordValue). looked.result.reader.sent ≤ life_bound c.args.hosts.looker.manner.care (length list) c.args.hosts.looker.patience) c.deref.ensures.value looked.ensures.bound) inquired.same_patience inquired.kept in
     let manner : Manner = manner_of options.care [] in
     let begins : c.with_care-core.result ≡ begun_behind saving looked.result.reader =
     c.with_care-core.ensures.begun
@@ -125,8 +125,8 @@ returns-clause-fault g c =
     let all : looked.result.finding ≡ AllStand = c.all_stand.ensures.0 c.if-not-all_stand.false in
     let seen = subst (λ (list : List WordValue). IsFound list looked.result.reader.values looked.result.stop looked.result.finding) c.deref.ensures.value looked.ensures.found in
     let stop_is : looked.result.stop ≡ Ended Complete = (subst (λ f. IsFound samples looked.result.reader.values looked.result.stop f) all seen).0 in
-    let s = are_looked_at samples options.patience c.args.hosts.looker looked.result line mid hosts.looker inquired.turns.session inquired.turns.end seen
-    (subst (λ (list : List WordValue). looked.result.reader.sent ≤ reading_bound (length list) c.args.hosts.looker.patience) c.deref.ensures.value looked.ensures.bound) inquired.same_patience inquired.kept in
+    let s = are_looked_at samples options c.args.hosts.looker looked.result line mid hosts.looker inquired.turns.session inquired.turns.end seen
+    (subst (λ (list : List WordValue). looked.result.reader.sent ≤ life_bound c.args.hosts.looker.manner.care (length list) c.args.hosts.looker.patience) c.deref.ensures.value looked.ensures.bound) inquired.same_patience inquired.kept in
     let manner : Manner = manner_of options.care [] in
     let begins : c.with_care-core.result ≡ begun_behind saving looked.result.reader =
     c.with_care-core.ensures.begun

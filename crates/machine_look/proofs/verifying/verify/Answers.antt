@@ -9,6 +9,7 @@ use Rattle.console_lines.specs.Console.{console_told}
 use Rattle.request_values.specs.Change.{◌⇒◌}
 use Rattle.machine_look.specs.LookFault.{IsVerifyFault}
 use Rattle.machine_look.specs.Differences.{differences}
+use Rattle.machine_look.specs.Trust.{is_trusted}
 use Rattle.machine_look.specs.VerifyReport.{difference_lines, last_lines, verify_end}
 use Rattle.tape_shelf.proofs.OnShelf.{error_is}
 use Rattle.machine_look.proofs.Faults.{no_value}
@@ -47,11 +48,11 @@ returns-in_err-write_and_flush-clause-err g c =
     let stop = c.in_ok-core-2.stop in
     let begun_is = c.in_ok-core.ensures.begun in
     let addresses = look.addresses ∙ ap (λ r. r.addresses) begun_is in
-    let text = last_is plan.words c.words-words.result.now last c.values.result.now c.count_differences-differ.result stop c.deref.result.now c.words-words.ensures.value c.values.ensures.value addresses c.count_differences-differ.ensures
+    let text = last_is plan.words c.words-words.result.now last c.values.result.now c.trusts-trusted.result (is_trusted c.args.options.care last.foreign) c.count_differences-differ.result stop c.deref.result.now c.trusts-trusted.ensures c.words-words.ensures.value c.values.ensures.value addresses c.count_differences-differ.ensures
     (c.deref.ensures.0 ∙ c.last_lines.ensures) in
-    let verified = verified_of plan c.args.options before after c.in_ok-core.core last stop _ begun_is look c.in_ok-core-2.ensures.asked refl in
+    let verified = verified_of plan c.args.options before after c.in_ok-core.core last stop (verify_end (is_trusted c.args.options.care last.foreign) (length (differences plan.words last.values)) stop) begun_is look c.in_ok-core-2.ensures.asked refl in
     let shown = subst (λ (words : List WordValue). Appends before.out (g.W.Write.contents c.compare_over.new.out) (difference_lines words last.values)) c.words-words.ensures.value c.in_ok-core-2.ensures.shown in
-    let front = front_behind before.out (g.W.Write.contents c.compare_over.new.out) after.out (difference_lines plan.words last.values) (last_lines (length plan.words) last (length (differences plan.words last.values)) stop) shown
+    let front = front_behind before.out (g.W.Write.contents c.compare_over.new.out) after.out (difference_lines plan.words last.values) (last_lines (is_trusted c.args.options.care last.foreign) (length plan.words) last (length (differences plan.words last.values)) stop) shown
     (subst (λ (t : List ℕ). WritesPrefix (g.W.Write.contents c.compare_over.new.out) after.out t) text c.in_err-write_and_flush.ensures.err) in
     error_is c.from_residual-in_err-write_and_flush.result WriteOutput (IsVerifyFault plan c.args.options (before ⇒ after)) c.from_residual-in_err-write_and_flush.ensures.1 (record {
       last = last;
@@ -72,13 +73,13 @@ returns-clause-ok g c =
     let stop = c.in_ok-core-2.stop in
     let begun_is = c.in_ok-core.ensures.begun in
     let addresses = look.addresses ∙ ap (λ r. r.addresses) begun_is in
-    let text = last_is plan.words c.words-words.result.now last c.values.result.now c.count_differences-differ.result stop c.deref.result.now c.words-words.ensures.value c.values.ensures.value addresses c.count_differences-differ.ensures
+    let text = last_is plan.words c.words-words.result.now last c.values.result.now c.trusts-trusted.result (is_trusted c.args.options.care last.foreign) c.count_differences-differ.result stop c.deref.result.now c.trusts-trusted.ensures c.words-words.ensures.value c.values.ensures.value addresses c.count_differences-differ.ensures
     (c.deref.ensures.0 ∙ c.last_lines.ensures) in
     let shown = subst (λ (words : List WordValue). Appends before.out (g.W.Write.contents c.compare_over.new.out) (difference_lines words last.values)) c.words-words.ensures.value c.in_ok-core-2.ensures.shown in
     record {
       verified = verified_of plan c.args.options before after c.in_ok-core.core last stop c.verify_end.result begun_is look c.in_ok-core-2.ensures.asked
-          (c.verify_end.ensures ∙ ap (λ n. verify_end n stop) (differ_is plan.words c.words-words.result.now last c.values.result.now c.count_differences-differ.result c.words-words.ensures.value c.values.ensures.value c.count_differences-differ.ensures));
-      reported = Appends-trans before.out (g.W.Write.contents c.compare_over.new.out) after.out (difference_lines plan.words last.values) (last_lines (length plan.words) last (length (differences plan.words last.values)) stop) shown
+          (c.verify_end.ensures ∙ (ap (λ t. verify_end t c.count_differences-differ.result stop) c.trusts-trusted.ensures ∙ ap (λ n. verify_end (is_trusted c.args.options.care last.foreign) n stop) (differ_is plan.words c.words-words.result.now last c.values.result.now c.count_differences-differ.result c.words-words.ensures.value c.values.ensures.value c.count_differences-differ.ensures)));
+      reported = Appends-trans before.out (g.W.Write.contents c.compare_over.new.out) after.out (difference_lines plan.words last.values) (last_lines (is_trusted c.args.options.care last.foreign) (length plan.words) last (length (differences plan.words last.values)) stop) shown
           (subst (Appends (g.W.Write.contents c.compare_over.new.out) after.out) text c.in_ok-write_and_flush.ensures.ok);
     }
 

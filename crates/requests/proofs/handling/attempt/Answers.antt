@@ -16,8 +16,8 @@ pub returns : goal.returns
 returns g c =
     let holds = g.K.Disk.Disk.holds in
     let before = moment holds c.args.system c.args.streams.now in
-    told holds c.args.request.now before c.match-request.system c.match-request.streams c.end-status.new.streams c.end-status.result c.only_prints-only_prints.result
-    c.only_prints-only_prints.ensures
+    told holds c.args.request.now before c.match-request.system c.match-request.streams c.end-status.new.streams c.say_changed.new.streams c.end-status.result
+    c.only_prints-only_prints.result c.changed.result c.only_prints-only_prints.ensures
     (elim c.match-request.branch [
       | in-Tape-Print w ↦
           let outcome = w.print_answer-outcome.result in
@@ -77,4 +77,4 @@ returns g c =
         quiet = w.test_words.ensures.quiet;
       })
     ])
-    c.end-status.ensures
+    c.end-status.ensures c.say_changed.ensures.others c.say_changed.ensures.told

@@ -1,21 +1,19 @@
-use Rattle.std.proofs.Common.{◌≡◌, ℕ, List, [], ◌∷◌, ◌++◌, ◌∙◌, codes, decimal, sym, ap, subst, append_assoc}
+use Rattle.std.proofs.Common.{◌≡◌, ℕ, List, [], ◌∷◌, ◌++◌, ◌∙◌, codes, sym, ap, subst, append_assoc}
 use Rattle.std.proofs.lemmas.Result.{on_err_weaker}
 use Rattle.byte_io.specs.Text.{line}
 use Rattle.endings.specs.FaultOutput.{StandardError, IsSaidInPart, IsSaidWhole}
-use Rattle.endings.specs.Status.{status_code}
-use Rattle.run_log.specs.LogLine.{RunValue, log_line, request_text}
-use Rattle.run_log.specs.Report.{report_text}
+use Rattle.run_log.specs.LogLine.{RunValue, end_text, log_line, request_text}
 use Rattle.run_log.proofs.Said.{cut_before, cut_behind, on_any_err}
 use Rattle.run_log.proofs.line.write_line.Goals as goal
 
 -- what stands behind the names
 abbrev end_of : RunValue → List ℕ
-end_of run = line (codes " status " ++ (decimal (status_code run.status) ++ report_text run.report))
+end_of run = line (end_text run)
 
 -- the pieces of a line, one behind the other
 pieces : (time : List ℕ) (run : RunValue) → time ++ (codes " " ++ (request_text run.request ++ end_of run)) ≡ log_line time run
 pieces time run =
-    let status = codes " status " ++ (decimal (status_code run.status) ++ report_text run.report) in
+    let status = end_text run in
     sym (append_assoc time (codes " " ++ (request_text run.request ++ status)) (10 ∷ [])
     ∙ ap (λ (t : List ℕ). time ++ (codes " " ++ t)) (append_assoc (request_text run.request) status (10 ∷ [])))
 

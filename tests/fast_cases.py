@@ -23,6 +23,9 @@ BACKGROUND, BACKGROUND_BYTE = 0o125252, 0o252
 LEAST_STUB = len(CODE) + 1
 ONE_STRETCH = LEAST_STUB + 2
 
+# Why there is no other stub behind one that was not seen to start.
+NOT_STARTED = "the stub did not start"
+
 # With fewer words to be gained no stub is brought in; of so many words one is sounded; so many stubs may verify nothing.
 LEAST_GAIN, SOUNDED, MOST_IN_VAIN = 256, 4096, 3
 
@@ -143,10 +146,11 @@ def bytewise(heard):
 class Model:
     """A load over a line that loses nothing: its keys, how many characters are answered, and how it ends.
 
-    `words` are those of the image, `memory` the machine's, a list that is changed; a start of none starts nothing."""
+    `words` are those of the image, `memory` the machine's, a list that is changed; a start of none starts nothing. The first stubs,
+    so many, come to nothing, and halt at once: at the start of each these words are pushed."""
 
-    def __init__(self, words, memory, start=START, style=0, verified=0, has_halt_switch_on=False):
-        self.words, self.memory, self.verified, self.has_halt_switch_on = words, memory, verified, has_halt_switch_on
+    def __init__(self, words, memory, start=START, style=0, verified=0, halting=0, pushed=None):
+        self.words, self.memory, self.verified, self.halting, self.pushed = words, memory, verified, halting, pushed or {}
         self.space, self.second_return, self.echo = style & 1, style >> 1 & 1, style >> 2
         self.kept, self.answered, self.start, self.end = io.StringIO(), 0, start, None
         # The addresses at which a stub was started, and why there was no other.
@@ -180,7 +184,14 @@ class Model:
         for place in range(count) if count <= 8 else [it * (count - 1) // 7 for it in range(8)]:
             self.look(self.words[place].address)
             self.says("\r", self.prompt())
+            self.believe(self.words[place])
+        self.verified *= not self.end
         return self
+
+    def believe(self, word):
+        """The first of these words that does not stand is the end."""
+        if self.memory[word.address // 2] & word.mask != word.value:
+            self.end = self.end or f"Stale {word.address:06o}"
 
     def ordinary(self):
         """Loads the rest by ODT, and starts."""
@@ -193,12 +204,13 @@ class Model:
     def fast(self):
         """The same with stubs before."""
         in_vain = 0
-        while in_vain < MOST_IN_VAIN:
+        while in_vain < MOST_IN_VAIN and not self.why:
             before = self.verified
             self.why = self.bring_in(bytewise if in_vain else ahead)
-            if self.why:
-                break
-            in_vain = in_vain + 1 if self.verified == before else 0
+            if self.why in (None, NOT_STARTED):
+                in_vain = in_vain + 1 if self.verified == before else 0
+        if in_vain and not self.end:
+            self.looking_first()
         if self.end:
             self.ends_part()
             return self
@@ -248,7 +260,7 @@ class Model:
         stub = [Word(place + 2 * number, 0o177777, word) for number, word in enumerate(stub_words(place, stretches))]
         if end := self.visit_all([*sounded, *stub]):
             self.end = end if end.startswith("NoWord") else None
-            return self.end or "the stub did not start"
+            return self.end or NOT_STARTED
         self.says(f"{place:06o}G", 7)
         self.stubs.append(place)
         self.ends_part()
@@ -258,8 +270,10 @@ class Model:
 
     def exchange(self, stretches, sent_at):
         """Sends chunk after chunk, until one is answered otherwise; the words of those before are verified."""
-        if self.has_halt_switch_on:
+        if len(self.stubs) <= self.halting:
             # The halt is heard, and the Z that follows is ODT's.
+            for address, word in self.pushed.items():
+                self.memory[address // 2] = word
             self.says("Z", self.halt() + 1 + self.prompt() + self.echo)
             return
         data = {at: byte for word in self.words for at, byte in self.told(word)}
@@ -373,6 +387,27 @@ class FastConsole(Keeping, RunningMachine):
         while self.is_busy:
             self.go_on()
         return self.shown
+
+
+class TrappingConsole(FastConsole):
+    """A machine at which a stub's first instruction traps to a halt, which pushes two words: an interrupt came, or so."""
+
+    def __init__(self, image, stack, **named):
+        super().__init__(image, **named)
+        self.stack = stack
+
+    def started(self):
+        traps = self.starts[-1] != self.start
+        self.has_halt_switch_on = traps
+        shown = super().started()
+        for address, word in pushed_at(self.stack).items() if traps else ():
+            self.words[address // 2] = word
+        return shown
+
+
+def pushed_at(stack):
+    """What is pushed there, a status word and an address."""
+    return {stack - 2: 0o000340, stack - 4: 0o000006}
 
 
 class PacedConsole(PacedMachine, FastConsole):

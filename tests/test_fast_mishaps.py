@@ -9,8 +9,8 @@ import unittest
 from concurrent.futures import ThreadPoolExecutor
 
 from cases import DeafConsole
-from fast_cases import (ALL, BACKGROUND, EXCHANGED, GAIN, HALTED, IMAGE, ONE_STRETCH, PLACE, START, STARTED, WHOLE, WORDS, FastCase,
-                        FastConsole, Model, StuckWords, WatchedPeer, ahead, memory_with)
+from fast_cases import (ALL, BACKGROUND, EXCHANGED, GAIN, HALTED, IMAGE, MOST_IN_VAIN, ONE_STRETCH, PLACE, START, STARTED, WHOLE, WORDS,
+                        FastCase, FastConsole, Model, StuckWords, TrappingConsole, WatchedPeer, ahead, memory_with, pushed_at, record_of)
 from outside import PROGRAM, Answer, fault, kept_in, line_failed, text_of
 from stub_listing import AHEAD, CHUNK
 
@@ -150,12 +150,57 @@ class BadMemory(SmallLoads):
             peer = self.console_at(FastConsole(IMAGE))
             peer.machine.has_halt_switch_on = True
             return peer
-        model, peer = Model(WORDS, [BACKGROUND] * 4096, has_halt_switch_on=True).fast(), halting()
+        model, peer = Model(WORDS, [BACKGROUND] * 4096, halting=MOST_IN_VAIN).fast(), halting()
         self.went_as(model, peer, self.load(peer))
         self.is_so((model.end, peer.machine.starts), ("Started", [PLACE] * 3 + [START]))
         peer = halting()
         _, told = self.at_a_terminal(lambda terminal: self.load(peer, stderr=terminal))
         self.assertIn("--fast did not serve: three stubs took no word: is the HALT switch at ENABLE?", told)
+
+
+class Traps(SmallLoads):
+    """A stub's start that traps, and pushes two words: an interrupt that comes before its first instruction, a HALT that traps. Behind
+    such stubs samples of all words that count as verified are looked at again, before anything is typed that stores or starts."""
+
+    # The record has so many words.
+    RECORDED = 20
+
+    def trapped(self, stack, recorded=RECORDED):
+        """A load with a record at a machine whose stack is there; returns its model, the peer and the answer."""
+        self.put("a.record", record_of(WORDS[:recorded]).encode())
+        machine = TrappingConsole(IMAGE, stack)
+        for address, _, value in WORDS[:recorded]:
+            machine.words[address // 2] = value
+        peer = self.console_at(machine)
+        model = Model(WORDS, list(machine.words), verified=recorded, halting=MOST_IN_VAIN, pushed=pushed_at(stack))
+        model.looking_first().fast()
+        return model, peer, self.load(peer, "a.lda --fast --record a.record")
+
+    def test_a_verified_word_is_pushed_over(self):
+        """The first, one of the others that are looked at, the last; the first of two that are hurt is told. No program is started, the
+        record is what it was, and a load that looks at each word again gets over it."""
+        for address in (START, START + 2 * 10, START + 2 * (self.RECORDED - 1)):
+            model, peer, given = self.trapped(address + 2)
+            self.went_as(model, peer, given, "ldaodt: memory does not hold what the record says: load with --recheck\n")
+            self.is_so((model.end, peer.machine.starts), (f"Stale {address:06o}", [PLACE] * MOST_IN_VAIN))
+            self.is_so((model.keys[-1], self.recorded()), ("\r", record_of(WORDS[:self.RECORDED])))
+            peer.machine.stack = START - 0o100
+            given = self.load(peer, "a.lda --fast --record a.record --recheck")
+            self.is_so((given.status, given.err, self.recorded()), (0, "", WHOLE))
+
+    def test_no_verified_word_is_pushed_over(self):
+        """Below the image, behind it, and over words that are not verified yet: the load goes on and starts the program."""
+        for stack in (START, PLACE + 2 * ONE_STRETCH + 4, START + 2 * self.RECORDED + 4):
+            model, peer, given = self.trapped(stack)
+            self.went_as(model, peer, given)
+            self.is_so((model.end, peer.machine.starts), ("Started", [PLACE] * MOST_IN_VAIN + [START]))
+            self.is_so(self.recorded(), WHOLE)
+
+    def test_no_word_is_verified(self):
+        """There is none to look at."""
+        model, peer, given = self.trapped(START + 4, recorded=0)
+        self.went_as(model, peer, given)
+        self.is_so((model.end, model.keys.count("Z")), ("Started", 2 * MOST_IN_VAIN + 1))
 
 
 class Losses(SmallLoads):

@@ -186,14 +186,14 @@ class Parts(Case):
     """A save of all of memory that goes on behind what an earlier one left."""
 
     def test_it_goes_on_behind_many_blocks(self):
-        """Behind 33 of 112 blocks of 256 words, and behind all but the last: eight words are looked at once, and the rest is looked at twice."""
+        """Behind 33 of 112 blocks of 256 words, and behind all but the last: each word is looked at twice, of those that are there eight."""
         blocks = [(first, b"".join(value.to_bytes(2, "little") for _, value in IMAGE[first // 2:first // 2 + 256])) for first in range(0, 2 * WORDS, 512)]
         tape = tape_of(blocks)
         for count in (33, len(blocks) - 1):
             with self.subTest(count):
                 self.put(f"{count}.lda.part", tape[:519 * count] + bytes(len(tape) - 519 * count))
                 given, _ = at_a_console(self.room, dict(IMAGE), f"save {count}.lda LINE 0 157776")
-                sent = 1 + 8 * 8 + 1 + 2 * 8 * (WORDS - 256 * count)
+                sent = 1 + 2 * 8 * 8 + 1 + 2 * 8 * (WORDS - 256 * count)
                 self.ends(given, 0, f"sent {sent} spent 0 read {WORDS} of {WORDS}\nend Saved\n")
                 self.is_so(bytes_of(self.path(f"{count}.lda")), tape)
 

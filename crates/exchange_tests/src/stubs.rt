@@ -5,7 +5,7 @@ use crate::tapes::{block_of, plan_of};
 use host_devices::{MemoryKeep, Unwatched};
 use std::alloc::Global;
 use std::process::Abort;
-use stub_engine::{Stop, StubsEnd, bring_in};
+use stub_engine::{Stop, StubsEnd, Typist, bring_in};
 
 // 400 words from 001000 on. A stub of one stretch has 66 words, so the first lies at word 334; a chunk has 32
 // words.
@@ -34,7 +34,11 @@ fn comes_so(alloc: Global, wire: Wire, starts: u32, in_a_row: u32) -> Option<boo
     let plan = plan_of(alloc, block_of(alloc, 0o1000, &BYTES)?, None)?;
     let mut line = MachineLine::new(alloc, wire)?;
     let mut keep = MemoryKeep::new(alloc, 400, None).ok()?;
-    let (tally, stop) = bring_in(alloc, &plan, 0, 3, &mut line, &mut keep, &Unwatched);
+    let typist = Typist {
+        careful: false,
+        patience: 3,
+    };
+    let (tally, stop) = bring_in(alloc, &plan, 0, typist, &mut line, &mut keep, &Unwatched);
     Some(
         stop == Stop::Ended(StubsEnd::TooFewWords)
             && tally.verified == 334

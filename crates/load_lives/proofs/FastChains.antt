@@ -50,7 +50,7 @@ use Rattle.exchange_law.specs.Start.{program as stub_program}
 use Rattle.load_lives.specs.Between.{Between, KeepsOutside}
 use Rattle.load_lives.specs.FastLives.{AreFastTrusted, AreFastLives, FastLife, FastLivesAreTrusted, IsFastLife, IsLatestPaid, LinkAndRecord, MayOpenAt, PassesAt, ReopensAt, StopsBehindStubs, StopsWithStubs, last_core, typed}
 use Rattle.load_lives.specs.FastLoads.{IsLoadedOn}
-use Rattle.load_lives.specs.StubParts.{AreStubParts, stubs_said, verified_by}
+use Rattle.load_lives.specs.StubParts.{ArePlain, AreStubParts, stubs_said, verified_by}
 use Rattle.load_lives.proofs.Backs.{back}
 use Rattle.load_lives.proofs.Calm.{IsIdle, Rested, StaysRested, all_in_order, between_passes, idle_behind, kept_on, rested_passes, stands_on}
 use Rattle.load_lives.proofs.Going.{loaded_by}
@@ -207,6 +207,7 @@ record Opened (program : Program) (tape : PlanValue) (before : List ℕ) (life :
   pub within : life.progress.verified ≤ length tape.words
   pub patient : life.patience < 2 ^ 32
   pub stubs : AreStubParts program tape life.progress.verified life.stubs
+  pub plain : ArePlain life.stubs
   pub begins : Between program tape life.progress.verified before x
 
 -- what came of it, and of the keys that it sent behind its stubs
@@ -221,7 +222,7 @@ load_of : (program : Program) (tape : PlanValue) (before : List ℕ) (life : Fas
 load_of program tape before life x y o passes all =
     any_load program tape before x y
     (record { verified = life.progress.verified; stubs = life.stubs; patience = life.patience; heard = life.heard; items = life.front ++ life.rest; unsent = life.unsent })
-    (record { plan = o.plan; within = o.within; patient = o.patient; stubs = o.stubs; begins = o.begins; stopped = all; passes = passes })
+    (record { plan = o.plan; within = o.within; patient = o.patient; stubs = o.stubs; plain = o.plain; begins = o.begins; stopped = all; passes = passes })
 
 came : (program : Program) (tape : PlanValue) (before : List ℕ) (life : FastLife) (x y : Link) → Opened program tape before life x → Passes program x (life.front ++ life.rest) y →
     StopsWithStubs tape (marked_as life false) ⊎ StopsBehindStubs tape (marked_as life false) → Came' program tape before life y
@@ -326,7 +327,7 @@ taken_back program tape before life x y few key o passes all load host set le =
     let whole : stubs_said tape life.progress.verified life.stubs ++ dialogue (bare tape life) first ≡ items ++ [] = ap (λ front. front ++ dialogue (bare tape life) first) all ∙ sym (append-nil items) in
     let t = any_load program tape before x (record y { lost = gone.0 })
     (record { verified = life.progress.verified; stubs = life.stubs; patience = life.patience; heard = first; items = items; unsent = [] })
-    (record { plan = o.plan; within = o.within; patient = o.patient; stubs = o.stubs; begins = o.begins; stopped = whole; passes = gone.1 }) in
+    (record { plan = o.plan; within = o.within; patient = o.patient; stubs = o.stubs; plain = o.plain; begins = o.begins; stopped = whole; passes = gone.1 }) in
     let n = t.next unmarked few (omega (arith, le, words)) in
     record { stand = n.stand; kept = n.kept; line = losses_aside program (IsLater tape few) y gone.0 n.line }
 
@@ -406,6 +407,7 @@ went_unmarked program tape before keys between life new is s l =
       within = within;
       patient = l.patient;
       stubs = l.stubs;
+      plain = l.plain;
       begins = between_reopened program tape life.progress.verified before between.link l.line.found l.line.reopens (between_fewer program tape life.progress.verified s.progress.verified before between.link fewer (s.next unset));
     } in
     let c : Came' program tape before life new.link = came program tape before life l.line.found new.link o l.line.passes l.stops in

@@ -34,7 +34,7 @@ use Rattle.exchange_law.proofs.Passing.{losses_aside}
 
 -- ---- losses that were there before are counted apart
 
-abbrev Fewer : ℕ → Link → (Link → Type 0) → Type 0
+abbrev pub Fewer : ℕ → Link → (Link → Type 0) → Type 0
 Fewer k y P = (z : Link) × (y ≡ later k z) × P z
 
 one_lost : (k n : ℕ) → k + n + 1 ≡ k + (n + 1)
@@ -62,7 +62,7 @@ gives_fewer : (k : ℕ) (what : Heard) (x y : Link) → Gives (later k x) what y
 gives_fewer k (Got c) x y (rest, is, now) = (record x { up = rest }, now, (rest, is, refl))
 gives_fewer k Quiet x y (none, empty, now) = (x, now, (none, empty, refl))
 
-passes_fewer : (program : Program) (k : ℕ) (items : List Item) (x y : Link) → Passes program (later k x) items y → Fewer k y (Passes program x items)
+pub passes_fewer : (program : Program) (k : ℕ) (items : List Item) (x y : Link) → Passes program (later k x) items y → Fewer k y (Passes program x items)
 passes_fewer program k [] x y moves = times_fewer program k moves.0 x y moves.1
 passes_fewer program k (Sent key ∷ items) x y passes = passes_fewer program k items (sent x (key ∷ [])) y passes
 passes_fewer program k (Came what ∷ items) x y (w, v, before, gives, passes) =
@@ -176,7 +176,7 @@ one_more : (program : Program) (tape : PlanValue) (before keys : List ℕ) (betw
 one_more program tape before keys between l new is s i = by i.looked
   where
     on : On program tape between l.life new
-    on x y line = record { patient = i.patient; goes_on = i.goes_on; alone = i.alone; stubs = i.stubs; stops = i.stops; line = line; left = i.left; renews = i.renews }
+    on x y line = record { patient = i.patient; goes_on = i.goes_on; alone = i.alone; stubs = i.stubs; plain = i.plain; stops = i.stops; line = line; left = i.left; renews = i.renews }
 
     by : (l.looks ≡ []) ⊎ HasLooked tape i.goes_on.recorded l.looks → WentOn program tape before keys l new
     by (inl none) = went_plain program tape before keys between l.looks l.life new is s none i.line on

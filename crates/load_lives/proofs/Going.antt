@@ -14,7 +14,7 @@ use Rattle.odt_machine.specs.Machine.{is_word}
 use Rattle.host_core.specs.declared.heard.Heard.{Heard}
 use Rattle.host_core.specs.declared.phase.End.TheVariants.{Started}
 use Rattle.host_core.specs.declared.phase.Phase.TheVariants.{Ended}
-use Rattle.host_core.specs.Core.{Core, begun, no_word, start_of, word_nr}
+use Rattle.host_core.specs.Core.{begun, begun_by, Core, no_word, start_of, word_nr}
 use Rattle.host_core.specs.Host.{IsHost}
 use Rattle.host_core.specs.Laws.{led}
 use Rattle.host_core.proofs.Lives.{led_kept, led_plan}
@@ -61,8 +61,8 @@ pub record IsBrought (program : Program) (tape : PlanValue) (from : ℕ) (before
   pub between : Between program tape from before y
   pub starts : core.phase ≡ Ended Started → MayExchange chunks y
 
-stub_host : (part : StubPart) → IsPlan part.stub → part.patience < 2 ^ 32 → IsHost (bringer part)
-stub_host part is long = begun_kept part.stub 0 false part.patience is (omega arith) long (λ set. absurd (cc set))
+stub_host : (stub : PlanValue) (patience : ℕ) → IsPlan stub → patience < 2 ^ 32 → IsHost (begun stub 0 false patience)
+stub_host stub patience is long = begun_kept stub 0 false patience is (omega arith) long (λ set. absurd (cc set))
 
 -- what its start brings to run may only fill the chunks
 stub_starts : (program : Program) (tape stub : PlanValue) (from : ℕ) (chunks : List Chunk) (core : Core) → IsStubFor program tape from stub chunks → core.plan ≡ stub → StartsWithin program (IsLater tape from) core
@@ -115,13 +115,19 @@ brought program tape stub from before chunks core keys x y is within for plan ho
 none_stand : (plan : PlanValue) (memory : List ℕ) → FirstStand plan.words 0 memory
 none_stand plan memory = record { lies = λ i less. absurd (omega (arith, less)); stands = λ i less. absurd (omega (arith, less)) }
 
-pub stub_brought : (program : Program) (tape : PlanValue) (part : StubPart) (from : ℕ) (before : List ℕ) (things : List Heard) (x y : Link) → IsStubFor program tape from part.stub part.chunks → part.patience < 2 ^ 32 → Between program tape from before x →
+-- the host that brings a stub in is an ordinary one
+pub stub_brought : (program : Program) (tape : PlanValue) (part : StubPart) (from : ℕ) (before : List ℕ) (things : List Heard) (x y : Link) → IsStubFor program tape from part.stub part.chunks → part.patience < 2 ^ 32 → part.careful ≡ false → Between program tape from before x →
     Passes program x (dialogue (bringer part) things) y → IsBrought program tape from before part.chunks (led (bringer part) things) y
-stub_brought program tape part from before things x y for long between passes =
-    let host = stub_host part for.plan long in
-    let t = hosts_recover (record { program = program; tape = tape; verified = from; found = x }) (bringer part) things y
+stub_brought program tape part from before things x y for long plain between =
+    subst (λ care. Passes program x (dialogue (begun_by care part.stub 0 false part.patience) things) y → IsBrought program tape from before part.chunks (led (begun_by care part.stub 0 false part.patience) things) y) (sym plain)
+    (λ passes.
+    let host = stub_host part.stub part.patience for.plan long in
+    let t = hosts_recover (record { program = program; tape = tape; verified = from; found = x }) core things y
     (record { host = host; at_first = refl; stand = none_stand part.stub x.machine.odt.memory; beside = λ i less b g later. absurd (omega (arith, less)); line = between.line }) passes in
-    brought program tape part.stub from before part.chunks (led (bringer part) things) _ x y for.words.sound (begins_within tape from part.chunks for.words) for (led_plan (bringer part) things) (led_kept (bringer part) things host) between t
+    brought program tape part.stub from before part.chunks (led core things) _ x y for.words.sound (begins_within tape from part.chunks for.words) for (led_plan core things) (led_kept core things host) between t)
+  where
+    core : Core
+    core = begun part.stub 0 false part.patience
 
 -- ---- an exchange
 

@@ -15,5 +15,5 @@ mod Loads
 mod Backs
 mod FastChains
 mod Looking
-mod FastFirst
+pub mod FastFirst
 pub mod Planning

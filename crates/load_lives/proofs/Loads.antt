@@ -17,7 +17,7 @@ use Rattle.exchange_law.specs.Recovery.{IsLater}
 use Rattle.exchange_law.specs.Start.{program as stub_program}
 use Rattle.load_lives.specs.Between.{Between}
 use Rattle.load_lives.specs.FastLoads.{FastLoad, FastLoadsAreTrusted, IsFastLoad, IsLoadedOn, rest_core}
-use Rattle.load_lives.specs.StubParts.{AreStubParts, IsStubFor, StubPart, bringer, exchange_said, is_started, starts, stubs_said, verified_after, verified_by}
+use Rattle.load_lives.specs.StubParts.{ArePlain, AreStubParts, IsStubFor, StubPart, bringer, exchange_said, is_started, starts, stubs_said, verified_after, verified_by}
 use Rattle.load_lives.proofs.Calm.{between_passes}
 use Rattle.load_lives.proofs.Going.{IsBrought, exchange_went, load_went, stub_brought}
 use Rattle.load_lives.proofs.Growing.{part_within, parts_within}
@@ -55,14 +55,14 @@ exchange_or program tape v before part x y is within for false e b passes = betw
 
 -- ---- all of them
 
-stubs_went : (program : Program) (tape : PlanValue) (stubs : List StubPart) (v : ℕ) (before : List ℕ) (x y : Link) → IsPlan tape → v ≤ length tape.words → AreStubParts program tape v stubs → Between program tape v before x →
+stubs_went : (program : Program) (tape : PlanValue) (stubs : List StubPart) (v : ℕ) (before : List ℕ) (x y : Link) → IsPlan tape → v ≤ length tape.words → AreStubParts program tape v stubs → ArePlain stubs → Between program tape v before x →
     Passes program x (stubs_said tape v stubs) y → Between program tape (verified_by tape v stubs) before y
-stubs_went program tape [] v before x y is within parts b passes = between_passes program tape v before [] x y is within refl b passes
-stubs_went program tape (part ∷ more) v before x y is within parts b passes =
+stubs_went program tape [] v before x y is within parts plain b passes = between_passes program tape v before [] x y is within refl b passes
+stubs_went program tape (part ∷ more) v before x y is within parts plain b passes =
     let one = passes_split program (dialogue (bringer part) part.brought) (exchange_said tape v part ++ stubs_said tape (verified_after tape v part) more) x y passes in
     let two = passes_split program (exchange_said tape v part) (stubs_said tape (verified_after tape v part) more) one.0 y one.2 in
-    let brought : IsBrought program tape v before part.chunks (led (bringer part) part.brought) one.0 = stub_brought program tape part v before part.brought x one.0 parts.0 parts.1 b one.1 in
-    stubs_went program tape more (verified_after tape v part) before two.0 y is (part_within program tape v part within parts.0) parts.2
+    let brought : IsBrought program tape v before part.chunks (led (bringer part) part.brought) one.0 = stub_brought program tape part v before part.brought x one.0 parts.0 parts.1 plain.0 b one.1 in
+    stubs_went program tape more (verified_after tape v part) before two.0 y is (part_within program tape v part within parts.0) parts.2 plain.1
     (exchange_or program tape v before part one.0 two.0 is within parts.0 (starts part) refl brought two.1) two.2
 
 -- ---- wherever it stops
@@ -75,7 +75,7 @@ any_load program tape before x y load is =
     let whole : Passes program x (stubs_said tape load.verified load.stubs ++ dialogue (rest_core tape load) load.heard) end =
     subst (λ list. Passes program x list end) (sym is.stopped) (passes_unsent program load.unsent load.items x y is.passes) in
     let parts = passes_split program (stubs_said tape load.verified load.stubs) (dialogue (rest_core tape load) load.heard) x end whole in
-    let b : Between program tape (verified_by tape load.verified load.stubs) before parts.0 = stubs_went program tape load.stubs load.verified before x parts.0 is.plan is.within is.stubs is.begins parts.1 in
+    let b : Between program tape (verified_by tape load.verified load.stubs) before parts.0 = stubs_went program tape load.stubs load.verified before x parts.0 is.plan is.within is.stubs is.plain is.begins parts.1 in
     let t = load_went program tape (verified_by tape load.verified load.stubs) load.patience before load.heard parts.0 end is.plan (parts_within program tape load.verified load.stubs is.within is.stubs) is.patient b parts.2 in record {
       stand = t.stand;
       kept = t.kept;

@@ -25,7 +25,7 @@ use Rattle.reading_core.specs.declared.turn.Turn.TheVariants.{Listen, Key, Read,
 use Rattle.reading_core.specs.Addresses.{AreAddresses}
 use Rattle.reading_core.specs.Laws.{led}
 use Rattle.reading_core.specs.Reader.{Reader, begun, looks_twice, once}
-use Rattle.reading_core.specs.ReadingTable.{ReaderStep, Target, ask, taken, target_of, turn_of, values_after}
+use Rattle.reading_core.specs.ReadingTable.{ReaderStep, Target, ask, counted, taken, target_of, turn_of, values_after}
 use Rattle.reading_core.proofs.Lives.{asked}
 use Rattle.looking_law.specs.Belief.{dialogue}
 use Rattle.line_world.specs.Scene.{over}
@@ -34,7 +34,8 @@ use Rattle.looking_law.proofs.Believed.{run_mirrored, stopped_with}
 use Rattle.looking_law.specs.Inquiry.{reading}
 use Rattle.looking_law.proofs.Events.{dialogue_leads}
 use Rattle.honest_line.proofs.Leading.{gives_lead}
-use Rattle.looking_law.proofs.Loading.{HearsRight, IsRight, begun_for, core_for, move_is, next_for_turn, phase_for}
+use Rattle.reading_core.specs.Foreign.{phase_for}
+use Rattle.looking_law.proofs.Loading.{HearsRight, IsRight, begun_for, core_for, counted_move_is, next_for_turn}
 use Rattle.looking_law.proofs.Mirrors.{IsMirrored, mirrored_event, once_kept}
 use Rattle.looking_law.proofs.Saying.{is_plan, plan_for, words_for}
 use Rattle.line_world.specs.Wire.{sent as sent_on}
@@ -86,7 +87,7 @@ goes_by program R before paid r v Timeout next = next
 
 heard_look : (program : Program) (R : ℕ → Type 0) (before : List ℕ) (paid : ℕ) (r : Reader) (what : Heard) (x v : Link) → Waiting program R before paid (core_for before r) x → Gives x what v → Goes program R before paid (ask r what) v
 heard_look program R before paid r what x v w gives =
-    goes_by program R before paid r v (turn_of r what) (subst (λ (m : Move). Next' program R before paid m v) (move_is before r what (hears_right before r what x paid w.stands)) (heard_waiting program R before paid (core_for before r) what x v w gives))
+    goes_by program R before paid (counted r what) v (turn_of r what) (subst (λ (m : Move). Next' program R before paid m v) (counted_move_is before r what (hears_right before r what x paid w.stands)) (heard_waiting program R before paid (core_for before r) what x v w gives))
 
 -- nothing is read meanwhile
 none_read : (r : Reader) (turn : Turn) (patience paid spent used : ℕ) (x : Link) → Waits false (phase_for (taken r turn).next.phase) patience paid spent used x ⊎ (phase_for (taken r turn).next.phase ≡ LoadSync 0) → values_after r.values turn ≡ r.values
@@ -101,7 +102,7 @@ none_read r Stray patience paid spent used x h = refl
 none_read r Timeout patience paid spent used x h = refl
 
 still_none : (r : Reader) (what : Heard) (patience paid spent used : ℕ) (x : Link) → r.values ≡ [] → Waits false (phase_for (ask r what).next.phase) patience paid spent used x ⊎ (phase_for (ask r what).next.phase ≡ LoadSync 0) → (ask r what).next.values ≡ []
-still_none r what patience paid spent used x none h = (asked r what).values ∙ (none_read r (turn_of r what) patience paid spent used x h ∙ none)
+still_none r what patience paid spent used x none h = (asked r what).values ∙ (none_read (counted r what) (turn_of r what) patience paid spent used x h ∙ none)
 
 -- nothing was read by a host that looks at each word once
 record IsIdle (r : Reader) : Type 0 where
@@ -127,7 +128,7 @@ first_still r Timeout patience paid spent used x h first = first_if (nat_lt r.sp
 still_idle : (r : Reader) (what : Heard) (patience paid spent used : ℕ) (x : Link) → IsIdle r → Waits false (phase_for (ask r what).next.phase) patience paid spent used x ⊎ (phase_for (ask r what).next.phase ≡ LoadSync 0) → IsIdle (ask r what).next
 still_idle r what patience paid spent used x idle h = record {
   plain = (asked r what).manner ∙ idle.plain;
-  first = first_still r (turn_of r what) patience paid spent used x h idle.first;
+  first = first_still (counted r what) (turn_of r what) patience paid spent used x h idle.first;
   none = still_none r what patience paid spent used x idle.none h;
 }
 
@@ -155,20 +156,20 @@ sync_is (Refused place) is = absurd (cc is)
 sync_is (Ended end) is = absurd (cc is)
 
 -- a host that has read nothing and waits for the answer to `Z`
-abbrev syncing : List ℕ → (patience spent sent : ℕ) → Reader
-syncing addresses patience spent sent =
-    record { addresses = addresses; manner = once; values = []; patience = patience; spent = spent; sent = sent; earlier = None; phase = Sync 0 }
+abbrev syncing : List ℕ → (patience spent foreign sent : ℕ) → Reader
+syncing addresses patience spent foreign sent =
+    record { addresses = addresses; manner = once; values = []; patience = patience; spent = spent; foreign = foreign; sent = sent; earlier = None; phase = Sync 0 }
 
-same_reader : (r : Reader) → r.manner ≡ once → r.earlier ≡ None → r.values ≡ [] → r.phase ≡ Sync 0 → r ≡ syncing r.addresses r.patience r.spent r.sent
+same_reader : (r : Reader) → r.manner ≡ once → r.earlier ≡ None → r.values ≡ [] → r.phase ≡ Sync 0 → r ≡ syncing r.addresses r.patience r.spent r.foreign r.sent
 same_reader r plain first none is =
     ap (λ manner. record r { manner = manner }) plain
     ∙ (ap (λ earlier. record r { manner = once; earlier = earlier }) first
     ∙ (ap (λ values. record r { manner = once; earlier = None; values = values }) none ∙ ap (λ phase. record r { manner = once; earlier = None; values = []; phase = phase }) is))
 
 -- what memory is, the mirror's plan may say: nothing of it is under way
-answered : (before addresses : List ℕ) (patience spent count : ℕ) (w : Wire) → AreAddresses addresses → IsKept (load_over (core_for before (syncing addresses patience spent count)) w) →
-    IsMirrored w.machine.memory (over (syncing addresses patience spent count) w)
-answered before addresses patience spent count w are k = record {
+answered : (before addresses : List ℕ) (patience spent foreign count : ℕ) (w : Wire) → AreAddresses addresses → IsKept (load_over (core_for before (syncing addresses patience spent foreign count)) w) →
+    IsMirrored w.machine.memory (over (syncing addresses patience spent foreign count) w)
+answered before addresses patience spent foreign count w are k = record {
   same = refl;
   calm = refl;
   books = record {
@@ -205,10 +206,10 @@ answered before addresses patience spent count w are k = record {
 
 at_machine : (program : Program) (R : ℕ → Type 0) (before : List ℕ) (paid : ℕ) (r : Reader) (x : Link) → AreAddresses r.addresses → IsIdle r → Settled program R before paid (core_for before r) x → AtMachine program x.machine.odt.memory r x
 at_machine program R before paid r x are idle s =
-    let is : r ≡ syncing r.addresses r.patience r.spent r.sent = same_reader r idle.plain idle.first idle.none (sync_is r.phase s.sync) in record {
+    let is : r ≡ syncing r.addresses r.patience r.spent r.foreign r.sent = same_reader r idle.plain idle.first idle.none (sync_is r.phase s.sync) in record {
       lost = r.spent;
       mirror = subst (λ one. IsMirrored x.machine.odt.memory (over one (wire_at x r.spent))) (sym is)
-          (answered before r.addresses r.patience r.spent r.sent (wire_at x r.spent) are (subst (λ one. IsKept (load_over (core_for before one) (wire_at x r.spent))) is s.kept));
+          (answered before r.addresses r.patience r.spent r.foreign r.sent (wire_at x r.spent) are (subst (λ one. IsKept (load_over (core_for before one) (wire_at x r.spent))) is s.kept));
       once = ap (λ manner. looks_twice manner.care) idle.plain;
       just = s.just;
     }

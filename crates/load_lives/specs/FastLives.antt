@@ -24,7 +24,7 @@ use Rattle.exchange_law.specs.Unsettled.{IsUnsettled}
 use Rattle.exchange_law.specs.Recovery.{IsLater, IsPaid}
 use Rattle.exchange_law.specs.Start.{program as stub_program}
 use Rattle.load_lives.specs.Between.{KeepsOutside}
-use Rattle.load_lives.specs.StubParts.{AreStubParts, StubPart, stubs_said, verified_by}
+use Rattle.load_lives.specs.StubParts.{ArePlain, AreStubParts, StubPart, stubs_said, verified_by}
 
 -- what a life finds and what it leaves: the station, with what is under way on its line, and the text of the record
 pub record LinkAndRecord : Type 0 where
@@ -88,6 +88,7 @@ pub record IsFastLife (program : Program) (tape : PlanValue) (old : LinkAndRecor
   -- where the program may have been started it brings in no stub
   pub alone : life.progress.going ≡ true → life.stubs ≡ []
   pub stubs : AreStubParts program tape life.progress.verified life.stubs
+  pub plain : ArePlain life.stubs
   -- it says what its parts decide, and may be stopped at any moment
   pub stops : StopsWithStubs tape life ⊎ StopsBehindStubs tape life
   -- the line delivers and loses as a line may

@@ -15,7 +15,7 @@ use Rattle.exchange_law.specs.Station.{Program}
 use Rattle.exchange_law.specs.Recovery.{IsInOrder, IsPaid}
 use Rattle.exchange_law.specs.Start.{program as stub_program}
 use Rattle.load_lives.specs.Between.{Between, KeepsOutside}
-use Rattle.load_lives.specs.StubParts.{AreStubParts, StubPart, stubs_said, verified_by}
+use Rattle.load_lives.specs.StubParts.{ArePlain, AreStubParts, StubPart, stubs_said, verified_by}
 
 -- a load: how many words were verified before it, its stubs, how many mishaps the host behind them survives, what that one heard, what was said on the line
 -- in all of it, and what it was about to send where it was stopped. What it heard in a part that it never came to is nothing
@@ -37,6 +37,7 @@ pub record IsFastLoad (program : Program) (tape : PlanValue) (before : List ℕ)
   pub within : load.verified ≤ length tape.words
   pub patient : load.patience < 2 ^ 32
   pub stubs : AreStubParts program tape load.verified load.stubs
+  pub plain : ArePlain load.stubs
   pub begins : Between program tape load.verified before x
   -- it says what its parts decide, and may be stopped before any character
   pub stopped : stubs_said tape load.verified load.stubs ++ dialogue (rest_core tape load) load.heard ≡ load.items ++ said_all load.unsent

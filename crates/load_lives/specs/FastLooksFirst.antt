@@ -10,7 +10,7 @@ use Rattle.exchange_law.specs.Station.{Program}
 use Rattle.exchange_law.specs.Recovery.{IsPaid}
 use Rattle.exchange_law.specs.Start.{program as stub_program}
 use Rattle.load_lives.specs.FastLives.{AreFastTrusted, FastLife, LinkAndRecord, MayOpenAt, PassesAt, Renews, StopsBehindStubs, StopsWithStubs, last_core}
-use Rattle.load_lives.specs.StubParts.{AreStubParts}
+use Rattle.load_lives.specs.StubParts.{ArePlain, AreStubParts}
 
 -- a life, and what was said before it on its line, where it looked
 pub record FastLookingLife : Type 0 where
@@ -24,6 +24,7 @@ pub record IsFastLookingLife (program : Program) (tape : PlanValue) (old : LinkA
   pub looked : (l.looks ≡ []) ⊎ HasLooked tape goes_on.recorded l.looks
   pub alone : l.life.progress.going ≡ true → l.life.stubs ≡ []
   pub stubs : AreStubParts program tape l.life.progress.verified l.life.stubs
+  pub plain : ArePlain l.life.stubs
   pub stops : StopsWithStubs tape l.life ⊎ StopsBehindStubs tape l.life
   pub line : PassesAt program old.link (l.looks ++ (l.life.front ++ l.life.rest)) new.link
   pub left : IsLeft tape l.life.progress (last_core tape l.life) l.life.rest old.text new.text

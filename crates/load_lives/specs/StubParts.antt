@@ -1,4 +1,4 @@
--- The stubs of a load, one after another: each is brought in by an ordinary host whose plan is the stub's, and then, where that saw it start, there is the
+-- The stubs of a load, one after another: each is brought in by a loading host whose plan is the stub's, and then, where that saw it start, there is the
 -- exchange with it.
 use Rattle.std.specs.Prelude.{◌≡◌, ℕ, ◌+◌, ◌^◌, ◌<◌, ◌≤◌, Bool, true, false, if◌then◌else◌, List, [], ◌∷◌, ◌++◌, length, IsSome, Some, None, unwrap_or, ⊤}
 use Rattle.std.specs.FinMap.{get}
@@ -8,7 +8,7 @@ use Rattle.host_core.specs.declared.heard.Heard.{Heard}
 use Rattle.host_core.specs.declared.phase.End.TheVariants.{Started}
 use Rattle.host_core.specs.declared.phase.Phase.{Phase}
 use Rattle.host_core.specs.declared.phase.Phase.TheVariants.{Ended}
-use Rattle.host_core.specs.Core.{Core, begun, word_nr}
+use Rattle.host_core.specs.Core.{Core, begun_by, word_nr}
 use Rattle.host_core.specs.Laws.{led}
 use Rattle.line_world.specs.Safe.{FirstStand}
 use Rattle.host_devices.specs.declared.item.Item.{Item}
@@ -35,11 +35,12 @@ pub record IsStubFor (program : Program) (tape : PlanValue) (from : ℕ) (stub :
   pub words : AreChunks tape from chunks
   pub code : IsStubOf program stub chunks
 
--- a stub's part of a load: its plan and its chunks, how many mishaps the host survives that brings it in, whether the host of the exchange sends while
--- answers come, and what was heard while the stub was brought in and in the exchange
+-- a stub's part of a load: its plan and its chunks, whether the host is careful that brings it in and how many mishaps that survives, whether the host of
+-- the exchange sends while answers come, and what was heard while the stub was brought in and in the exchange
 pub record StubPart : Type 0 where
   pub stub : PlanValue
   pub chunks : List Chunk
+  pub careful : Bool
   pub patience : ℕ
   pub duplex : Duplex
   pub brought : List Heard
@@ -47,7 +48,7 @@ pub record StubPart : Type 0 where
 
 -- the host that brings in a stub, at its beginning
 abbrev pub bringer : StubPart → Core
-bringer part = begun part.stub 0 false part.patience
+bringer part = begun_by part.careful part.stub 0 false part.patience
 
 -- a host saw its program start
 abbrev pub is_started : Phase → Bool
@@ -81,3 +82,8 @@ abbrev pub AreStubParts : Program → PlanValue → ℕ → List StubPart → Ty
 AreStubParts program tape v [] = ⊤
 AreStubParts program tape v (part ∷ more) =
     IsStubFor program tape v part.stub part.chunks × (part.patience < 2 ^ 32) × AreStubParts program tape (verified_after tape v part) more
+
+-- no host is careful that brings in one of them
+abbrev pub ArePlain : List StubPart → Type 0
+ArePlain [] = ⊤
+ArePlain (part ∷ more) = (part.careful ≡ false) × ArePlain more

@@ -1,7 +1,8 @@
 //! Trials of the word at 001000 by a console that forgets digits. The counts are by hand: `Z` and its
 //! answer, twice; seven keys and their echoes for the address and `/`; the reading; three digits and
 //! their echoes. In the largest style `Z?`, two CRs, LF and the prompt are six characters, and a space,
-//! six digits and a space eight: 12 keys and 30 characters, behind the silence that comes first.
+//! six digits and a space eight: 12 keys and 30 characters, behind the silence that comes first. Then `a`, and
+//! what `Z` is answered, with that letter.
 
 use honest_line::{Loss, MemoryLine};
 use host_devices::{Item, Line, LineFault};
@@ -9,7 +10,7 @@ use looking_engine::{Stop, conduct};
 use odt_machine::{Odt, Style};
 use std::alloc::Global;
 use std::process::Abort;
-use trial_core::{End, Habit, Seen, Trial};
+use trial_core::{End, Habit, Seen, SmallLetters, Trial};
 
 // The word's address.
 const WORD: u16 = 0o1000;
@@ -41,7 +42,7 @@ const AMPLE: Setting = Setting {
 };
 
 // What a trial comes to: how it stops, the keys sent, the things heard, the mishaps, and what was seen
-// of two CRs.
+// of two CRs and of the small letter.
 #[derive(Clone, Copy)]
 struct Course {
     stop: Stop<End>,
@@ -49,18 +50,20 @@ struct Course {
     heard: usize,
     spent: u32,
     two_returns: Habit,
+    small_letters: SmallLetters,
 }
 
 // The setting, what a trial in it comes to, and why the row is here.
-const ROWS: [(Setting, Course, &str); 9] = [
+const ROWS: [(Setting, Course, &str); 13] = [
     (
         AMPLE,
         Course {
             stop: Stop::Ended(End::Tried),
-            keys: 12,
-            heard: 31,
+            keys: 13,
+            heard: 37,
             spent: 0,
             two_returns: Habit::Yes,
+            small_letters: SmallLetters::Kept,
         },
         "the whole trial",
     ),
@@ -72,8 +75,69 @@ const ROWS: [(Setting, Course, &str); 9] = [
             heard: 30,
             spent: 0,
             two_returns: Habit::Yes,
+            small_letters: SmallLetters::NotKnown,
         },
-        "one turn short: the last prompt is not heard",
+        "the prompt behind the digits is not heard, and no letter is typed",
+    ),
+    (
+        Setting { turns: 36, ..AMPLE },
+        Course {
+            stop: Stop::TurnsOver,
+            keys: 13,
+            heard: 36,
+            spent: 0,
+            two_returns: Habit::Yes,
+            small_letters: SmallLetters::NotKnown,
+        },
+        "one turn short: the prompt behind the letter is not heard",
+    ),
+    (
+        Setting {
+            patience: 0,
+            loss: Some(Loss::Down(13)),
+            ..AMPLE
+        },
+        Course {
+            stop: Stop::Ended(End::Tried),
+            keys: 13,
+            heard: 32,
+            spent: 0,
+            two_returns: Habit::Yes,
+            small_letters: SmallLetters::NotKnown,
+        },
+        "the letter is lost, which is no mishap: the silence is the end",
+    ),
+    (
+        Setting {
+            patience: 0,
+            loss: Some(Loss::Up(31)),
+            ..AMPLE
+        },
+        Course {
+            stop: Stop::Ended(End::Tried),
+            keys: 13,
+            heard: 32,
+            spent: 0,
+            two_returns: Habit::Yes,
+            small_letters: SmallLetters::NotKnown,
+        },
+        "the echo of the letter is lost, and its refusal is heard in its place",
+    ),
+    (
+        Setting {
+            patience: 0,
+            loss: Some(Loss::Up(36)),
+            ..AMPLE
+        },
+        Course {
+            stop: Stop::Ended(End::Tried),
+            keys: 13,
+            heard: 37,
+            spent: 0,
+            two_returns: Habit::Yes,
+            small_letters: SmallLetters::NotKnown,
+        },
+        "the prompt behind the letter is lost: what came is no whole answer",
     ),
     (
         Setting {
@@ -82,10 +146,11 @@ const ROWS: [(Setting, Course, &str); 9] = [
         },
         Course {
             stop: Stop::Ended(End::Tried),
-            keys: 22,
-            heard: 54,
+            keys: 23,
+            heard: 60,
             spent: 1,
             two_returns: Habit::Yes,
+            small_letters: SmallLetters::Kept,
         },
         "the echo of the second digit is lost: Z leaves the word, which is opened once more",
     ),
@@ -101,6 +166,7 @@ const ROWS: [(Setting, Course, &str); 9] = [
             heard: 24,
             spent: 0,
             two_returns: Habit::Yes,
+            small_letters: SmallLetters::NotKnown,
         },
         "the same without patience: two digits stay typed into the open word",
     ),
@@ -111,10 +177,11 @@ const ROWS: [(Setting, Course, &str); 9] = [
         },
         Course {
             stop: Stop::Ended(End::Tried),
-            keys: 22,
-            heard: 54,
+            keys: 23,
+            heard: 60,
             spent: 1,
             two_returns: Habit::Yes,
+            small_letters: SmallLetters::Kept,
         },
         "the second digit itself is lost",
     ),
@@ -125,10 +192,11 @@ const ROWS: [(Setting, Course, &str); 9] = [
         },
         Course {
             stop: Stop::Ended(End::Tried),
-            keys: 12,
-            heard: 30,
+            keys: 13,
+            heard: 36,
             spent: 0,
             two_returns: Habit::Mixed,
+            small_letters: SmallLetters::Kept,
         },
         "one CR of two is lost: it passes for the other style, and is seen both ways",
     ),
@@ -143,6 +211,7 @@ const ROWS: [(Setting, Course, &str); 9] = [
             heard: 15,
             spent: 0,
             two_returns: Habit::Yes,
+            small_letters: SmallLetters::NotKnown,
         },
         "memory ends right before the word",
     ),
@@ -157,6 +226,7 @@ const ROWS: [(Setting, Course, &str); 9] = [
             heard: 1,
             spent: 0,
             two_returns: Habit::Unseen,
+            small_letters: SmallLetters::NotKnown,
         },
         "the first key is not sent",
     ),
@@ -168,6 +238,7 @@ const ROWS: [(Setting, Course, &str); 9] = [
             heard: 0,
             spent: 0,
             two_returns: Habit::Unseen,
+            small_letters: SmallLetters::NotKnown,
         },
         "no turn, no key",
     ),
@@ -222,6 +293,11 @@ fn trials(rt: HostRuntime) {
         check_that(&rt, heard == course.heard, reason);
         check_that(&rt, trial.spent == course.spent, reason);
         check_that(&rt, trial.seen.two_returns == course.two_returns, reason);
+        check_that(
+            &rt,
+            trial.seen.small_letters == course.small_letters,
+            reason,
+        );
     }
 }
 
@@ -236,6 +312,11 @@ fn seen_of(style: Style) -> Seen {
         space_before: sight_of(style.space_before),
         two_returns: sight_of(style.two_returns),
         echo_illegal: sight_of(style.echo_illegal),
+        small_letters: if style.echo_illegal {
+            SmallLetters::Kept
+        } else {
+            SmallLetters::NotKnown
+        },
     }
 }
 

@@ -1,7 +1,7 @@
 -- Loads by their lives.
-use Rattle.std.proofs.Common.{◌≡◌, ◌⊎◌, List, [], Option, Some, None, option_map, refl, subst, inl, inr}
+use Rattle.std.proofs.Common.{◌≡◌, ◌⊎◌, List, [], Option, Some, None, option_map, refl, sym, subst, inl, inr}
 use Rattle.host_core.specs.Core.{Core}
-use Rattle.host_devices.specs.Devices.{Devices, line_told}
+use Rattle.host_devices.specs.Devices.{Devices, devices, line_told}
 use Rattle.host_devices.specs.declared.item.Kept.{Kept}
 use Rattle.engine.specs.Keeping.{IsKeptBy, KeeperCalls}
 use Rattle.host_devices.specs.Told.{Gains}
@@ -14,11 +14,10 @@ use Rattle.machine_load.specs.Called.{asked_by}
 use Rattle.machine_load.specs.Driving.{KeeperTells, IsDrivenOn}
 use Rattle.machine_load.specs.Load.{SurroundingsTold, Ending, Finish, GoesOn, Setting, IsReportCutShort, IsLived, IsLoad, IsReported}
 use Rattle.machine_load.specs.LoadFault.{IsLoadFault}
-use Rattle.machine_load.specs.Parts.{IsDrivenBehind, IsDrivenUnless, IsKeptBehind, Unless, course, told_by}
+use Rattle.machine_load.specs.Parts.{Course, IsDrivenBehind, IsDrivenUnless, IsKeptBehind, Unless, host_of, stop_of, told_by, turns_of, what_holds}
+use Rattle.machine_load.specs.declared.load_end.LoadEnd.TheVariants.{Driven}
 use Rattle.machine_load.specs.Scene.{IsLoadReported, IsLoadUnreported, IsLoaded, IsNotLoaded, LoadTells, Scene, ending}
-use Rattle.machine_load.specs.Stubs.{hindrance, host_behind}
 use Rattle.machine_load.specs.declared.outcome.Outcome.{Outcome}
-use Rattle.machine_load.specs.declared.stubs.Stubs.{Stubs}
 use Rattle.machine_load.specs.declared.fault.LoadFault.{LoadFault}
 use Rattle.machine_load.specs.declared.fault.LoadFault.TheVariants.{Record, RecordInUse, ReadRecord, Connect, WriteRecord, WriteOutput, Memory}
 
@@ -37,12 +36,11 @@ over_line tells opened around finish (inr (inr life)) = inr (inr (record {
     stubs_asked = life.driven.stubs_asked;
     line' = life.driven.line';
     has_line = life.driven.has_line;
-    stop = life.driven.stop;
-    end_is = life.driven.end_is;
     kept = tells.calls.told life.driven.keeper;
     kept' = tells.calls.told life.driven.keeper';
     between = told_by tells.calls life.driven.parts.between;
-    parts = life.driven.parts.parts;
+    seen = devices life.driven.parts.rest.seen (tells.calls.told life.driven.parts.between.keeper);
+    parts = record { stubs = life.driven.parts.stubs; rest = life.driven.parts.rest.gone };
   };
 }))
 
@@ -62,6 +60,7 @@ reported_over_line : {K : Type 0} (tells : KeeperTells K) (task : LoadTask) (set
 reported_over_line tells task setting ending load = record {
   looks = load.looks;
   stubs = load.stubs;
+  again = load.again;
   last = load.last;
   load = load_over_line tells task (setting.before.around ⇒ setting.after.around) _ load.load;
   marked_is = load.marked_is;
@@ -115,21 +114,22 @@ pub asked_untold : {L : Type 0} (call : Call) (line : Option L) (asked asked' : 
 asked_untold call (Some line) asked asked' once = inr once
 asked_untold call None asked asked' none = inl none
 
--- a host behind stubs that hindered it
-pub hindered : {K : Type 0} (calls : KeeperCalls K Kept) (first : Core) (stubs : Option Stubs) (core : Core) (stop : Stop) (here : Devices) (keeper : K) → Some stop ≡ hindrance stubs → core ≡ host_behind first stubs
-    → IsDrivenBehind (course first stubs (core, stop)) here here × IsKeptBehind calls (course first stubs (core, stop)) keeper keeper
-hindered calls first stubs core stop here keeper is same = (
-  subst (λ why. IsDrivenUnless why (course first stubs (core, stop)) here here) is (record { core = same; stop_is = refl; devices_same = refl }),
-  subst (λ why. Unless why (IsKeptBy calls (turns_give (driving (host_behind first stubs) core (Some stop))) keeper keeper) (λ _. keeper ≡ keeper)) is refl,
+-- a host that its stubs or its looks held back
+pub held_behind : {K : Type 0} (calls : KeeperCalls K Kept) (course : Course) (here : Devices) (keeper : K) → Some course.end ≡ what_holds course → course.core ≡ host_of course
+    → IsDrivenBehind course here here × IsKeptBehind calls course keeper keeper
+held_behind calls course here keeper is same = (
+  subst (λ why. IsDrivenUnless why course here here) is (record { core = same; end_is = refl; devices_same = refl }),
+  subst (λ why. Unless why (IsKeptBy calls (turns_give (turns_of course)) keeper keeper) (λ _. keeper ≡ keeper)) is refl,
 )
 
--- one that nothing hindered
-pub free : {K : Type 0} (calls : KeeperCalls K Kept) (first : Core) (stubs : Option Stubs) (core : Core) (answer : Core × Stop) (before after : Devices) (keeper keeper' : K) → None ≡ hindrance stubs → core ≡ host_behind first stubs
-    → IsDriven most_turns (driving core answer.0 (Some answer.1)) before after → IsKeptBy calls (turns_give (driving core answer.0 (Some answer.1))) keeper keeper'
-    → IsDrivenBehind (course first stubs answer) before after × IsKeptBehind calls (course first stubs answer) keeper keeper'
-free calls first stubs core answer before after keeper keeper' is same driven kept = (
-  subst (λ why. IsDrivenUnless why (course first stubs answer) before after) is
-      (subst (λ (core : Core). IsDriven most_turns (driving core answer.0 (Some answer.1)) before after) same driven),
-  subst (λ why. Unless why (IsKeptBy calls (turns_give (driving (host_behind first stubs) answer.0 (Some answer.1))) keeper keeper') (λ _. keeper' ≡ keeper)) is
-      (subst (λ (core : Core). IsKeptBy calls (turns_give (driving core answer.0 (Some answer.1))) keeper keeper') same kept),
+-- one that nothing held back
+pub free_behind : {K : Type 0} (calls : KeeperCalls K Kept) (course : Course) (core : Core) (stop : Stop) (before after : Devices) (keeper keeper' : K) → None ≡ what_holds course → core ≡ host_of course → course.end ≡ Driven stop
+    → IsDriven most_turns (driving core course.core (Some stop)) before after → IsKeptBy calls (turns_give (driving core course.core (Some stop))) keeper keeper'
+    → IsDrivenBehind course before after × IsKeptBehind calls course keeper keeper'
+free_behind calls course core stop before after keeper keeper' is same ended driven kept = (
+  subst (λ why. IsDrivenUnless why course before after) is
+      (record { stop = stop; end_is = ended; driven = subst (λ (core : Core). IsDriven most_turns (driving core course.core (Some stop)) before after) same driven }),
+  subst (λ why. Unless why (IsKeptBy calls (turns_give (turns_of course)) keeper keeper') (λ _. keeper' ≡ keeper)) is
+      (subst (λ end. IsKeptBy calls (turns_give (driving (host_of course) course.core (stop_of end))) keeper keeper') (sym ended)
+      (subst (λ (core : Core). IsKeptBy calls (turns_give (driving core course.core (Some stop))) keeper keeper') same kept)),
 )

@@ -75,13 +75,13 @@ same_text first behind looks is stand =
 
 -- ---- looks
 
--- samples of a life's record were looked at
-pub looked_first : (first : Core) (samples shown : List WordValue) (reader : Reader) (looks : Looks) (before after : LineTold) → IsSampled first samples reader → shown ≡ samples → AreLooksAt shown reader.patience looks (before ⇒ after) → AreLooks first looks before after
+-- samples of a life's words were looked at
+pub looked_first : (first : Core) (samples shown : List WordValue) (reader : Reader) (looks : Looks) (before after : LineTold) → IsSampled first samples reader → shown ≡ samples → AreLooksAt shown reader.manner reader.patience looks (before ⇒ after) → AreLooks first looks before after
 looked_first first samples shown reader looks before after sampled same looked = record {
   samples = samples;
   of_record = sampled.of_record;
   asked = sampled.asked;
-  looked = subst (λ patience. AreLooksAt samples patience looks (before ⇒ after)) (ap (λ (r : Reader). r.patience) sampled.begins) (subst (λ list. AreLooksAt list reader.patience looks (before ⇒ after)) same looked);
+  looked = subst (λ (r : Reader). AreLooksAt samples r.manner r.patience looks (before ⇒ after)) sampled.begins (subst (λ list. AreLooksAt list reader.manner reader.patience looks (before ⇒ after)) same looked);
 }
 
 whole : (stop : LookStop) → unfinished_at stop ≡ None → stop ≡ Ended Complete

@@ -11,7 +11,7 @@ use Rattle.exchange_core.specs.declared.chunk.Chunk.{Chunk}
 use Rattle.exchange_core.specs.declared.exchange.Exchange.{Exchange}
 use Rattle.exchange_core.specs.Exchange.{advance, begun as exchange_begun}
 use Rattle.exchange_law.specs.Law.{dialogue as exchange_dialogue, said_all}
-use Rattle.load_lives.specs.StubParts.{AreStubParts, StubPart, bringer, exchange_said, starts, stubs_said, verified_after}
+use Rattle.load_lives.specs.StubParts.{StubPart, bringer, exchange_said, starts, stubs_said, verified_after}
 use Rattle.load_lives.specs.Stops.{IsStoppedAt}
 use Rattle.machine_load.specs.Fronts.{AreStoppedAt, StubFrontsAreStopped}
 

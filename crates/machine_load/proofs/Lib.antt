@@ -2,8 +2,10 @@ mod Begun
 pub mod Driving
 mod Faults
 mod Fronts
+mod GoingOn
 mod Lives
 mod Loads
 pub mod OnDisk
 mod Opened
+mod Pushed
 mod Renewed

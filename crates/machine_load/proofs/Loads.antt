@@ -6,11 +6,10 @@ use Rattle.console_lines.specs.Dialling.{asked_once}
 use Rattle.host_core.specs.Core.{Core}
 use Rattle.host_devices.specs.Devices.{LineTold, line_told}
 use Rattle.host_devices.specs.Told.{Gains}
-use Rattle.load_engine.specs.Driving.{LoadStop as Stop}
 use Rattle.machine_load.specs.declared.beginning.BegunLife.{BegunLife}
 use Rattle.machine_load.specs.declared.fault.LoadFault.{LoadFault}
 use Rattle.machine_load.specs.declared.lived.Lived.{Lived}
-use Rattle.machine_load.specs.declared.load_end.LoadEnd.TheVariants.{Driven}
+use Rattle.machine_load.specs.declared.going_on.GoneOn.{GoneOn}
 use Rattle.machine_load.specs.declared.outcome.Outcome.{Outcome}
 use Rattle.machine_load.specs.declared.stubs.Stubs.{Stubs}
 use Rattle.machine_load.specs.Asked.{LoadTask, Opened, opened_as, ◌⇒◌, Change}
@@ -20,7 +19,8 @@ use Rattle.machine_load.specs.Driving.{IsDrivenOn}
 use Rattle.machine_load.specs.GivenBack.{IsGivenBack}
 use Rattle.machine_load.specs.Load.{Asks, IsHeldUp, IsIdleLife, IsLived, IsLoad, IsNeverBegun, IsOpened, finish_report, going_on}
 use Rattle.machine_load.specs.Looks.{behind_looks}
-use Rattle.machine_load.specs.Parts.{ArePartsOver, course, held}
+use Rattle.machine_load.specs.GoneOn.{course_behind}
+use Rattle.machine_load.specs.Parts.{ArePartsOver, held}
 use Rattle.machine_load.specs.RecordDisk.{DiskAsked, IsBegunOn, begun_text}
 use Rattle.machine_load.specs.Reporting.{IsLifeReported, IsLifeUnreported}
 use Rattle.machine_load.specs.Scene.{IsLoaded, IsNotLoaded, LoadTells, Scene, finish_told}
@@ -76,22 +76,20 @@ module _ {L K : Type 0} (tells : LoadTells L K) (task : LoadTask) (before opened
   }
 
   -- or its record was begun, and it was driven
-  pub driven : (begun : BegunLife L K) (between : Scene) (stubs : Option Stubs) (core : Core) (stop : Stop) (line : L) (keeper : K)
+  pub driven : (begun : BegunLife L K) (between : Scene) (stubs : Option Stubs) (gone : GoneOn) (line : L) (keeper : K)
       → IsBegunLife tells life (opened.setting.around ⇒ between.setting.around) begun → is_some stubs ≡ task.options.fast
-      → ArePartsOver tells.keeper.calls (course begun.first stubs (core, stop)) (held (line_told tells.line begun.line) begun.keeper) (held (line_told tells.line line) keeper)
+      → ArePartsOver tells.keeper.calls (course_behind begun.first stubs gone) (held (line_told tells.line begun.line) begun.keeper) (held (line_told tells.line line) keeper)
       → Asks between.setting.around after.setting.around (RecordGivenBack ∷ []) → after.setting.around.record_text ≡ tells.keeper.text keeper
       → after.setting.around.disk ≡ between.setting.around.disk → after.setting.lines ≡ opened.setting.lines → Gains opened.asked after.asked (asked_once opened.call)
-      → IsLivedIn tells task (before ⇒ after) (record { core = core; end = Driven stop; looks = Some begun.looks; stubs = stubs; line = Some line })
-  driven begun between stubs core stop line keeper is stubs_asked parts given_back left disk_same lines asked =
-      let lived : Lived L = record { core = core; end = Driven stop; looks = Some begun.looks; stubs = stubs; line = Some line } in
+      → IsLivedIn tells task (before ⇒ after) (record { core = gone.core; end = gone.end; looks = Some begun.looks; stubs = stubs; again = gone.again; line = Some line })
+  driven begun between stubs gone line keeper is stubs_asked parts given_back left disk_same lines asked =
+      let lived : Lived L = record { core = gone.core; end = gone.end; looks = Some begun.looks; stubs = stubs; again = gone.again; line = Some line } in
       let on : IsDrivenOn tells.keeper (going_on begun.first task.options.fast (line_told tells.line begun.line)) (is.between ⇒ after.setting.around) (finish_told tells.line lived) = record {
         asked = gains_join _ _ _ _ _ is.record_begun given_back;
         begun_there = subst (λ disk. DiskAsked is.between.disk disk (IsBegunOn (begun_text begun.first.plan begun.first.verified))) (sym disk_same) is.begun_there;
         stubs_asked = stubs_asked;
         line' = line_told tells.line line;
         has_line = refl;
-        stop = stop;
-        end_is = refl;
         keeper = begun.keeper;
         begun_so = is.begun_so;
         keeper' = keeper;
@@ -119,6 +117,7 @@ module _ {L K : Type 0} (tells : LoadTells L K) (task : LoadTask) (before betwee
     reported = record {
       looks = lived.looks;
       stubs = lived.stubs;
+      again = lived.again;
       last = lived.core;
       load = subst (λ around. IsLoad (IsDrivenOn tells.keeper) task (before.setting.around ⇒ around) (finish_told tells.line lived)) (sym told.nothing_asked.around_same) is.load;
       marked_is = refl;

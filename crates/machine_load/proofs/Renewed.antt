@@ -55,7 +55,7 @@ begins_more a b c f g = (f.0 ++ g.0, sym (append_assoc a f.0 g.0) ∙ (ap (λ l.
 -- ---- behind the host
 
 -- the record of the first words says them
-written_says : (plan : PlanValue) (v : ℕ) → IsPlan plan → v ≤ length plan.words → Says plan (record_text Second plan v false) (Ok (record { verified = v; going = false }))
+pub written_says : (plan : PlanValue) (v : ℕ) → IsPlan plan → v ≤ length plan.words → Says plan (record_text Second plan v false) (Ok (record { verified = v; going = false }))
 written_says plan v fits within =
     whole_read Second plan (record_text Second plan v false) v false (record_short Second plan v false fits)
     (record_made Second plan v false (sound-accepted plan (record { verified = v; going = false }) (record { within = within; marked = λ set. absurd (cc set) })))

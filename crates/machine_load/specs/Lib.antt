@@ -11,6 +11,7 @@ pub mod Driving
 pub mod GivenBack
 pub mod Step
 pub mod Fronts
+pub mod GoneOn
 pub mod Lives
 pub mod Outcome
 pub mod Parts

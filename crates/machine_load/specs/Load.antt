@@ -9,7 +9,6 @@ use Rattle.host_core.specs.declared.progress.Progress.{Progress}
 use Rattle.host_core.specs.Core.{Core, begun_by, ended}
 use Rattle.host_devices.specs.declared.item.Kept.{Kept}
 use Rattle.host_devices.specs.Told.{Gains}
-use Rattle.load_engine.specs.Driving.{LoadStop as Stop}
 use Rattle.engine.specs.declared.stop.Stop.TheVariants.{Ended}
 use Rattle.load_record.specs.declared.version.Version.TheVariants.{Second}
 use Rattle.load_record.specs.RecordText.{record_text}
@@ -24,7 +23,7 @@ use Rattle.machine_load.specs.declared.load_end.LoadEnd.TheVariants.{Driven}
 use Rattle.machine_load.specs.declared.looks.Looks.{Looks}
 use Rattle.machine_load.specs.LoadReport.{load_report}
 use Rattle.machine_load.specs.Looks.{AreLooks, behind_looks, held_up_by}
-use Rattle.machine_load.specs.Parts.{AreParts, course}
+use Rattle.machine_load.specs.Parts.{AreParts, Course}
 use Rattle.machine_load.specs.Stubs.{counting}
 use Rattle.machine_load.specs.declared.stubs.Stubs.{Stubs}
 use Rattle.machine_load.specs.RecordDisk.{RecordDisk, DiskAsked, IsBegunOn, IsReadOn, begun_text, old_text}
@@ -98,18 +97,19 @@ pub record IsOverAtOnce (old new : Core) (ended_so : LoadEnd) : Type 0 where
 abbrev pub IsNeverBegun : LoadEnd → Type 0
 IsNeverBegun end = (end ≡ Driven (Ended Loaded)) ⊎ (end ≡ Driven (Ended MaybeStarted))
 
--- how a life ended: what its looks came to, where it looked, its stubs, where it brought some in, its host, and what its line tells then, where it
--- had one
+-- how a life ended: what its looks came to, where it looked, its stubs, where it brought some in, its looks behind them, where it looked again, its host,
+-- and what its line tells then, where it had one
 pub record Finish : Type 0 where
   pub looks : Option Looks
   pub stubs : Option Stubs
+  pub again : Option Looks
   pub core : Core
   pub end : LoadEnd
   pub line : Option LineTold
 
 -- its report
 abbrev pub finish_report : Finish → List ℕ
-finish_report finish = load_report (counting finish.core finish.looks finish.stubs) finish.end
+finish_report finish = load_report (counting finish.core finish.looks finish.stubs finish.again) finish.end
 
 -- a record that was begun anew is that of the plan's first k words, where it is told
 abbrev pub IsTextBegun : Option (List ℕ) → PlanValue → ℕ → Type 0
@@ -121,6 +121,7 @@ pub record IsIdleLife (life : Opened) (around : Change SurroundingsTold) (finish
   pub left_alone : AsksNothing around.before around.after
   pub no_looks : finish.looks ≡ None
   pub no_stubs : finish.stubs ≡ None
+  pub not_again : finish.again ≡ None
   pub no_line : finish.line ≡ None
 
 -- a life that is not over, and whose record may be begun: a connection is made, and on the new line, on which nothing was said, words that the record
@@ -145,6 +146,7 @@ pub record IsHeldUp (life : Opened) (around : Change SurroundingsTold) (finish :
   pub held_up : held_up_by first_looks.looks ≡ Some finish.end
   pub core_is : finish.core ≡ behind_looks life.first first_looks.looks
   pub no_stubs : finish.stubs ≡ None
+  pub not_again : finish.again ≡ None
   pub has_line : finish.line ≡ Some first_looks.behind
 
 -- a life that goes on: its host, whether stubs are asked for, and what its line tells
@@ -160,20 +162,23 @@ going_on first fast line = record { first = first; fast = fast; line = line }
 abbrev pub IsBegunThere : Core → SurroundingsTold → SurroundingsTold → Type 0
 IsBegunThere first before after = DiskAsked before.disk after.disk (IsBegunOn (begun_text first.plan first.verified))
 
--- behind its looks a life goes on: the record is begun anew, stubs, where they are asked for, and the host have the line, and in the end the record's
--- keeper is given back
+-- the course that it takes
+abbrev pub course_of : Core → Finish → Course
+course_of first finish = record { first = first; stubs = finish.stubs; again = finish.again; core = finish.core; end = finish.end }
+
+-- behind its looks a life goes on: the record is begun anew, stubs, where they are asked for, looks behind those that were in vain, and the host have the
+-- line, and in the end the record's keeper is given back
 pub record GoesOn (life : Going) (around : Change SurroundingsTold) (finish : Finish) : Type 0 where
   pub asked : Asks around.before around.after (RecordBegun ∷ RecordGivenBack ∷ [])
   pub begun_there : IsBegunThere life.first around.before around.after
   pub stubs_asked : is_some finish.stubs ≡ life.fast
   pub line' : LineTold
   pub has_line : finish.line ≡ Some line'
-  pub stop : Stop
-  pub end_is : finish.end ≡ Driven stop
   pub kept : Option (List Kept)
   pub kept' : Option (List Kept)
   pub between : Devices
-  pub parts : AreParts (course life.first finish.stubs (finish.core, stop)) (devices life.line kept) between (devices line' kept')
+  pub seen : Devices
+  pub parts : AreParts (course_of life.first finish) (devices life.line kept) between seen (devices line' kept')
 
 -- how a life goes on, as it is said of its line alone or of its line and its keeper
 abbrev pub HowItGoesOn : Type 1
@@ -210,11 +215,12 @@ pub record Ending : Type 0 where
 pub record IsReported (GoesSo : HowItGoesOn) (task : LoadTask) (setting : Change Setting) (ending : Ending) : Type 0 where
   pub looks : Option Looks
   pub stubs : Option Stubs
+  pub again : Option Looks
   pub last : Core
   pub load : IsLoad GoesSo task (setting.before.around ⇒ setting.after.around)
-      (record { looks = looks; stubs = stubs; core = last; end = ending.end; line = ending.line })
+      (record { looks = looks; stubs = stubs; again = again; core = last; end = ending.end; line = ending.line })
   pub marked_is : ending.marked ≡ last.going
-  pub reported : Appends setting.before.out setting.after.out (load_report (counting last looks stubs) ending.end)
+  pub reported : Appends setting.before.out setting.after.out (load_report (counting last looks stubs again) ending.end)
   pub line_kept : setting.after.lines ≡ setting.before.lines
 
 -- a load whose report could not be written whole: its life was lived all the same, and its line given back as that left it

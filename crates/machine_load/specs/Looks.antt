@@ -1,5 +1,5 @@
--- The looks of a load: at words that its record has, before it is believed.
-use Rattle.std.specs.Prelude.{◌≡◌, ℕ, ◌-◌, ◌≤◌, false, List, [], length, Option, Some, None}
+-- The looks of a load: at words that its record has, before it is believed, and again behind a stub that was in vain.
+use Rattle.std.specs.Prelude.{◌≡◌, ℕ, ◌-◌, ◌≤◌, Bool, false, if◌then◌else◌, List, [], length, Option, Some, None, vec_capacity}
 use Rattle.host_devices.specs.Devices.{LineTold}
 use Rattle.host_core.specs.declared.phase.End.TheVariants as host
 use Rattle.host_core.specs.Core.{Core, begun_by}
@@ -9,10 +9,13 @@ use Rattle.engine.specs.declared.stop.Stop.TheVariants as drive
 use Rattle.machine_load.specs.declared.load_end.LoadEnd.{LoadEnd}
 use Rattle.machine_load.specs.declared.load_end.LoadEnd.TheVariants as load_end
 use Rattle.machine_load.specs.declared.looks.Looks.{Looks}
+use Rattle.machine_load.specs.declared.looks.LooksRoom.{LooksRoom}
+use Rattle.reading_core.specs.declared.care.Care.{Care}
+use Rattle.reading_core.specs.declared.care.Care.TheVariants.{Once, Twice}
 use Rattle.reading_core.specs.declared.phase.End.TheVariants.{Complete, GaveUp, NoWord}
 use Rattle.reading_core.specs.Addresses.{AreAddresses, addresses_of}
-use Rattle.reading_core.specs.Bound.{reading_bound}
-use Rattle.reading_core.specs.Reader.{Reader, begun as reader_begun}
+use Rattle.reading_core.specs.Bound.{life_bound}
+use Rattle.reading_core.specs.Reader.{Manner, Reader, begun_in, manner_of}
 use Rattle.looking_engine.specs.Stopping.{LookStop}
 use Rattle.looking_engine.specs.declared.stop.Stop.TheVariants.{Ended, LineFailed, TurnsOver}
 use Rattle.looking_engine.specs.Inquired.{IsInquired, inquiry}
@@ -50,31 +53,54 @@ vouched_for verified Unfinished = verified
 abbrev pub behind_looks : Core → Looks → Core
 behind_looks first looks = begun_by first.careful first.plan (vouched_for first.verified looks.finding) false (first.patience - looks.spent)
 
--- samples of the words that the record of a life has, and a host that is to look at them, with the life's patience
+-- the same where there may have been none
+abbrev pub behind_any_looks : Core → Option Looks → Core
+behind_any_looks first None = first
+behind_any_looks first (Some looks) = behind_looks first looks
+
+-- how often a life looks at a sample: a careful one twice in a row
+abbrev pub care_of : (careful : Bool) → Care
+care_of careful = if careful then Twice else Once
+
+-- the host of a life that looks at samples, with the life's care and its patience
+abbrev pub looker_of : Core → List WordValue → Reader
+looker_of first samples = begun_in (manner_of (care_of first.careful) []) (addresses_of samples) [] first.patience
+
+-- where looks begin that may take no memory: there is room for the most samples, for their addresses, and for what is read there
+pub record IsRoom (room : LooksRoom) : Type 0 where
+  pub no_sample : room.samples.items ≡ []
+  pub samples : 8 ≤ vec_capacity room.samples
+  pub no_address : room.addresses.items ≡ []
+  pub addresses : 8 ≤ vec_capacity room.addresses
+  pub no_number : room.numbers.items ≡ []
+  pub numbers : 8 ≤ vec_capacity room.numbers
+
+-- samples of the words that count as verified in a life, and the host that is to look at them
 pub record IsSampled (first : Core) (samples : List WordValue) (reader : Reader) : Type 0 where
   pub of_record : AreSamples first.plan.words first.verified samples
   pub asked : AreAddresses (addresses_of samples)
-  pub begins : reader ≡ reader_begun (addresses_of samples) [] first.patience
+  pub begins : reader ≡ looker_of first samples
 
--- a host of this patience has looked at words: what was heard and said; what it read says what it found, and over an honest line that is so in memory,
--- which is what it was
-pub record AreLooksAt (samples : List WordValue) (patience : ℕ) (looks : Looks) (line : Change LineTold) : Type 0 where
+-- so few characters that a sum has room for them
+abbrev pub AreFewLooks : Looks → Type 0
+AreFewLooks looks = looks.sent ≤ 73014902784
+
+-- a host of this manner and patience has looked at words: what was heard and said; what it read says what it found, and over an honest line that is so in
+-- memory, which is what it was
+pub record AreLooksAt (samples : List WordValue) (manner : Manner) (patience : ℕ) (looks : Looks) (line : Change LineTold) : Type 0 where
   pub reader : Reader
-  pub inquired : IsInquired most_turns (inquiry (reader_begun (addresses_of samples) [] patience) reader (Some looks.stop)) line.before line.after
+  pub inquired : IsInquired most_turns (inquiry (begun_in manner (addresses_of samples) [] patience) reader (Some looks.stop)) line.before line.after
   pub found : IsFound samples reader.values looks.stop looks.finding
   pub honest : IsSoOver samples looks.finding line.before.said line.after.said
   pub sent_is : looks.sent ≡ reader.sent
   pub spent_is : looks.spent ≡ reader.spent
   pub paid : looks.spent ≤ patience
-  pub bound : looks.sent ≤ reading_bound (length samples) patience
+  pub bound : looks.sent ≤ life_bound manner.care (length samples) patience
+  pub few : AreFewLooks looks
 
--- a life has looked at samples of the words that its record has, with its own patience
+-- a life has looked at samples of the words that count as verified in it, with its own care and patience
 pub record AreLooks (first : Core) (looks : Looks) (before after : LineTold) : Type 0 where
   pub samples : List WordValue
   pub of_record : AreSamples first.plan.words first.verified samples
   pub asked : AreAddresses (addresses_of samples)
-  pub looked : AreLooksAt samples first.patience looks (before ⇒ after)
-
--- so few characters that a sum has room for them
-abbrev pub AreFewLooks : Looks → Type 0
-AreFewLooks looks = looks.sent ≤ 38654935040
+  pub looked : AreLooksAt samples (manner_of (care_of first.careful) []) first.patience looks (before ⇒ after)

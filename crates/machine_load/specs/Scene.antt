@@ -53,6 +53,7 @@ abbrev pub finish_told : {L : Type 0} → Line L → Lived L → Finish
 finish_told tell lived = record {
   looks = lived.looks;
   stubs = lived.stubs;
+  again = lived.again;
   core = lived.core;
   end = lived.end;
   line = option_map (line_told tell) lived.line;

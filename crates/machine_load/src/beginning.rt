@@ -1,6 +1,6 @@
 use crate::first_life::FirstLife;
 use crate::lived::Lived;
-use crate::looks::Looks;
+use crate::looks::{Looks, LooksRoom};
 
 /// What the beginning of a life came to.
 #[derive(Drop)]
@@ -12,11 +12,13 @@ pub(crate) enum Beginning<L, K> {
     Begun(BegunLife<L, K>),
 }
 
-/// A life that goes on behind its looks: with its line, and with the keeper that its record was begun anew for.
+/// A life that goes on behind its looks: with its line, with room to look again, and with the keeper that its record was
+/// begun anew for.
 #[derive(Drop)]
 pub(crate) struct BegunLife<L, K> {
     pub(crate) first: FirstLife,
     pub(crate) looks: Looks,
+    pub(crate) room: LooksRoom,
     pub(crate) line: L,
     pub(crate) keeper: K,
 }

@@ -1,19 +1,22 @@
 //! A life as it begins.
-ghost use Rattle.std.specs.Prelude.{◌≡◌, ◌≤◌, false, length, None, IfSome};
+ghost use Rattle.std.specs.Prelude.{◌≡◌, ◌≤◌, length, None, IfSome};
 ghost use Rattle.host_core.specs.Core.{begun_by, ended};
 ghost use Rattle.host_core.specs.Opening.{refusal_of};
-ghost use Rattle.machine_load.specs.Looks.{behind_looks};
+ghost use Rattle.machine_load.specs.Looks.{behind_looks, care_of};
+ghost use Rattle.machine_load.specs.Parts.{typist_for};
 ghost use Rattle.machine_load.specs.Stubs.{host_behind};
 
 use crate::looks::Looks;
 use crate::stubs::Stubs;
 use host_core::{End, HostCore, Progress};
+use reading_core::Care;
 use sample_looks::Finding;
 use std::marker::Model;
+use stub_engine::Typist;
 use tape_image::Plan;
 
-/// A life as its record opens it. Its host is made when it is its turn: before that stubs may have
-/// verified words. Contracts see the host that nothing came before.
+/// A life as its record opens it, or as it goes on behind its looks and its stubs. Its host is made when it is its
+/// turn. Contracts see the host that nothing came before.
 #[derive(Drop)]
 pub(crate) struct FirstLife {
     plan: Plan,
@@ -67,11 +70,32 @@ impl FirstLife {
         self.progress.verified
     }
 
+    /// The host that types its stubs: as careful and as patient as its own.
+    pub(crate) fn typist(&self) -> Typist
+        ensures { result ≡ typist_for self.now }
+    {
+        Typist {
+            careful: self.careful,
+            patience: self.patience,
+        }
+    }
+
     /// How many mishaps a host of it survives.
     pub(crate) fn patience(&self) -> u32
         ensures { result ≡ self.now.patience }
     {
         self.patience
+    }
+
+    /// How often it looks at a word.
+    pub(crate) fn care(&self) -> Care
+        ensures { result ≡ care_of self.now.careful }
+    {
+        if self.careful {
+            Care::Twice
+        } else {
+            Care::Once
+        }
     }
 
     /// The end of a life that is over before it begins: the start was typed before, or nothing is left to
@@ -126,22 +150,14 @@ impl FirstLife {
         HostCore::with_care(careful, plan, progress, patience).unwrap()
     }
 
-    /// Its host behind its stubs, where it brings some in.
-    pub(crate) fn host_behind(self, stubs: Option<Stubs>) -> HostCore
+    /// The life behind its stubs, where it brings some in: with the words that they verified, and a patience of its own.
+    pub(crate) fn behind_stubs(self, stubs: Option<Stubs>) -> FirstLife
         requires within { IfSome stubs (λ stubs. stubs.tally.verified ≤ length self.plan.words) }
         ensures { result ≡ host_behind self stubs }
     {
-        match stubs {
-            Some(stubs) => self.host_from(stubs.tally.verified),
-            None => self.host(),
-        }
-    }
-
-    // Its host, where so many words were verified meanwhile.
-    fn host_from(self, verified: u32) -> HostCore
-        requires { verified ≤ length self.plan.words }
-        ensures { result ≡ begun_by self.careful self.plan verified false self.patience }
-    {
+        let Some(stubs) = stubs else {
+            return self;
+        };
         let FirstLife {
             plan,
             patience,
@@ -149,9 +165,9 @@ impl FirstLife {
             ..
         } = self;
         let progress = Progress {
-            verified,
+            verified: stubs.tally.verified,
             going: false,
         };
-        HostCore::with_care(careful, plan, progress, patience).unwrap()
+        FirstLife::new(careful, plan, progress, patience)
     }
 }

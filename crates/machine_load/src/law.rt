@@ -2,8 +2,9 @@ ghost use Rattle.machine_load.specs.Fronts.{StubFrontsAreStopped};
 ghost use Rattle.machine_load.specs.Lives.{LoadsAreFastLives, LoadsAreLives};
 
 /// What `load` promises of a load whose keeper writes the record's file is a life, with stubs or without,
-/// whatever stopped it: so `fast_lives_are_trusted` of the crate `load_lives` speaks of loads in a row,
-/// also with `recheck`. This function does nothing: its contract is the law.
+/// whatever stopped it, or two in a row, where it looks again behind its stubs: so `fast_lives_may_look_first`
+/// of the crate `load_lives` speaks of loads in a row, also with `recheck`. This function does nothing: its
+/// contract is the law.
 pub fn loads_are_fast_lives()
     ensures { LoadsAreFastLives }
 {}

@@ -3,11 +3,12 @@
 //! `load` asks its `Surroundings` for the record of earlier lives, for a line and for the record of
 //! the life that begins, in this order. Over that line words that the record has are looked at (by the crate
 //! `sample_looks`), before it is begun anew; then stubs take words, where they are asked for (of the crate
-//! `stub_engine`), and behind them the host goes on; its report is of this host, and counts what all of
-//! them sent. That is its contract, and by its laws a load is a life, with stubs or without, wherever it
-//! stops. `Around` joins the two parts of the surroundings of a real machine: a way to its console (of the
-//! crate `console_lines`), and where its record is, in a file (of the crate `record_file`) or in memory. An
-//! `Onlooker` sees how far the load is and decides nothing.
+//! `stub_engine`), and behind them the host goes on, where the last of them verified nothing once words were
+//! looked at again; its report is of this host, and counts what all of them sent. That is its contract, and by
+//! its laws a load is a life, or two in a row, with stubs or without, wherever it stops. `Around` joins the two
+//! parts of the surroundings of a real machine: a way to its console (of the crate `console_lines`), and where
+//! its record is, in a file (of the crate `record_file`) or in memory. An `Onlooker` sees how far the load is and
+//! decides nothing.
 //!
 //! The crate `requests` calls it, and its tests stand in `load_tests`, `record_tests` and `command_tests`.
 #![tactic(auto)]
@@ -16,6 +17,7 @@ mod around;
 mod beginning;
 mod fault;
 mod first_life;
+mod going_on;
 mod law;
 mod lived;
 mod load_end;

@@ -7,14 +7,15 @@ use crate::outcome::Outcome;
 use crate::stubs::Stubs;
 use host_core::HostCore;
 
-/// A life that is over: its host, how it ended, its looks and its stubs where there were some, and the line that
-/// it had.
+/// A life that is over: its host, how it ended, its looks, its stubs and its looks behind these, where there were some,
+/// and the line that it had.
 #[derive(Drop)]
 pub(crate) struct Lived<L> {
     pub(crate) core: HostCore,
     pub(crate) end: LoadEnd,
     pub(crate) looks: Option<Looks>,
     pub(crate) stubs: Option<Stubs>,
+    pub(crate) again: Option<Looks>,
     pub(crate) line: Option<L>,
 }
 

@@ -20,17 +20,18 @@ ghost use Rattle.record_file.specs.OldRecord.{HoldsNoRecord};
 use crate::beginning::{Beginning, BegunLife};
 use crate::fault::LoadFault;
 use crate::first_life::FirstLife;
+use crate::going_on::go_on;
 use crate::lived::Lived;
 use crate::load_end::LoadEnd;
-use crate::looks::{look, sampled};
+use crate::looks::{LooksRoom, look};
 use crate::outcome::Outcome;
 use crate::report::load_report;
-use crate::stubs::{bring_stubs, hindrance};
+use crate::stubs::bring_stubs;
 use crate::surroundings::Surroundings;
 use byte_io::write_and_flush;
 use host_core::Progress;
-use host_devices::{MOST_TURNS, Onlooker};
-use load_engine::{Stop, drive};
+use host_devices::Onlooker;
+use load_engine::Stop;
 use load_record::{RecordError, read_record};
 use record_file::holds_no_record;
 use request_values::LoadOptions;
@@ -51,10 +52,19 @@ use tape_image::Plan;
 ///
 /// Else the record is written anew with the words that count as verified. Then, where the load is to be fast,
 /// stubs take words, as `bring_in` of the crate `stub_engine` has it. Where a device fails with them, turns are over, or
-/// the machine lacks a word that one was to be typed into, the load stops so; for every other reason it goes on behind the words that they verified, with its
-/// host, which is driven for 10,000,000 turns at most. Each of them has the patience that the looks left. The
-/// report is of the host that the engine gives back, with the characters and the mishaps of the looks and of
-/// the stubs, too. The line comes back, without which only a life ends that was over before it began.
+/// the machine lacks a word that one was to be typed into, the load stops so; for every other reason it goes on behind
+/// the words that they verified.
+///
+/// Where the last stub verified nothing it may have been started all the same, and have written anywhere: an interrupt
+/// came before its first instruction, or its HALT trapped. So samples of all words that count as verified by then are
+/// looked at, those of the record and those of the stubs, before anything else is typed. Where one does not stand the load
+/// ends as `Stale`, where the looks stop before, as `Unfinished`. Nothing is done behind them, and the record has what was
+/// verified.
+///
+/// Else the host is driven for 10,000,000 turns at most. The stubs have the patience that the first looks left, each, and so
+/// have the looks behind them and the host together. The report is of the host that the engine gives back, with the
+/// characters and the mishaps of all looks and of the stubs, too. The line comes back, without which only a life ends that
+/// was over before it began.
 ///
 /// `ReadRecord`, `RecordInUse`, `Record` and `Connect` come with nothing reported and the record as it
 /// was, `WriteRecord` right behind the looks, and before the connection, with the record as it was, where it
@@ -83,6 +93,7 @@ pub fn load<S: Surroundings, W: Write, O: Onlooker>(
     let BegunLife {
         first,
         looks,
+        room,
         mut line,
         mut keeper,
     } = begun;
@@ -94,18 +105,15 @@ pub fn load<S: Surroundings, W: Write, O: Onlooker>(
         &mut keeper,
         onlooker,
     );
-    let core = first.host_behind(stubs);
-    let (core, stop) = match hindrance(stubs) {
-        Some(stop) => (core, stop),
-        None => drive(core, &mut line, &mut keeper, MOST_TURNS, onlooker),
-    };
+    let gone = go_on(first, stubs, room, &mut line, &mut keeper, onlooker);
     onlooker.ends();
     around.end_record(keeper);
     let lived = Lived {
-        core,
-        end: LoadEnd::Driven(stop),
+        core: gone.core,
+        end: gone.end,
         looks: Some(looks),
         stubs,
+        again: gone.again,
         line: Some(line),
     };
     report(lived, around, out)
@@ -187,16 +195,18 @@ fn begin<S: Surroundings, O: Onlooker>(
             end: LoadEnd::Driven(Stop::Ended(end)),
             looks: None,
             stubs: None,
+            again: None,
             line: None,
         }));
     }
     if !writable {
         return Err(LoadFault::WriteRecord);
     }
-    let (samples, reader) = sampled(alloc, &first)?;
+    let room = LooksRoom::new(alloc)?;
+    let room_behind = LooksRoom::new(alloc)?;
     let mut line = around.connect()?;
     onlooker.begins(first.verified(), first.plan().words().len() as u32);
-    let looks = look(&samples, reader, &mut line);
+    let looks = look(&first, room, &mut line);
     let first = first.behind(looks);
     if let Some(end) = looks.hindrance() {
         onlooker.ends();
@@ -205,6 +215,7 @@ fn begin<S: Surroundings, O: Onlooker>(
             end,
             looks: Some(looks),
             stubs: None,
+            again: None,
             line: Some(line),
         }));
     }
@@ -212,6 +223,7 @@ fn begin<S: Surroundings, O: Onlooker>(
         Ok(keeper) => Ok(Beginning::Begun(BegunLife {
             first,
             looks,
+            room: room_behind,
             line,
             keeper,
         })),
@@ -229,13 +241,19 @@ fn report<S: Surroundings, W: Write>(
     around: &mut S,
     out: &mut W,
 ) -> Result<Outcome<S::Line>, LoadFault>
-    requires few { IfSome lived.looks AreFewLooks × IfSome lived.stubs AreFew }
+    requires few { IfSome lived.looks AreFewLooks × (IfSome lived.stubs AreFew × IfSome lived.again AreFewLooks) }
     ensures ok { IfOk result (IsLifeReported S.Line.Line lived
         (scene S.Surroundings W.Write around.old out.old ⇒ scene S.Surroundings W.Write around.new out.new)) }
     ensures err { IfErr result (IsLifeUnreported S.Line.Line lived
         (scene S.Surroundings W.Write around.old out.old ⇒ scene S.Surroundings W.Write around.new out.new)) }
 {
-    let text = load_report(&lived.core, lived.looks, lived.stubs, lived.end);
+    let text = load_report(
+        &lived.core,
+        lived.looks,
+        lived.stubs,
+        lived.again,
+        lived.end,
+    );
     match write_and_flush(out, &text) {
         Ok(()) => Ok(lived.outcome()),
         Err(fault) => {

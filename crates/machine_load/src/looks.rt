@@ -1,10 +1,11 @@
-//! The looks of a load: at words that its record has, before it is believed.
-ghost use Rattle.std.specs.Prelude.{◌≡◌, [], IfOk};
+//! The looks of a load: at words that its record has, before it is believed, and again behind a stub that was in vain.
+ghost use Rattle.std.specs.Prelude.{◌≡◌, ◌≤◌, [], length, vec_capacity, IfOk};
 ghost use Rattle.host_devices.specs.Devices.{line_told};
 ghost use Rattle.machine_load.specs.Asked.{◌⇒◌};
-ghost use Rattle.machine_load.specs.Looks.{AreLooksAt, IsSampled, held_up_by, unfinished_at};
-ghost use Rattle.reading_core.specs.Addresses.{addresses_of};
-ghost use Rattle.reading_core.specs.Reader.{begun};
+ghost use Rattle.machine_load.specs.Looks.{AreLooks, AreLooksAt, IsRoom, IsSampled, held_up_by, unfinished_at};
+ghost use Rattle.reading_core.specs.Addresses.{AreAddresses, addresses_of};
+ghost use Rattle.reading_core.specs.Reader.{begun_in};
+ghost use Rattle.sample_looks.specs.Samples.{AreSamples};
 
 use crate::first_life::FirstLife;
 use crate::load_end::LoadEnd;
@@ -13,9 +14,9 @@ use host_devices::{Line, Unwatched};
 use load_engine::Stop;
 use looking_engine::Stop as ReadingStop;
 use reading_core::{End as ReadingEnd, ReadingCore};
-use sample_looks::{Finding, look_at_samples, reader_of, samples_of};
+use sample_looks::{Finding, MOST_SAMPLES, look_at_samples, place_of_sample};
 use std::alloc::{AllocError, Global};
-use tape_image::Word;
+use tape_image::{Plan, Word};
 
 /// What the looks of a load came to.
 #[derive(Clone, Copy, Debug, PartialEq, Eq)]
@@ -59,23 +60,89 @@ fn unfinished(stop: ReadingStop<ReadingEnd>) -> Option<LoadEnd>
     Some(LoadEnd::Unfinished(stop))
 }
 
-/// Samples of the words that the record of a life has, and the host that is to look at them. The one error is
-/// want of memory; `look` takes none.
-pub(crate) fn sampled(
-    alloc: Global,
-    first: &FirstLife,
-) -> Result<(Vec<Word>, ReadingCore), AllocError>
-    ensures { IfOk result (λ sampled. IsSampled first.now sampled.0.items sampled.1) }
-{
-    let samples = samples_of(alloc, first.plan(), first.verified() as usize)?;
-    let reader = reader_of(alloc, &samples, first.patience())?;
-    Ok((samples, reader))
+/// Room for the looks of a load, which take no memory then.
+#[derive(Drop)]
+pub(crate) struct LooksRoom {
+    pub(crate) samples: Vec<Word>,
+    pub(crate) addresses: Vec<u16>,
+    pub(crate) numbers: Vec<u16>,
 }
 
-/// Looks at words, over a line, and changes none. Nobody looks on: what is done is no word of the load.
-pub(crate) fn look<L: Line>(samples: &[Word], reader: ReadingCore, line: &mut L) -> Looks
-    requires { reader ≡ begun (addresses_of samples.now) [] reader.patience }
-    ensures { AreLooksAt samples.now reader.patience result (line_told L.Line line.old ⇒ line_told L.Line line.new) }
+impl LooksRoom {
+    /// Room for the most samples. The one error is want of memory.
+    pub(crate) fn new(alloc: Global) -> Result<LooksRoom, AllocError>
+        ensures { IfOk result IsRoom }
+    {
+        Ok(LooksRoom {
+            samples: Vec::with_capacity(alloc, MOST_SAMPLES)?,
+            addresses: Vec::with_capacity(alloc, MOST_SAMPLES)?,
+            numbers: Vec::with_capacity(alloc, MOST_SAMPLES)?,
+        })
+    }
+
+    // Samples of the words that count as verified in a life, and the host that is to look at them.
+    fn sampled(self, life: &FirstLife) -> (Vec<Word>, ReadingCore)
+        requires { IsRoom self }
+        ensures { IsSampled life.now result.0.items result.1 }
+    {
+        let LooksRoom {
+            samples,
+            addresses,
+            numbers,
+        } = self;
+        let samples = samples_in(samples, life.plan(), life.verified() as usize);
+        let addresses = addresses_in(addresses, &samples);
+        let reader = ReadingCore::in_room(addresses, numbers, life.patience());
+        (samples, reader.with_care(life.care()))
+    }
+}
+
+// Of the first words of a plan, so many, those that are looked at, as `samples_of` of the crate `sample_looks` has them,
+// in room that was made before.
+fn samples_in(room: Vec<Word>, plan: &Plan, count: usize) -> Vec<Word>
+    requires count { count ≤ length plan.now.words }
+    requires empty { room.items ≡ [] }
+    requires ample { 8 ≤ vec_capacity room }
+    ensures spread { AreSamples plan.now.words count result.items }
+    ensures asked { AreAddresses (addresses_of result.items) }
+    ensures few { length result.items ≤ 8 }
+{
+    let mut samples = room;
+    let words = plan.words();
+    let number = count.min(MOST_SAMPLES);
+    for i in 0..number {
+        let _ = samples.push(words[place_of_sample(i, count)]);
+    }
+    samples
+}
+
+// The addresses of these words, in room that was made before.
+fn addresses_in(room: Vec<u16>, samples: &[Word]) -> Vec<u16>
+    requires empty { room.items ≡ [] }
+    requires ample { length samples.now ≤ vec_capacity room }
+    ensures { result.items ≡ addresses_of samples.now }
+{
+    let mut addresses = room;
+    for sample in samples {
+        let _ = addresses.push(sample.address());
+    }
+    addresses
+}
+
+/// Looks at samples of the words that count as verified in a life, over a line, and changes none. Nobody looks on:
+/// what is done is no word of the load.
+pub(crate) fn look<L: Line>(life: &FirstLife, room: LooksRoom, line: &mut L) -> Looks
+    requires { IsRoom room }
+    ensures { AreLooks life.now result (line_told L.Line line.old) (line_told L.Line line.new) }
+{
+    let (samples, reader) = room.sampled(life);
+    look_at(&samples, reader, line)
+}
+
+// Looks at words.
+fn look_at<L: Line>(samples: &[Word], reader: ReadingCore, line: &mut L) -> Looks
+    requires { reader ≡ begun_in reader.manner (addresses_of samples.now) [] reader.patience }
+    ensures { AreLooksAt samples.now reader.manner reader.patience result (line_told L.Line line.old ⇒ line_told L.Line line.new) }
 {
     let looked = look_at_samples(reader, samples, line, &Unwatched);
     Looks {

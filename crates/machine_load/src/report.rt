@@ -5,7 +5,7 @@ ghost use Rattle.host_core.specs.End.{end_name};
 ghost use Rattle.byte_io.specs.Text.{line};
 ghost use Rattle.machine_load.specs.LoadReport.{end_text, load_counts_text, load_report, stop_name};
 ghost use Rattle.machine_load.specs.Looks.{AreFewLooks};
-ghost use Rattle.machine_load.specs.Stubs.{AreFew, counting, with_stubs};
+ghost use Rattle.machine_load.specs.Stubs.{AreFew, counting, sent_by, spent_by, with_stubs};
 
 use crate::load_end::LoadEnd;
 use crate::looks::Looks;
@@ -26,47 +26,47 @@ pub(crate) fn load_report(
     core: &HostCore,
     looks: Option<Looks>,
     stubs: Option<Stubs>,
+    again: Option<Looks>,
     end: LoadEnd,
 ) -> Report
-    requires few { IfSome looks AreFewLooks × IfSome stubs AreFew }
-    ensures { result.items ≡ load_report (counting core.now looks stubs) end }
+    requires few { IfSome looks AreFewLooks × (IfSome stubs AreFew × IfSome again AreFewLooks) }
+    ensures { result.items ≡ load_report (counting core.now looks stubs again) end }
 {
     let mut text = Report::new();
-    push_counts(&mut text, core, looks, stubs);
+    push_counts(&mut text, core, looks, stubs, again);
     push_end(&mut text, end);
     text
 }
 
-fn push_counts(text: &mut Report, core: &HostCore, looks: Option<Looks>, stubs: Option<Stubs>)
+fn push_counts(
+    text: &mut Report,
+    core: &HostCore,
+    looks: Option<Looks>,
+    stubs: Option<Stubs>,
+    again: Option<Looks>,
+)
     requires empty { text.old.items ≡ [] }
-    requires few { IfSome looks AreFewLooks × IfSome stubs AreFew }
-    ensures items { text.new.items ≡ line (load_counts_text (counting core.now looks stubs)) }
+    requires few { IfSome looks AreFewLooks × (IfSome stubs AreFew × IfSome again AreFewLooks) }
+    ensures items { text.new.items ≡ line (load_counts_text (counting core.now looks stubs again)) }
     ensures length { array_vec_len text.new ≤ 107 }
 {
     push_bytes(text, b"sent ");
-    push_decimal(text, sent_in_all(core, looks, stubs));
+    push_decimal(
+        text,
+        sent_with(core, stubs) + sent_by(looks) + sent_by(again),
+    );
     push_bytes(text, b" spent ");
-    push_decimal(text, spent_in_all(core, looks, stubs));
+    push_decimal(
+        text,
+        spent_with(core, stubs) + spent_by(looks) + spent_by(again),
+    );
     push_bytes(text, b" verified ");
     push_decimal(text, core.progress().verified.into());
     push_bytes(text, b" of ");
     push_decimal(text, core.plan().words().len() as u64);
     push_bytes(text, b"\n");
 }
-
-// The characters that were sent, with those of the looks and the stubs.
-fn sent_in_all(core: &HostCore, looks: Option<Looks>, stubs: Option<Stubs>) -> u64
-    requires few { IfSome looks AreFewLooks × IfSome stubs AreFew }
-    ensures { result ≡ (counting core.now looks stubs).sent }
-{
-    let sent = sent_with(core, stubs);
-    match looks {
-        Some(looks) => sent + looks.sent,
-        None => sent,
-    }
-}
-
-// The same, with those of the stubs alone.
+// The characters sent by a host, with those of the stubs.
 fn sent_with(core: &HostCore, stubs: Option<Stubs>) -> u64
     requires { IfSome stubs AreFew }
     ensures sent { result ≡ (with_stubs core.now stubs).sent }
@@ -78,19 +78,19 @@ fn sent_with(core: &HostCore, stubs: Option<Stubs>) -> u64
     }
 }
 
-// The mishaps that were met, with those of the looks and of the stubs' hosts.
-fn spent_in_all(core: &HostCore, looks: Option<Looks>, stubs: Option<Stubs>) -> u64
-    requires few { IfSome looks AreFewLooks × IfSome stubs AreFew }
-    ensures { result ≡ (counting core.now looks stubs).spent }
+// Those that looks sent, where there were some.
+fn sent_by(looks: Option<Looks>) -> u64
+    requires { IfSome looks AreFewLooks }
+    ensures sent { result ≡ sent_by looks }
+    ensures few { result ≤ 2 ^ 40 }
 {
-    let spent = spent_with(core, stubs);
     match looks {
-        Some(looks) => spent + u64::from(looks.spent),
-        None => spent,
+        Some(looks) => looks.sent,
+        None => 0,
     }
 }
 
-// The same, with those of the stubs' hosts alone.
+// The mishaps that a host met, with those of the stubs' hosts.
 fn spent_with(core: &HostCore, stubs: Option<Stubs>) -> u64
     requires { IfSome stubs AreFew }
     ensures spent { result ≡ (with_stubs core.now stubs).spent }
@@ -100,6 +100,17 @@ fn spent_with(core: &HostCore, stubs: Option<Stubs>) -> u64
     match stubs {
         Some(stubs) => spent + stubs.tally.spent,
         None => spent,
+    }
+}
+
+// Those that looks met, where there were some.
+fn spent_by(looks: Option<Looks>) -> u64
+    ensures spent { result ≡ spent_by looks }
+    ensures few { result ≤ 2 ^ 32 }
+{
+    match looks {
+        Some(looks) => looks.spent.into(),
+        None => 0,
     }
 }
 

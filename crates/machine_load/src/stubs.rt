@@ -1,10 +1,10 @@
 //! The stubs of a load.
-ghost use Rattle.std.specs.Prelude.{◌≡◌, None, is_some};
+ghost use Rattle.std.specs.Prelude.{◌≡◌, is_some};
 ghost use Rattle.host_core.specs.Core.{ended};
 ghost use Rattle.host_devices.specs.Devices.{devices_of};
 ghost use Rattle.engine.specs.Keeping.{progress_calls};
 ghost use Rattle.machine_load.specs.Parts.{AreBrought, AreKept, stubs_of};
-ghost use Rattle.machine_load.specs.Stubs.{hindrance};
+ghost use Rattle.machine_load.specs.Stubs.{hindrance, looks_again};
 
 use crate::first_life::FirstLife;
 use host_core::End;
@@ -43,7 +43,7 @@ pub(crate) fn bring_stubs<L: Line, K: Keep, O: Onlooker>(
         alloc,
         first.plan(),
         first.verified(),
-        first.patience(),
+        first.typist(),
         line,
         keeper,
         onlooker,
@@ -64,5 +64,16 @@ pub(crate) fn hindrance(stubs: Option<Stubs>) -> Option<Stop>
         StubStop::LineFailed(fault) => Some(Stop::LineFailed(fault)),
         StubStop::KeepFailed(fault) => Some(Stop::KeepFailed(fault)),
         StubStop::TurnsOver => Some(Stop::TurnsOver),
+    }
+}
+
+/// Whether words are looked at again behind the stubs of a load: where the last of them verified nothing, it may have been
+/// started and have written anywhere, and where they do not hinder the host.
+pub(crate) fn looks_again(stubs: Option<Stubs>) -> bool
+    ensures { result ≡ looks_again stubs }
+{
+    match stubs {
+        Some(it) => hindrance(stubs).is_none() && it.tally.in_vain > 0,
+        None => false,
     }
 }

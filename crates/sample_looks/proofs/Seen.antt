@@ -12,9 +12,9 @@ use Rattle.reading_core.specs.declared.phase.Phase.TheVariants.{Settle, Sync, Ad
 use Rattle.reading_core.specs.declared.phase.End.TheVariants.{GaveUp, NoWord}
 use Rattle.reading_core.specs.Addresses.{addresses_of}
 use Rattle.reading_core.specs.Invariant.{Basis, IsReader, PhaseFits}
-use Rattle.reading_core.specs.Reader.{Reader, begun, ended}
+use Rattle.reading_core.specs.Reader.{Reader, begun_in, ended}
 use Rattle.looking_law.specs.Belief.{IsTrueReading, MayLook}
-use Rattle.looking_law.proofs.Runs.{may_begin}
+use Rattle.looking_law.proofs.Runs.{may_begin_in}
 use Rattle.looking_engine.specs.Belief.{IsBelievableAt, IsBelievableOver}
 use Rattle.looking_engine.specs.Honest.{IsHonest}
 use Rattle.looking_engine.specs.Inquired.{inquiry}
@@ -83,10 +83,10 @@ so_in samples last stop (Stale address) before now keys lost kept are tells (i, 
     )
 so_in samples last stop Unfinished before now keys lost kept are tells found heard = tt
 
-pub so_over : (samples : List WordValue) (first last : Reader) (stop : LookStop) (finding : Finding) (line line' : Option (List Item)) → first ≡ begun (addresses_of samples) [] first.patience → IsReader last →
+pub so_over : (samples : List WordValue) (first last : Reader) (stop : LookStop) (finding : Finding) (line line' : Option (List Item)) → first ≡ begun_in first.manner (addresses_of samples) [] first.patience → IsReader last →
     last.addresses ≡ first.addresses → TellsEnd stop (ended last.phase) → IsFound samples last.values stop finding → IsBelievableOver (inquiry first last (Some stop)) line line' → IsSoOver samples finding line line'
 so_over samples first last stop finding line line' is kept same tells found believed said gained machine now lost ready honest =
-    let may : MayLook first machine = subst (λ r. MayLook r machine) (sym is) (may_begin (addresses_of samples) first.patience machine ready) in
+    let may : MayLook first machine = subst (λ r. MayLook r machine) (sym is) (may_begin_in first.manner (addresses_of samples) first.patience machine ready) in
     let heard = is_true stop first last said machine now lost (believed said gained) may honest in
     record {
       memory = heard.1.same;

@@ -9,7 +9,7 @@ use Rattle.looking_law.specs.Belief.{dialogue}
 -- a host that has just typed the first digit of 001000, and is to look at 001002 then, in a manner
 abbrev pub reading_first : Manner → Reader
 reading_first manner =
-    record { addresses = 0o1000 ∷ 0o1002 ∷ []; manner = manner; values = []; patience = 0; spent = 0; sent = 2; earlier = None; phase = Address 1 }
+    record { addresses = 0o1000 ∷ 0o1002 ∷ []; manner = manner; values = []; patience = 0; spent = 0; foreign = 0; sent = 2; earlier = None; phase = Address 1 }
 
 -- one that looks at each word once
 abbrev pub at_first_word : Reader

@@ -3,9 +3,9 @@ ghost use Rattle.std.specs.Prelude.{◌≡◌, ◌≤◌, [], Some, length, IfOk
 ghost use Rattle.host_devices.specs.Devices.{line_told};
 ghost use Rattle.host_devices.specs.Turns.{most_turns};
 ghost use Rattle.reading_core.specs.Addresses.{AreAddresses, addresses_of};
-ghost use Rattle.reading_core.specs.Bound.{reading_bound};
+ghost use Rattle.reading_core.specs.Bound.{life_bound};
 ghost use Rattle.reading_core.specs.Invariant.{IsReader};
-ghost use Rattle.reading_core.specs.Reader.{begun};
+ghost use Rattle.reading_core.specs.Reader.{begun_in, manner_of};
 ghost use Rattle.looking_engine.specs.Inquired.{IsInquired, inquiry};
 ghost use Rattle.sample_looks.specs.Finding.{IsFound};
 ghost use Rattle.sample_looks.specs.Looked.{IsSoOver};
@@ -13,7 +13,7 @@ ghost use Rattle.sample_looks.specs.Looked.{IsSoOver};
 use crate::finding::{Finding, found};
 use host_devices::{Line, MOST_TURNS, Onlooker};
 use looking_engine::{Stop, inquire};
-use reading_core::{End, ReadingCore};
+use reading_core::{Care, End, ReadingCore};
 use std::alloc::{AllocError, Global};
 use tape_image::Word;
 
@@ -30,11 +30,16 @@ pub struct Looked {
     pub finding: Finding,
 }
 
-/// A host that is to look at these words, and survives `patience` mishaps. The one error is want of
-/// memory; `look_at_samples` takes none.
-pub fn reader_of(alloc: Global, samples: &[Word], patience: u32) -> Result<ReadingCore, AllocError>
+/// A host that is to look at these words, at each so often, and survives `patience` mishaps. The one error
+/// is want of memory; `look_at_samples` takes none.
+pub fn reader_of(
+    alloc: Global,
+    samples: &[Word],
+    care: Care,
+    patience: u32,
+) -> Result<ReadingCore, AllocError>
     requires { AreAddresses (addresses_of samples.now) }
-    ensures begun { IfOk result (λ reader. reader ≡ begun (addresses_of samples.now) [] patience) }
+    ensures begun { IfOk result (λ reader. reader ≡ begun_in (manner_of care []) (addresses_of samples.now) [] patience) }
     ensures kept { IfOk result IsReader }
 {
     let mut addresses = Vec::with_capacity(alloc, samples.len())?;
@@ -42,10 +47,10 @@ pub fn reader_of(alloc: Global, samples: &[Word], patience: u32) -> Result<Readi
         addresses.push(sample.address())?;
     }
     let room = Vec::with_capacity(alloc, samples.len())?;
-    Ok(ReadingCore::in_room(addresses, room, patience))
+    Ok(ReadingCore::in_room(addresses, room, patience).with_care(care))
 }
 
-/// Looks at words of a plan, over a line, for at most 10,000,000 turns, changes none, and says whether
+/// Looks at words of a plan, in any manner, over a line, for at most 10,000,000 turns, changes none, and says whether
 /// they stand. Of a half word only the tape's byte counts. Where a word that was read does not stand,
 /// that is found, however the reading stopped. An onlooker is told of each step.
 pub fn look_at_samples<L: Line, O: Onlooker>(
@@ -54,11 +59,11 @@ pub fn look_at_samples<L: Line, O: Onlooker>(
     line: &mut L,
     onlooker: &O,
 ) -> Looked
-    requires { reader ≡ begun (addresses_of samples.now) [] reader.patience }
+    requires { reader ≡ begun_in reader.manner (addresses_of samples.now) [] reader.patience }
     ensures inquired { IsInquired most_turns (inquiry reader result.reader (Some result.stop)) (line_told L.Line line.old) (line_told L.Line line.new) }
     ensures found { IsFound samples.now result.reader.values result.stop result.finding }
     ensures honest { IsSoOver samples.now result.finding (L.told line.old) (L.told line.new) }
-    ensures bound { result.reader.sent ≤ reading_bound (length samples.now) reader.patience }
+    ensures bound { result.reader.sent ≤ life_bound reader.manner.care (length samples.now) reader.patience }
 {
     let (reader, stop) = inquire(reader, line, MOST_TURNS, onlooker);
     let finding = found(samples, reader.values(), stop);

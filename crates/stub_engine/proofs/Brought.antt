@@ -2,7 +2,7 @@
 use Rattle.std.proofs.Common.{◌≡◌, ℕ, Bool, true, ◌^◌, ◌<◌, ◌≤◌, false, length, List, Option, Some, None, refl, arith, sym, subst, ◌∙◌}
 use Rattle.tape_image.specs.Plan.{PlanValue}
 use Rattle.tape_image.specs.Word.{WordValue}
-use Rattle.host_core.specs.Core.{Core, begun}
+use Rattle.host_core.specs.Core.{Core}
 use Rattle.host_devices.specs.declared.fault.KeepFault.{KeepFault}
 use Rattle.host_devices.specs.declared.item.Kept.{Kept}
 use Rattle.host_devices.specs.Devices.{Devices, LineTold, devices}
@@ -20,11 +20,12 @@ use Rattle.exchange_core.proofs.Chunks.{chunks_few}
 use Rattle.stub_engine.specs.declared.stop.StubsEnd.{StubsEnd}
 use Rattle.stub_engine.specs.declared.stop.StubsEnd.TheVariants.{InVain}
 use Rattle.stub_engine.specs.declared.tally.Tally.{Tally}
+use Rattle.stub_engine.specs.declared.typist.Typist.{Typist}
 use Rattle.stub_engine.specs.Brought.{AreStubs, IsBringerDriven, IsNextStub}
 use Rattle.stub_engine.specs.Exchanged.{IsCarriedOut}
 use Rattle.stub_engine.specs.Exchanging.{ExchangeStop, exchanging}
 use Rattle.stub_engine.specs.Keeping.{IsKeptBy, IsToldBy, words_kept}
-use Rattle.stub_engine.specs.Parts.{StubsStop, bringing, why_left, why_unstarted}
+use Rattle.stub_engine.specs.Parts.{StubsStop, bringing, typist_of, why_left, why_unstarted}
 use Rattle.stub_engine.specs.Planning.{IsPlannedFor, IsUnplanned}
 use Rattle.stub_engine.specs.Tallies.{duplex_behind, with_counts, with_words}
 use Rattle.stub_engine.proofs.Joins.{brought_join}
@@ -46,11 +47,11 @@ pub kept_nothing : {K : Type 0} (calls : KeeperCalls K Kept) (fault : Option Kee
 kept_nothing {K} calls fault keep words from to none le = subst (λ fault. IsKeptBy calls (keeping (words_kept words from to) fault) keep keep) (sym none) (kept_none calls keep words from to le)
 
 -- no stub was planned
-pub unplanned : (tape : PlanValue) (patience : ℕ) (end : StubsEnd) (tally : Tally) (at : Devices) → IsUnplanned tape tally.verified end → tally.verified ≤ length tape.words → IsNextStub (bringing tape patience (tally, tally) (Some (Ended end))) at at
-unplanned tape patience end tally at un within =
+pub unplanned : (tape : PlanValue) (typist : Typist) (end : StubsEnd) (tally : Tally) (at : Devices) → IsUnplanned tape tally.verified end → tally.verified ≤ length tape.words → IsNextStub (bringing tape typist (tally, tally) (Some (Ended end))) at at
+unplanned tape typist end tally at un within =
     let whole = unplanned_whole end un in record {
       is_one = record {
-        brought = none_brought tape patience (Some (Ended end)) tally at.line.said whole.ends;
+        brought = none_brought tape typist (Some (Ended end)) tally at.line.said whole.ends;
         counted = refl;
         named = tt;
         told = told_begins at.kept tape.words tally.verified tally.verified (omega arith);
@@ -65,13 +66,13 @@ unplanned tape patience end tally at un within =
     }
 
 -- a stub did not start
-pub not_started : (tape : PlanValue) (patience : ℕ) (old new : Tally) (stub : PlanValue) (chunks : List Chunk) (answer : Core × LoadStop) (why : Option StubsStop) (before after : LineTold) (kept : Option (List Kept)) → IsPlannedFor tape old.verified stub chunks → patience < 2 ^ 32 → old.in_vain < 3 → old.verified ≤ length tape.words → why ≡ why_unstarted answer.1 → (why ≡ None → ⊥)
-    → IsBringerDriven (begun stub 0 false patience) answer before after → answer.0.sent ≤ 193274789895 → new ≡ with_words (with_counts old answer.0.sent answer.0.spent) old.verified → IsNextStub (bringing tape patience (old, new) why) (devices before kept) (devices after kept)
-not_started tape patience old new stub chunks answer why before after kept planned patient few within is stops b sent tally =
-    subst (λ why. IsNextStub (bringing tape patience (old, new) why) (devices before kept) (devices after kept)) (sym is)
-    (subst (λ new. IsNextStub (bringing tape patience (old, new) (why_unstarted answer.1)) (devices before kept) (devices after kept)) (sym tally) (record {
+pub not_started : (tape : PlanValue) (typist : Typist) (old new : Tally) (stub : PlanValue) (chunks : List Chunk) (answer : Core × LoadStop) (why : Option StubsStop) (before after : LineTold) (kept : Option (List Kept)) → IsPlannedFor tape old.verified stub chunks → typist.patience < 2 ^ 32 → old.in_vain < 3 → old.verified ≤ length tape.words → why ≡ why_unstarted answer.1 → (why ≡ None → ⊥)
+    → IsBringerDriven (typist_of stub typist) answer before after → answer.0.sent ≤ 193274789895 → new ≡ with_words (with_counts old answer.0.sent answer.0.spent) old.verified → IsNextStub (bringing tape typist (old, new) why) (devices before kept) (devices after kept)
+not_started tape typist old new stub chunks answer why before after kept planned patient few within is stops b sent tally =
+    subst (λ why. IsNextStub (bringing tape typist (old, new) why) (devices before kept) (devices after kept)) (sym is)
+    (subst (λ new. IsNextStub (bringing tape typist (old, new) (why_unstarted answer.1)) (devices before kept) (devices after kept)) (sym tally) (record {
       is_one = record {
-        brought = unstarted tape patience answer.1 old stub chunks answer.0 (session_told before.said None) (session_told after.said None) planned patient few b.driven.end b.driven.session;
+        brought = unstarted tape typist answer.1 old stub chunks answer.0 (session_told before.said None) (session_told after.said None) planned patient few b.driven.end b.driven.session;
         counted = subst (λ fault. CountsFault fault before.failures after.failures) (sym (line_unstarted answer.1)) b.driven.counted;
         named = subst (λ fault. IsLastFault fault after.fault) (sym (line_unstarted answer.1)) b.driven.named;
         told = told_nothing (keep_fault (why_unstarted answer.1)) kept tape.words old.verified old.verified (keep_unstarted answer.1 b.no_keeper) (omega arith);
@@ -86,16 +87,16 @@ not_started tape patience old new stub chunks answer why before after kept plann
     }))
 
 -- a stub started, and an exchange followed
-pub started : (tape : PlanValue) (patience : ℕ) (old new : Tally) (stub : PlanValue) (chunks : List Chunk) (answer : Core × LoadStop) (state : Exchange) (left : ExchangeStop) (why : Option StubsStop) (before between after : LineTold) (kept kept' : Option (List Kept)) → IsPlannedFor tape old.verified stub chunks → patience < 2 ^ 32 → old.in_vain < 3
-    → why_unstarted answer.1 ≡ None → why ≡ why_left left → IsBringerDriven (begun stub 0 false patience) answer before between → IsCarriedOut most_turns (exchanging tape chunks (exchange_begun old.verified (duplex_behind old.in_vain), state) (Some left)) (devices between kept) (devices after kept')
-    → answer.0.sent ≤ 193274789895 → new ≡ with_words (with_counts (with_counts old answer.0.sent answer.0.spent) state.sent 0) state.verified → IsNextStub (bringing tape patience (old, new) why) (devices before kept) (devices after kept')
-started tape patience old new stub chunks answer state left why before between after kept kept' planned patient few follows is b led sent tally =
+pub started : (tape : PlanValue) (typist : Typist) (old new : Tally) (stub : PlanValue) (chunks : List Chunk) (answer : Core × LoadStop) (state : Exchange) (left : ExchangeStop) (why : Option StubsStop) (before between after : LineTold) (kept kept' : Option (List Kept)) → IsPlannedFor tape old.verified stub chunks → typist.patience < 2 ^ 32 → old.in_vain < 3
+    → why_unstarted answer.1 ≡ None → why ≡ why_left left → IsBringerDriven (typist_of stub typist) answer before between → IsCarriedOut most_turns (exchanging tape chunks (exchange_begun old.verified (duplex_behind old.in_vain), state) (Some left)) (devices between kept) (devices after kept')
+    → answer.0.sent ≤ 193274789895 → new ≡ with_words (with_counts (with_counts old answer.0.sent answer.0.spent) state.sent 0) state.verified → IsNextStub (bringing tape typist (old, new) why) (devices before kept) (devices after kept')
+started tape typist old new stub chunks answer state left why before between after kept kept' planned patient few follows is b led sent tally =
     let far = comes tape old.verified (duplex_behind old.in_vain) stub chunks left state (devices between kept) (devices after kept') planned led in
     let here : between.failures ≡ before.failures = started_counts answer.1 before.failures between.failures follows b.driven.counted in
-    subst (λ why. IsNextStub (bringing tape patience (old, new) why) (devices before kept) (devices after kept')) (sym is)
-    (subst (λ new. IsNextStub (bringing tape patience (old, new) (why_left left)) (devices before kept) (devices after kept')) (sym tally) (record {
+    subst (λ why. IsNextStub (bringing tape typist (old, new) why) (devices before kept) (devices after kept')) (sym is)
+    (subst (λ new. IsNextStub (bringing tape typist (old, new) (why_left left)) (devices before kept) (devices after kept')) (sym tally) (record {
       is_one = record {
-        brought = exchanged tape patience answer.1 left old stub chunks answer.0 state (session_told before.said None) None (devices between kept) (devices after kept') planned patient few follows b.driven.end b.driven.session led;
+        brought = exchanged tape typist answer.1 left old stub chunks answer.0 state (session_told before.said None) None (devices between kept) (devices after kept') planned patient few follows b.driven.end b.driven.session led;
         counted = subst (λ fault. CountsFault fault before.failures after.failures) (sym (line_left left (why_left left) refl)) (subst (λ n. CountsFault (line_fault (Some left)) n after.failures) here led.counted);
         named = subst (λ fault. IsLastFault fault after.fault) (sym (line_left left (why_left left) refl)) led.named;
         told = subst (λ fault. IsToldBy (keeping (words_kept tape.words old.verified state.verified) fault) kept kept') (sym (keep_left left (why_left left) refl)) (told_of (keep_fault (Some left)) (words_kept tape.words old.verified state.verified) led.session.given led.session.kept kept kept' led.given led.session.news led.session.at_keeper);
@@ -112,9 +113,9 @@ started tape patience old new stub chunks answer state left why before between a
 -- ---- one after another
 
 -- none yet
-pub no_stubs : (tape : PlanValue) (patience : ℕ) (tally : Tally) (at : Devices) → tally.verified ≤ length tape.words → AreStubs (bringing tape patience (tally, tally) None) at at
-no_stubs tape patience tally at within = record {
-  brought = none_brought tape patience None tally at.line.said tt;
+pub no_stubs : (tape : PlanValue) (typist : Typist) (tally : Tally) (at : Devices) → tally.verified ≤ length tape.words → AreStubs (bringing tape typist (tally, tally) None) at at
+no_stubs tape typist tally at within = record {
+  brought = none_brought tape typist None tally at.line.said tt;
   counted = refl;
   named = tt;
   told = told_begins at.kept tape.words tally.verified tally.verified (omega arith);
@@ -123,9 +124,9 @@ no_stubs tape patience tally at within = record {
   in_vain = tt;
 }
 
-pub stubs_join : (tape : PlanValue) (patience : ℕ) (stop : Option StubsStop) (a b c : Tally) (before middle after : Devices) → AreStubs (bringing tape patience (a, b) None) before middle → AreStubs (bringing tape patience (b, c) stop) middle after → AreStubs (bringing tape patience (a, c) stop) before after
-stubs_join tape patience stop a b c before middle after s t = record {
-  brought = brought_join tape patience stop a b c before.line.said middle.line.said after.line.said s.brought t.brought;
+pub stubs_join : (tape : PlanValue) (typist : Typist) (stop : Option StubsStop) (a b c : Tally) (before middle after : Devices) → AreStubs (bringing tape typist (a, b) None) before middle → AreStubs (bringing tape typist (b, c) stop) middle after → AreStubs (bringing tape typist (a, c) stop) before after
+stubs_join tape typist stop a b c before middle after s t = record {
+  brought = brought_join tape typist stop a b c before.line.said middle.line.said after.line.said s.brought t.brought;
   counted = subst (λ n. CountsFault (line_fault stop) n after.line.failures) s.counted t.counted;
   named = t.named;
   told = told_then (keep_fault stop) before.kept middle.kept after.kept tape.words a.verified b.verified c.verified s.grows t.grows s.told t.told;
@@ -135,8 +136,8 @@ stubs_join tape patience stop a b c before middle after s t = record {
 }
 
 -- three were in vain
-pub all_in_vain : (tape : PlanValue) (patience : ℕ) (old new : Tally) (before after : Devices) → new.in_vain ≡ 3 → AreStubs (bringing tape patience (old, new) None) before after → AreStubs (bringing tape patience (old, new) (Some (Ended InVain))) before after
-all_in_vain tape patience old new before after vain s = record {
+pub all_in_vain : (tape : PlanValue) (typist : Typist) (old new : Tally) (before after : Devices) → new.in_vain ≡ 3 → AreStubs (bringing tape typist (old, new) None) before after → AreStubs (bringing tape typist (old, new) (Some (Ended InVain))) before after
+all_in_vain tape typist old new before after vain s = record {
   brought = record {
     parts = s.brought.parts;
     are_parts = s.brought.are_parts;

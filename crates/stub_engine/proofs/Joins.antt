@@ -11,6 +11,7 @@ use Rattle.load_lives.specs.StubParts.{AreStubParts, StubPart, bringer, exchange
 use Rattle.engine.specs.declared.stop.Stop.TheVariants.{Ended, TurnsOver, LineFailed, KeepFailed}
 use Rattle.stub_engine.specs.declared.stop.StubsEnd.TheVariants.{TooFewWords, NoRoom, InVain, NotStarted, Memory}
 use Rattle.stub_engine.specs.declared.tally.Tally.{Tally}
+use Rattle.stub_engine.specs.declared.typist.Typist.{Typist}
 use Rattle.stub_engine.specs.Parts.{AllStart, AreBroughtIn, AreFollowed, AreWorth, StubsStop, TellsEnd, bringing, in_vain_after, in_vain_by, sent_by, sent_in, spent_by}
 
 verified_join : (tape : PlanValue) (v : ℕ) (parts more : List StubPart) → verified_by tape v (parts ++ more) ≡ verified_by tape (verified_by tape v parts) more
@@ -25,9 +26,9 @@ vain_join : (tape : PlanValue) (v n : ℕ) (parts more : List StubPart) → in_v
 vain_join tape v n [] more = refl
 vain_join tape v n (part ∷ parts) more = vain_join tape (verified_after tape v part) (in_vain_after tape v n part) parts more
 
-worth_join : (patience : ℕ) (tape : PlanValue) (v n : ℕ) (parts more : List StubPart) → AreWorth patience tape v n parts → AreWorth patience tape (verified_by tape v parts) (in_vain_by tape v n parts) more → AreWorth patience tape v n (parts ++ more)
-worth_join patience tape v n [] more first rest = rest
-worth_join patience tape v n (part ∷ parts) more first rest = (first.0, worth_join patience tape (verified_after tape v part) (in_vain_after tape v n part) parts more first.1 rest)
+worth_join : (typist : Typist) (tape : PlanValue) (v n : ℕ) (parts more : List StubPart) → AreWorth typist tape v n parts → AreWorth typist tape (verified_by tape v parts) (in_vain_by tape v n parts) more → AreWorth typist tape v n (parts ++ more)
+worth_join typist tape v n [] more first rest = rest
+worth_join typist tape v n (part ∷ parts) more first rest = (first.0, worth_join typist tape (verified_after tape v part) (in_vain_after tape v n part) parts more first.1 rest)
 
 follow_join : (parts more : List StubPart) → AllStart parts → AreFollowed more → AreFollowed (parts ++ more)
 follow_join [] more start rest = rest
@@ -81,15 +82,15 @@ spent_join (part ∷ parts) more = by (led (bringer part) part.brought).spent (s
 sums : (a b c first rest all : ℕ) → b ≡ a + first → c ≡ b + rest → all ≡ first + rest → c ≡ a + all
 sums a b c first rest all one two e = omega (arith, one, two, e)
 
-pub brought_join : (tape : PlanValue) (patience : ℕ) (stop : Option StubsStop) (a b c : Tally) (line line' line'' : Option (List Item)) → AreBroughtIn (bringing tape patience (a, b) None) line line' → AreBroughtIn (bringing tape patience (b, c) stop) line' line'' → AreBroughtIn (bringing tape patience (a, c) stop) line line''
-brought_join tape patience stop a b c line line' line'' s t =
+pub brought_join : (tape : PlanValue) (typist : Typist) (stop : Option StubsStop) (a b c : Tally) (line line' line'' : Option (List Item)) → AreBroughtIn (bringing tape typist (a, b) None) line line' → AreBroughtIn (bringing tape typist (b, c) stop) line' line'' → AreBroughtIn (bringing tape typist (a, c) stop) line line''
+brought_join tape typist stop a b c line line' line'' s t =
     let parts : List StubPart = s.parts ++ t.parts in
     let front : stubs_said tape a.verified s.parts ≡ s.said = s.items ∙ (ap (λ keys. s.said ++ said_all keys) (s.all_sent refl refl) ∙ append-nil s.said) in
     let here = s.verified in record {
       parts = s.parts ++ t.parts;
       are_parts = stubs_join tape a.verified s.parts t.parts s.are_parts (subst (λ v. AreStubParts stub_program tape v t.parts) here t.are_parts);
-      worth = worth_join patience tape a.verified a.in_vain s.parts t.parts s.worth
-          (subst (λ v. AreWorth patience tape v (in_vain_by tape a.verified a.in_vain s.parts) t.parts) here (subst (λ n. AreWorth patience tape b.verified n t.parts) s.in_vain t.worth));
+      worth = worth_join typist tape a.verified a.in_vain s.parts t.parts s.worth
+          (subst (λ v. AreWorth typist tape v (in_vain_by tape a.verified a.in_vain s.parts) t.parts) here (subst (λ n. AreWorth typist tape b.verified n t.parts) s.in_vain t.worth));
       followed = follow_join s.parts t.parts (s.all_start refl) t.followed;
       all_start = λ none. start_join s.parts t.parts (s.all_start refl) (t.all_start none);
       ends = ends_join stop s.parts t.parts t.ends;

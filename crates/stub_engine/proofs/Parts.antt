@@ -8,7 +8,7 @@ use Rattle.host_core.specs.declared.phase.End.{End}
 use Rattle.host_core.specs.declared.phase.End.TheVariants.{Loaded, Started, Uncertain, MaybeStarted, GaveUp, NoWord, WontHold}
 use Rattle.host_core.specs.declared.phase.Phase.{Phase}
 use Rattle.host_core.specs.declared.phase.Phase.TheVariants.{Settle, Sync, Address, Slash, Before, Value, Deposit, Return, Start, Go, Ended as PhaseEnded}
-use Rattle.host_core.specs.Core.{Core, begun, ended}
+use Rattle.host_core.specs.Core.{Core, ended}
 use Rattle.host_core.specs.Laws.{led}
 use Rattle.host_devices.specs.declared.item.Item.{Item}
 use Rattle.host_devices.specs.declared.item.Kept.{Kept}
@@ -35,7 +35,8 @@ use Rattle.exchange_law.specs.Start.{program as stub_program}
 use Rattle.load_lives.specs.StubParts.{IsStubFor, StubPart, bringer, is_started, starts, verified_after, exchange_said}
 use Rattle.load_lives.proofs.Planning.{planned_stubs}
 use Rattle.stub_engine.specs.declared.tally.Tally.{Tally}
-use Rattle.stub_engine.specs.Parts.{AreBroughtIn, IsWorth, StubsStop, bringing, TellsEnd as EndsSo, why_ended, why_left, why_unstarted}
+use Rattle.stub_engine.specs.declared.typist.Typist.{Typist}
+use Rattle.stub_engine.specs.Parts.{AreBroughtIn, IsTypedBy, IsWorth, StubsStop, bringing, TellsEnd as EndsSo, typist_of, why_ended, why_left, why_unstarted}
 use Rattle.stub_engine.specs.Planning.{IsPlannedFor}
 use Rattle.stub_engine.specs.Tallies.{IsOneMore, duplex_behind, with_counts, with_words}
 use Rattle.stub_engine.proofs.Stops.{is_some}
@@ -45,8 +46,8 @@ same_if {A} true a = refl
 same_if {A} false a = refl
 
 -- no stub at all
-pub none_brought : (tape : PlanValue) (patience : ℕ) (stop : Option StubsStop) (tally : Tally) (line : Option (List Item)) → EndsSo stop [] → AreBroughtIn (bringing tape patience (tally, tally) stop) line line
-none_brought tape patience stop tally line ends = record {
+pub none_brought : (tape : PlanValue) (typist : Typist) (stop : Option StubsStop) (tally : Tally) (line : Option (List Item)) → EndsSo stop [] → AreBroughtIn (bringing tape typist (tally, tally) stop) line line
+none_brought tape typist stop tally line ends = record {
   parts = [];
   are_parts = tt;
   worth = tt;
@@ -67,8 +68,8 @@ none_brought tape patience stop tally line ends = record {
 for_stub : (tape : PlanValue) (from : ℕ) (stub : PlanValue) (chunks : List Chunk) → IsPlannedFor tape from stub chunks → IsStubFor stub_program tape from stub chunks
 for_stub tape from stub chunks p = planned_stubs tape from p.window chunks p.stretches stub p.planned
 
-is_worth : (tape : PlanValue) (from n : ℕ) (part : StubPart) → IsPlannedFor tape from part.stub part.chunks → n < 3 → part.duplex ≡ duplex_behind n → IsWorth part.patience from n part
-is_worth tape from n part p few duplex = record { patient = refl; few = few; duplex = duplex; words = (let all = p.planned.chunks_are.all in let worth = p.worth in omega (arith, all, worth)) }
+is_worth : (tape : PlanValue) (typist : Typist) (from n : ℕ) (part : StubPart) → IsPlannedFor tape from part.stub part.chunks → n < 3 → IsTypedBy typist part → part.duplex ≡ duplex_behind n → IsWorth typist from n part
+is_worth tape typist from n part p few typed duplex = record { typed = typed; few = few; duplex = duplex; words = (let all = p.planned.chunks_are.all in let worth = p.worth in omega (arith, all, worth)) }
 
 -- ---- what was said, up to what was not sent
 
@@ -148,45 +149,45 @@ seen stop core follows tells =
 sum_of : (old a b z : ℕ) → a ≡ b → z ≡ 0 → old + a ≡ old + (b + z + 0)
 sum_of old a b z e none = omega (arith, e, none)
 
-pub unstarted : (tape : PlanValue) (patience : ℕ) (stop : LoadStop) (old : Tally) (stub : PlanValue) (chunks : List Chunk) (core : Core) (before after : SessionTold Kept) → IsPlannedFor tape old.verified stub chunks → patience < 2 ^ 32 → old.in_vain < 3 → TellsEnd stop (ended core.phase) →
-    LoadSession most_turns (driving (begun stub 0 false patience) core (Some stop)) before after → AreBroughtIn (bringing tape patience (old, with_words (with_counts old core.sent core.spent) old.verified) (why_unstarted stop)) before.said after.said
-unstarted tape patience stop old stub chunks core before after planned patient few tells s =
-    let part : StubPart = record { stub = stub; chunks = chunks; patience = patience; duplex = duplex_behind old.in_vain; brought = s.heard; exchanged = [] } in
-    let turns = driving (begun stub 0 false patience) core (Some stop) in
+pub unstarted : (tape : PlanValue) (typist : Typist) (stop : LoadStop) (old : Tally) (stub : PlanValue) (chunks : List Chunk) (core : Core) (before after : SessionTold Kept) → IsPlannedFor tape old.verified stub chunks → typist.patience < 2 ^ 32 → old.in_vain < 3 → TellsEnd stop (ended core.phase) →
+    LoadSession most_turns (driving (typist_of stub typist) core (Some stop)) before after → AreBroughtIn (bringing tape typist (old, with_words (with_counts old core.sent core.spent) old.verified) (why_unstarted stop)) before.said after.said
+unstarted tape typist stop old stub chunks core before after planned patient few tells s =
+    let part : StubPart = record { stub = stub; chunks = chunks; careful = typist.careful; patience = typist.patience; duplex = duplex_behind old.in_vain; brought = s.heard; exchanged = [] } in
+    let turns = driving (typist_of stub typist) core (Some stop) in
     let at = core_is most_turns turns before after s in
-    let front = brought_front stop (dialogue (begun stub 0 false patience) s.heard) s.said (session_said most_turns turns before after s) in
+    let front = brought_front stop (dialogue (typist_of stub typist) s.heard) s.said (session_said most_turns turns before after s) in
     let after : verified_after tape old.verified part ≡ old.verified = same_if (starts part) old.verified in
     let silent : exchange_said tape old.verified part ≡ [] = same_if (starts part) [] in record {
       parts = part ∷ [];
       are_parts = (for_stub tape old.verified stub chunks planned, patient, tt);
-      worth = (is_worth tape old.verified old.in_vain part planned few refl, tt);
+      worth = (is_worth tape typist old.verified old.in_vain part planned few (refl, refl) refl, tt);
       followed = (inl refl, tt);
       all_start = λ none. (ap (λ (c : Core). is_started c.phase) (sym at) ∙ seen stop core none tells, tt);
       ends = ends_so stop part (subst (λ (c : Core). TellsEnd stop (ended c.phase)) at tells);
       said = s.said;
       unsent = front.unsent;
-      items = ap (λ rest. dialogue (begun stub 0 false patience) s.heard ++ (rest ++ [])) silent ∙ (append-nil (dialogue (begun stub 0 false patience) s.heard) ∙ front.is);
+      items = ap (λ rest. dialogue (typist_of stub typist) s.heard ++ (rest ++ [])) silent ∙ (append-nil (dialogue (typist_of stub typist) s.heard) ∙ front.is);
       all_sent = front.whole;
       on_line = s.on_line;
       verified = sym after;
-      sent = sum_of old.sent core.sent (led (begun stub 0 false patience) s.heard).sent _ (ap (λ (c : Core). c.sent) at) (same_if (starts part) 0);
-      spent = ap (λ n. old.spent + n) (ap (λ (c : Core). c.spent) at ∙ (let none : (n : ℕ) → n ≡ n + 0 = λ n. omega arith in none (led (begun stub 0 false patience) s.heard).spent));
+      sent = sum_of old.sent core.sent (led (typist_of stub typist) s.heard).sent _ (ap (λ (c : Core). c.sent) at) (same_if (starts part) 0);
+      spent = ap (λ n. old.spent + n) (ap (λ (c : Core). c.spent) at ∙ (let none : (n : ℕ) → n ≡ n + 0 = λ n. omega arith in none (led (typist_of stub typist) s.heard).spent));
       in_vain = ap (λ n. if n == old.verified then old.in_vain + 1 else 0) (sym after);
     }
 
 -- ---- a stub that started
 
-pub exchanged : (tape : PlanValue) (patience : ℕ) (stop : LoadStop) (left : ExchangeStop) (old : Tally) (stub : PlanValue) (chunks : List Chunk) (core : Core) (state : Exchange) (before : SessionTold Kept) (kept : Option (List Kept)) (at after : Devices) →
-    IsPlannedFor tape old.verified stub chunks → patience < 2 ^ 32 → old.in_vain < 3 → why_unstarted stop ≡ None → TellsEnd stop (ended core.phase) → LoadSession most_turns (driving (begun stub 0 false patience) core (Some stop)) before (session_told at.line.said kept) →
+pub exchanged : (tape : PlanValue) (typist : Typist) (stop : LoadStop) (left : ExchangeStop) (old : Tally) (stub : PlanValue) (chunks : List Chunk) (core : Core) (state : Exchange) (before : SessionTold Kept) (kept : Option (List Kept)) (at after : Devices) →
+    IsPlannedFor tape old.verified stub chunks → typist.patience < 2 ^ 32 → old.in_vain < 3 → why_unstarted stop ≡ None → TellsEnd stop (ended core.phase) → LoadSession most_turns (driving (typist_of stub typist) core (Some stop)) before (session_told at.line.said kept) →
     IsCarriedOut most_turns (exchanging tape chunks (exchange_begun old.verified (duplex_behind old.in_vain), state) (Some left)) at after →
-    AreBroughtIn (bringing tape patience (old, with_words (with_counts (with_counts old core.sent core.spent) state.sent 0) state.verified) (why_left left)) before.said after.line.said
-exchanged tape patience stop left old stub chunks core state before kept at after planned patient few follows tells s x =
-    let part : StubPart = record { stub = stub; chunks = chunks; patience = patience; duplex = duplex_behind old.in_vain; brought = s.heard; exchanged = x.session.heard } in
-    let first : Core = led (begun stub 0 false patience) s.heard in
+    AreBroughtIn (bringing tape typist (old, with_words (with_counts (with_counts old core.sent core.spent) state.sent 0) state.verified) (why_left left)) before.said after.line.said
+exchanged tape typist stop left old stub chunks core state before kept at after planned patient few follows tells s x =
+    let part : StubPart = record { stub = stub; chunks = chunks; careful = typist.careful; patience = typist.patience; duplex = duplex_behind old.in_vain; brought = s.heard; exchanged = x.session.heard } in
+    let first : Core = led (typist_of stub typist) s.heard in
     let now : Exchange = exchange_led tape.image chunks (exchange_begun old.verified (duplex_behind old.in_vain)) x.session.heard in
-    let talk : List Item = dialogue (begun stub 0 false patience) s.heard in
+    let talk : List Item = dialogue (typist_of stub typist) s.heard in
     let more : List Item = exchange_dialogue tape.image chunks (exchange_begun old.verified (duplex_behind old.in_vain)) x.session.heard in
-    let turns = driving (begun stub 0 false patience) core (Some stop) in
+    let turns = driving (typist_of stub typist) core (Some stop) in
     let now_is = core_is most_turns turns before (session_told at.line.said kept) s in
     let started : starts part ≡ true = ap (λ (c : Core). is_started c.phase) (sym now_is) ∙ seen stop core follows tells in
     let typed = brought_front stop talk s.said (session_said most_turns turns before (session_told at.line.said kept) s) in
@@ -197,7 +198,7 @@ exchanged tape patience stop left old stub chunks core state before kept at afte
     let keys : state.sent ≡ (if starts part then now.sent else 0) = ap (λ (e : Exchange). e.sent) x.exchange ∙ ap (λ test. if test then now.sent else 0) (sym started) in record {
       parts = part ∷ [];
       are_parts = (for_stub tape old.verified stub chunks planned, patient, tt);
-      worth = (is_worth tape old.verified old.in_vain part planned few refl, tt);
+      worth = (is_worth tape typist old.verified old.in_vain part planned few (refl, refl) refl, tt);
       followed = (inl refl, tt);
       all_start = λ none. (started, tt);
       ends = left_ends left (part ∷ []);

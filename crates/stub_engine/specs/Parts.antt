@@ -1,9 +1,9 @@
 -- The stubs' parts of a load, as an engine does them one after another.
-use Rattle.std.specs.Prelude.{◌≡◌, ℕ, ◌+◌, ◌<◌, ◌≤◌, ◌⊎◌, ◌==◌, true, if◌then◌else◌, List, [], ◌∷◌, ◌++◌, length, Option, Some, None, ⊤}
+use Rattle.std.specs.Prelude.{◌≡◌, ℕ, ◌+◌, ◌<◌, ◌≤◌, ◌⊎◌, ◌==◌, true, false, if◌then◌else◌, List, [], ◌∷◌, ◌++◌, length, Option, Some, None, ⊤}
 use Rattle.tape_image.specs.Plan.{PlanValue}
 use Rattle.host_core.specs.declared.phase.End.{End}
 use Rattle.host_core.specs.declared.phase.End.TheVariants.{Started}
-use Rattle.host_core.specs.Core.{ended}
+use Rattle.host_core.specs.Core.{Core, begun_by, ended}
 use Rattle.host_core.specs.Laws.{led}
 use Rattle.host_devices.specs.declared.item.Item.{Item}
 use Rattle.host_devices.specs.Told.{Gains}
@@ -19,6 +19,7 @@ use Rattle.load_lives.specs.StubParts.{AreStubParts, StubPart, bringer, starts, 
 use Rattle.stub_engine.specs.declared.stop.StubsEnd.{StubsEnd}
 use Rattle.stub_engine.specs.declared.stop.StubsEnd.TheVariants.{NotStarted}
 use Rattle.stub_engine.specs.declared.tally.Tally.{Tally}
+use Rattle.stub_engine.specs.declared.typist.Typist.{Typist}
 use Rattle.stub_engine.specs.Exchanging.{ExchangeStop}
 use Rattle.stub_engine.specs.Planning.{least_gain}
 use Rattle.stub_engine.specs.Tallies.{duplex_behind}
@@ -31,6 +32,14 @@ StubsStop = Stop StubsEnd
 abbrev pub most_in_vain : ℕ
 most_in_vain = 3
 
+-- the host that types a stub, at its beginning
+abbrev pub typist_of : PlanValue → Typist → Core
+typist_of stub typist = begun_by typist.careful stub 0 false typist.patience
+
+-- it is the one that brings in this part's stub
+abbrev pub IsTypedBy : Typist → StubPart → Type 0
+IsTypedBy typist part = (part.careful ≡ typist.careful) × (part.patience ≡ typist.patience)
+
 -- how many stubs in a row verified nothing, behind one more
 abbrev pub in_vain_after : PlanValue → ℕ → ℕ → StubPart → ℕ
 in_vain_after tape v n part = if verified_after tape v part == v then n + 1 else 0
@@ -39,17 +48,17 @@ abbrev pub in_vain_by : PlanValue → ℕ → ℕ → List StubPart → ℕ
 in_vain_by tape v n [] = n
 in_vain_by tape v n (part ∷ more) = in_vain_by tape (verified_after tape v part) (in_vain_after tape v n part) more
 
--- a stub is brought in only by a host of this patience, where fewer than three in a row before it verified nothing, and where it may gain 256 words; and
+-- a stub is brought in only by this typist, where fewer than three in a row before it verified nothing, and where it may gain 256 words; and
 -- where the one before it verified nothing the exchange with it goes one way at a time
-pub record IsWorth (patience v n : ℕ) (part : StubPart) : Type 0 where
-  pub patient : part.patience ≡ patience
+pub record IsWorth (typist : Typist) (v n : ℕ) (part : StubPart) : Type 0 where
+  pub typed : IsTypedBy typist part
   pub few : n < most_in_vain
   pub duplex : part.duplex ≡ duplex_behind n
   pub words : v + least_gain ≤ words_behind v part.chunks (length part.chunks)
 
-abbrev pub AreWorth : ℕ → PlanValue → ℕ → ℕ → List StubPart → Type 0
-AreWorth patience tape v n [] = ⊤
-AreWorth patience tape v n (part ∷ more) = IsWorth patience v n part × AreWorth patience tape (verified_after tape v part) (in_vain_after tape v n part) more
+abbrev pub AreWorth : Typist → PlanValue → ℕ → ℕ → List StubPart → Type 0
+AreWorth typist tape v n [] = ⊤
+AreWorth typist tape v n (part ∷ more) = IsWorth typist v n part × AreWorth typist tape (verified_after tape v part) (in_vain_after tape v n part) more
 
 -- each of these stubs was seen to start
 abbrev pub AllStart : List StubPart → Type 0
@@ -107,23 +116,23 @@ why_left (LineFailed fault) = Some (LineFailed fault)
 why_left (KeepFailed fault) = Some (KeepFailed fault)
 why_left TurnsOver = Some TurnsOver
 
--- stubs that are brought in one after another: for this plan, by hosts of this patience, from one tally to another, and how that stopped (None: another
+-- stubs that are brought in one after another: for this plan, by this typist, from one tally to another, and how that stopped (None: another
 -- may follow)
 pub record Bringing : Type 0 where
   pub plan : PlanValue
-  pub patience : ℕ
+  pub typist : Typist
   pub old : Tally
   pub new : Tally
   pub stop : Option StubsStop
 
-abbrev pub bringing : PlanValue → ℕ → Tally × Tally → Option StubsStop → Bringing
-bringing plan patience tallies stop = record { plan = plan; patience = patience; old = tallies.0; new = tallies.1; stop = stop }
+abbrev pub bringing : PlanValue → Typist → Tally × Tally → Option StubsStop → Bringing
+bringing plan typist tallies stop = record { plan = plan; typist = typist; old = tallies.0; new = tallies.1; stop = stop }
 
 -- these are stubs' parts of a load, with what the line told before and tells after
 pub record AreBroughtIn (stubs : Bringing) (line line' : Option (List Item)) : Type 0 where
   pub parts : List StubPart
   pub are_parts : AreStubParts stub_program stubs.plan stubs.old.verified parts
-  pub worth : AreWorth stubs.patience stubs.plan stubs.old.verified stubs.old.in_vain parts
+  pub worth : AreWorth stubs.typist stubs.plan stubs.old.verified stubs.old.in_vain parts
   -- none behind one that did not start
   pub followed : AreFollowed parts
   pub all_start : stubs.stop ≡ None → AllStart parts

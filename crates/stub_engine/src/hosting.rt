@@ -78,13 +78,14 @@ impl<'a> Host for ExchangeHost<'a> {
         self.state.end()
     }
 
-    // A step has many keys, so it shows none.
+    // A step has many keys, so it shows none. A stub's answers may be any characters: none of them is foreign.
     fn sight(&self, heard: Heard, step: &Asked) -> Sight {
         Sight {
             heard,
             key: None,
             done: step.after,
             spent: 0,
+            foreign: false,
         }
     }
 }

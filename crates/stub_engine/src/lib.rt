@@ -1,7 +1,7 @@
 //! The engine of a load's stubs: it brings in stub after stub, and exchanges with each.
 //!
-//! `bring_in` plans a stub for the words that are not verified yet, has an ordinary host type it at
-//! its window and start it, and then exchanges with it; and again, while that is worth it. Its contract
+//! `bring_in` plans a stub for the words that are not verified yet, has a loading host, the `Typist`, type it
+//! at its window and start it, and then exchanges with it; and again, while that is worth it. Its contract
 //! says that what it does are the stubs' parts of a load, as the law over loads in a row has them:
 //! what is said, what is kept, and how far it came.
 //!
@@ -18,9 +18,11 @@ mod planning;
 mod stop;
 mod stubs;
 mod tally;
+mod typist;
 mod unkept;
 
 pub use exchanging::{ExchangeStop, exchange};
 pub use stop::{Stop, StubsEnd};
 pub use stubs::bring_in;
 pub use tally::Tally;
+pub use typist::Typist;

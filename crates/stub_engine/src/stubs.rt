@@ -13,6 +13,7 @@ use crate::exchanging::{ExchangeStop, exchange};
 use crate::planning::{PlannedStub, planned_stub};
 use crate::stop::{Stop, StubsEnd};
 use crate::tally::Tally;
+use crate::typist::Typist;
 use host_core::End;
 use host_devices::{Keep, Line, MOST_TURNS, Onlooker};
 use load_engine::Stop as LoadStop;
@@ -25,7 +26,7 @@ const MOST_IN_VAIN: u32 = 3;
 /// Brings in stub after stub behind the plan's first `verified` words, and exchanges with each, until a
 /// stop. How far that came is in the tally.
 ///
-/// A stub is planned for the words that are not verified; a host of so much patience types and starts it,
+/// A stub is planned for the words that are not verified; the typist types and starts it,
 /// of which nothing is kept, and the onlooker is told only that it begins; and in the exchange with it the
 /// words that become verified are kept, and the onlooker is told of each step. Behind a stub that verified
 /// nothing the exchange goes one way at a time. The first failure of a device stops it all, and so does a
@@ -34,19 +35,19 @@ pub fn bring_in<L: Line, K: Keep, O: Onlooker>(
     alloc: Global,
     plan: &Plan,
     verified: u32,
-    patience: u32,
+    typist: Typist,
     line: &mut L,
     keep: &mut K,
     onlooker: &O,
 ) -> (Tally, Stop)
     requires within { verified ≤ length plan.now.words }
-    ensures brought { AreAllStubs (bringing plan.now patience (begun verified, result.0) (Some result.1))
+    ensures brought { AreAllStubs (bringing plan.now typist (begun verified, result.0) (Some result.1))
         (devices_of L.Line K.Keep line.old keep.old) (devices_of L.Line K.Keep line.new keep.new) }
-    ensures kept { IsKeptBy (progress_calls K.Keep) (stubs_give (bringing plan.now patience (begun verified, result.0) (Some result.1))) keep.old keep.new }
+    ensures kept { IsKeptBy (progress_calls K.Keep) (stubs_give (bringing plan.now typist (begun verified, result.0) (Some result.1))) keep.old keep.new }
 {
     let mut tally = Tally::begun(verified);
     while tally.in_vain < MOST_IN_VAIN {
-        if let Err(stop) = part(alloc, plan, patience, &mut tally, line, keep, onlooker) {
+        if let Err(stop) = part(alloc, plan, typist, &mut tally, line, keep, onlooker) {
             return (tally, stop);
         }
     }
@@ -57,7 +58,7 @@ pub fn bring_in<L: Line, K: Keep, O: Onlooker>(
 fn part<L: Line, K: Keep, O: Onlooker>(
     alloc: Global,
     plan: &Plan,
-    patience: u32,
+    typist: Typist,
     tally: &mut Tally,
     line: &mut L,
     keep: &mut K,
@@ -67,9 +68,9 @@ fn part<L: Line, K: Keep, O: Onlooker>(
     requires worth { tally.old.in_vain < most_in_vain }
     requires sent_fits { tally.old.sent ≤ 2 ^ 60 }
     requires spent_fits { tally.old.spent ≤ 2 ^ 60 }
-    ensures brought { IsNextStub (bringing plan.now patience (tally.old, tally.new) (fault_of result))
+    ensures brought { IsNextStub (bringing plan.now typist (tally.old, tally.new) (fault_of result))
         (devices_of L.Line K.Keep line.old keep.old) (devices_of L.Line K.Keep line.new keep.new) }
-    ensures kept { IsKeptBy (progress_calls K.Keep) (stubs_give (bringing plan.now patience (tally.old, tally.new) (fault_of result))) keep.old keep.new }
+    ensures kept { IsKeptBy (progress_calls K.Keep) (stubs_give (bringing plan.now typist (tally.old, tally.new) (fault_of result))) keep.old keep.new }
 {
     let planned = match planned_stub(alloc, plan, tally.verified) {
         Ok(planned) => planned,
@@ -77,7 +78,7 @@ fn part<L: Line, K: Keep, O: Onlooker>(
     };
     let PlannedStub { plan: stub, chunks } = planned;
     onlooker.stub_begins();
-    let (core, stop) = bring(stub, patience, line);
+    let (core, stop) = bring(stub, typist, line);
     let brought = tally.with_counts(core.sent_count(), core.spent());
     if let Some(stop) = why_unstarted(stop) {
         *tally = brought.with_words(tally.verified);

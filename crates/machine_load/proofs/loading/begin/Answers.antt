@@ -2,7 +2,7 @@ use Rattle.std.proofs.Common.{refl, sym, subst, ◌∙◌, inr, [], ◌∷◌}
 use Rattle.host_devices.specs.Devices.{line_told}
 use Rattle.host_devices.specs.Told.{Gains}
 use Rattle.machine_load.specs.Scene.{around_of}
-use Rattle.machine_load.proofs.Faults.{all_stand, behind_looks_fault, looked_first, same_text}
+use Rattle.machine_load.proofs.Faults.{all_stand, behind_looks_fault, same_text}
 use Rattle.machine_load.specs.RecordDisk.{DiskAsked, IsNotBegunOn, begun_text}
 use Rattle.machine_load.proofs.loading.begin.Goals as goal
 
@@ -19,11 +19,12 @@ returns-in-Some-hindrance-clause-begun g c = λ fast. inr (record {
     looks = c.look-looks.result;
     looks_are = refl;
     behind = line_told g.S.Line.Line c.look-looks.new.line;
-    looked = looked_first _ _ _ _ _ _ _ c.in_ok-samples.ensures c.deref.ensures.value c.look-looks.ensures;
+    looked = c.look-looks.ensures;
   };
   held_up = sym c.hindrance.ensures ∙ c.in-Some-hindrance.is;
   core_is = c.host-in-Some-hindrance.ensures ∙ c.behind-first.ensures;
   no_stubs = refl;
+  not_again = refl;
   has_line = refl;
 })
 
@@ -41,29 +42,30 @@ returns-in-Ok-clause-begun g c = λ fast. record {
     looks = c.look-looks.result;
     looks_are = refl;
     behind = line_told g.S.Line.Line c.look-looks.new.line;
-    looked = looked_first _ _ _ _ _ _ _ c.in_ok-samples.ensures c.deref.ensures.value c.look-looks.ensures;
+    looked = c.look-looks.ensures;
   };
-  all_stand = all_stand _ _ _ _ c.look-looks.ensures.found (sym c.hindrance.ensures ∙ c.in_default-hindrance.is);
+  all_stand = all_stand _ _ _ _ c.look-looks.ensures.looked.found (sym c.hindrance.ensures ∙ c.in_default-hindrance.is);
   first_is = c.behind-first.ensures;
   line_is = refl;
   record_begun = c.in-Ok.ensures.step;
   begun_there = rw (c.plan-2.ensures, c.verified-2.ensures.value) at c.in-Ok.ensures.disk;
   begun_so = rw (c.plan-2.ensures, c.verified-2.ensures.value) at c.in-Ok.ensures.keeper;
+  room_is = c.in_ok-room_behind.ensures;
 }
 
-pub returns-clause-fault : goal.returns-clause-fault
-returns-clause-fault g c = rw (c.from.ensures) (behind_looks_fault c.args.first _ (around_of g.S.Surroundings c.connect.new.self) (around_of g.S.Surroundings c.let_go.new.self) _ _
+pub returns-in-Err-clause-fault : goal.returns-in-Err-clause-fault
+returns-in-Err-clause-fault g c = rw (c.from.ensures) (behind_looks_fault c.args.first _ (around_of g.S.Surroundings c.connect.new.self) (around_of g.S.Surroundings c.let_go.new.self) _ _
     c.in-Err.fault c.args.writable c.in-Err.ensures.fault c.if-not-writable.false c.in_ok-line.ensures.step (rw (sym c.let_go.ensures.steps) at c.in-Err.ensures.step) (record {
       line = line_told g.S.Line.Line c.in_ok-line.line;
       fresh = c.in_ok-line.ensures.fresh;
       looks = c.look-looks.result;
       behind = line_told g.S.Line.Line c.look-looks.new.line;
-      looked = looked_first _ _ _ _ _ _ _ c.in_ok-samples.ensures c.deref.ensures.value c.look-looks.ensures;
-      all_stand = all_stand _ _ _ _ c.look-looks.ensures.found (sym c.hindrance.ensures ∙ c.in_default-hindrance.is);
+      looked = c.look-looks.ensures;
+      all_stand = all_stand _ _ _ _ c.look-looks.ensures.looked.found (sym c.hindrance.ensures ∙ c.in_default-hindrance.is);
       given = subst (λ lines. Gains lines (g.S.Surroundings.lines c.let_go.new.self) (line_told g.S.Line.Line c.look-looks.new.line ∷ []))
           (c.in-Err.ensures.lines ∙ c.in_ok-line.ensures.lines) c.let_go.ensures.lines;
     })
     (subst (λ text. DiskAsked (g.S.Surroundings.disk c.args.around.now) (g.S.Surroundings.disk c.let_go.new.self) (IsNotBegunOn text))
-    (same_text c.args.first c.behind-first.result c.look-looks.result c.behind-first.ensures (all_stand _ _ _ _ c.look-looks.ensures.found (sym c.hindrance.ensures ∙ c.in_default-hindrance.is)))
+    (same_text c.args.first c.behind-first.result c.look-looks.result c.behind-first.ensures (all_stand _ _ _ _ c.look-looks.ensures.looked.found (sym c.hindrance.ensures ∙ c.in_default-hindrance.is)))
     (subst (λ disk. DiskAsked disk (g.S.Surroundings.disk c.let_go.new.self) (IsNotBegunOn (begun_text c.behind-first.result.plan c.behind-first.result.verified))) c.connect.ensures.disk
     (rw (c.let_go.ensures.disk) (rw (c.plan-2.ensures, c.verified-2.ensures.value) at c.in-Err.ensures.disk)))))

@@ -1,19 +1,17 @@
 use Rattle.std.proofs.Common.{◌∙◌, refl, rules, subst, sym}
-use Rattle.host_devices.specs.Devices.{devices_of, line_told}
-use Rattle.engine.specs.Keeping.{progress_calls}
+use Rattle.host_devices.specs.Devices.{line_told}
 use Rattle.machine_load.specs.Asked.{opened_as, task, ◌⇒◌}
 use Rattle.machine_load.specs.Beginning.{IsBeginning, SendsFew, asked_to_begin}
+use Rattle.machine_load.specs.declared.beginning.Beginning.TheVariants.{Begun}
 use Rattle.machine_load.specs.Called.{IsAskedBefore}
 use Rattle.machine_load.specs.Driving.{IsDrivenOn}
 use Rattle.machine_load.specs.LoadFault.{IsBeginningFault, IsLoadFault, gone}
-use Rattle.machine_load.specs.Parts.{IsDrivenBehind, IsKeptBehind, course, held}
+use Rattle.machine_load.specs.Parts.{held}
 use Rattle.machine_load.specs.Scene.{around_of, gone_of, keeper_of, scene, tells_of}
 use Rattle.host_devices.specs.Told.{Gains}
-use Rattle.machine_load.proofs.Driving.{free, hindered}
 use Rattle.machine_load.proofs.Faults.{asked_unopened, error_is, not_loaded, of_beginning, of_opening}
 use Rattle.machine_load.proofs.Loads.{answered, answered_in_vain, driven, over}
 use Rattle.machine_load.proofs.loading.load.Goals as goal
-use Rattle.machine_load.proofs.loading.load.Goals.{in-Some, in-None}
 
 pub returns-in_err-first-clause-err : goal.returns-in_err-first-clause-err
 returns-in_err-first-clause-err g c =
@@ -75,6 +73,14 @@ returns-in-Over g c =
       err = answered_in_vain tells asked before between after c.in-Over.lived is refl c.report.result c.report.ensures.err;
     }
 
+pub go_on-gone-requires-clause-room : goal.go_on-gone-requires-clause-room
+go_on-gone-requires-clause-room g c =
+    let is : IsBeginning (tells_of g.S.Surroundings g.S.Line.Line g.S.Keeper.Keep) (opened_as c.in_ok-first.first c.args.options.fast c.in_ok-first.writable)
+    (around_of g.S.Surroundings c.first_life.new.around ⇒ around_of g.S.Surroundings c.begin.new.around) (Begun c.in-Begun.begun) =
+    subst (IsBeginning (tells_of g.S.Surroundings g.S.Line.Line g.S.Keeper.Keep) (opened_as c.in_ok-first.first c.args.options.fast c.in_ok-first.writable)
+    (around_of g.S.Surroundings c.first_life.new.around ⇒ around_of g.S.Surroundings c.begin.new.around)) c.in-Begun.is (c.in_ok-lived.ensures.begun c.args.options.fast) in
+    is.room_is
+
 pub returns : goal.returns
 returns g c =
     let tells = tells_of g.S.Surroundings g.S.Line.Line g.S.Keeper.Keep in
@@ -85,18 +91,7 @@ returns g c =
     let between = scene g.S.Surroundings g.W.Write c.end_record.new.self c.args.out.now in
     let after = scene g.S.Surroundings g.W.Write c.report-2.new.around c.report-2.new.out in
     let life = opened_as c.in_ok-first.first c.args.options.fast c.in_ok-first.writable in
-    let first = c.in-Begun.begun.first in
     let stubs = c.bring_stubs-stubs.result in
-    let answer = c.match-hindrance.core in
-    let host : IsDrivenBehind (course first stubs answer) (devices_of g.S.Line.Line g.S.Keeper.Keep c.bring_stubs-stubs.new.line c.bring_stubs-stubs.new.keeper)
-    (devices_of g.S.Line.Line g.S.Keeper.Keep c.match-hindrance.line c.match-hindrance.keeper)
-    × IsKeptBehind (progress_calls g.S.Keeper.Keep) (course first stubs answer) c.bring_stubs-stubs.new.keeper c.match-hindrance.keeper =
-    elim c.match-hindrance.branch [
-      | in-Some w ↦ rw (w.core-is, w.line-is, w.keeper-is)
-          (hindered (progress_calls g.S.Keeper.Keep) first stubs c.host_behind-core.result w.in-Some.stop _ c.bring_stubs-stubs.new.keeper (sym w.in-Some.is ∙ c.hindrance.ensures) c.host_behind-core.ensures)
-      | in-None w ↦ rw (w.core-is, w.line-is, w.keeper-is)
-          (free (progress_calls g.S.Keeper.Keep) first stubs c.host_behind-core.result w.drive.result _ _ _ _ (sym w.in-None.is ∙ c.hindrance.ensures) c.host_behind-core.ensures w.drive.ensures.driven w.drive.ensures.kept)
-    ] in
     let is = driven tells asked before opened between c.in_ok-first.first c.in_ok-first.writable
     (record {
       opened = c.in_ok-first.ensures.opened;
@@ -104,14 +99,14 @@ returns g c =
       asked = c.first_life.ensures.asked;
       call = c.first_life.ensures.call;
     })
-    c.in-Begun.begun begun stubs answer.0 answer.1 c.match-hindrance.line c.match-hindrance.keeper
+    c.in-Begun.begun begun stubs c.go_on-gone.result c.go_on-gone.new.line c.go_on-gone.new.keeper
     (subst (IsBeginning tells life (opened.setting.around ⇒ begun.setting.around)) c.in-Begun.is (c.in_ok-lived.ensures.begun c.args.options.fast))
     c.bring_stubs-stubs.ensures.asked
     (record {
       between = held (line_told g.S.Line.Line c.bring_stubs-stubs.new.line) c.bring_stubs-stubs.new.keeper;
-      parts = record { stubs = c.bring_stubs-stubs.ensures.brought; host = host.0 };
+      stubs = c.bring_stubs-stubs.ensures.brought;
       stubs_kept = c.bring_stubs-stubs.ensures.kept;
-      host_kept = host.1;
+      rest = c.go_on-gone.ensures.gone;
     })
     c.end_record.ensures.step c.end_record.ensures.text c.end_record.ensures.disk (c.end_record.ensures.lines ∙ c.in_ok-lived.ensures.lines)
     (rw (sym c.end_record.ensures.asked) at (subst (λ beginning. Gains opened.asked begun.asked (asked_to_begin opened.call beginning)) c.in-Begun.is c.in_ok-lived.ensures.asked)) in

@@ -19,7 +19,7 @@ loop-tally-init g c =
     let sent : c.begun-tally.result.sent ≡ 0 = ap (λ (t : Tally). t.sent) c.begun-tally.ensures in
     let spent : c.begun-tally.result.spent ≡ 0 = ap (λ (t : Tally). t.spent) c.begun-tally.ensures in
     let vain : c.begun-tally.result.in_vain ≡ 0 = ap (λ (t : Tally). t.in_vain) c.begun-tally.ensures in record {
-      stubs = subst (λ t. AreStubs (bringing c.args.plan.now c.args.patience (begun v, t) None) at at) (sym c.begun-tally.ensures) (no_stubs c.args.plan.now c.args.patience (begun v) at c.requires.within);
+      stubs = subst (λ t. AreStubs (bringing c.args.plan.now c.args.typist (begun v, t) None) at at) (sym c.begun-tally.ensures) (no_stubs c.args.plan.now c.args.typist (begun v) at c.requires.within);
       kept_by = kept_none (progress_calls g.K.Keep) c.args.keep.now c.args.plan.now.words v c.begun-tally.result.verified (omega (arith, same));
       near = omega (arith, same);
       bounded = record { few = omega (arith, vain); sent = omega (arith, sent); spent = omega (arith, spent) };
@@ -29,7 +29,7 @@ pub returns-in-Err-clause-brought : goal.returns-in-Err-clause-brought
 returns-in-Err-clause-brought g c =
     let inv = c.loop-tally.invariant in
     let next = c.in-Err.ensures.brought in record {
-      all = stubs_join c.args.plan.now c.args.patience (Some c.in-Err.stop) (begun c.args.verified) c.loop-tally.tally c.part.new.tally (devices_of g.L.Line g.K.Keep c.args.line.now c.args.keep.now) (devices_of g.L.Line g.K.Keep c.loop-tally.line c.loop-tally.keep)
+      all = stubs_join c.args.plan.now c.args.typist (Some c.in-Err.stop) (begun c.args.verified) c.loop-tally.tally c.part.new.tally (devices_of g.L.Line g.K.Keep c.args.line.now c.args.keep.now) (devices_of g.L.Line g.K.Keep c.loop-tally.line c.loop-tally.keep)
           (devices_of g.L.Line g.K.Keep c.part.new.line c.part.new.keep) inv.stubs next.is_one;
       few_sent = (let few = few_sent c.args.verified c.loop-tally.tally inv.near inv.bounded in let more = next.few_sent in omega (arith, few, more));
       few_spent = (let few = few_spent c.args.verified c.loop-tally.tally inv.near inv.bounded in let more = next.few_spent in omega (arith, few, more));
@@ -45,7 +45,7 @@ loop-tally-preserved g c =
     let inv = c.loop-tally.invariant in
     let next = c.in_default.ensures.brought in
     let v = c.args.verified in record {
-      stubs = stubs_join c.args.plan.now c.args.patience None (begun v) c.loop-tally.tally c.part.new.tally (devices_of g.L.Line g.K.Keep c.args.line.now c.args.keep.now) (devices_of g.L.Line g.K.Keep c.loop-tally.line c.loop-tally.keep)
+      stubs = stubs_join c.args.plan.now c.args.typist None (begun v) c.loop-tally.tally c.part.new.tally (devices_of g.L.Line g.K.Keep c.args.line.now c.args.keep.now) (devices_of g.L.Line g.K.Keep c.loop-tally.line c.loop-tally.keep)
           (devices_of g.L.Line g.K.Keep c.part.new.line c.part.new.keep) inv.stubs next.is_one;
       kept_by = kept_then (progress_calls g.K.Keep) None c.args.keep.now c.loop-tally.keep c.part.new.keep c.args.plan.now.words v c.loop-tally.tally.verified c.part.new.tally.verified inv.stubs.grows next.is_one.grows inv.kept_by c.in_default.ensures.kept;
       near = (let few = next.few_words refl in omega (arith, few));
@@ -56,7 +56,7 @@ loop-tally-preserved g c =
 pub returns-clause-brought : goal.returns-clause-brought
 returns-clause-brought g c =
     let inv = c.loop-tally.invariant in record {
-      all = all_in_vain c.args.plan.now c.args.patience (begun c.args.verified) c.loop-tally.tally (devices_of g.L.Line g.K.Keep c.args.line.now c.args.keep.now) (devices_of g.L.Line g.K.Keep c.loop-tally.line c.loop-tally.keep) (let few = inv.bounded.few in omega (arith, few, c.loop-tally-test.false)) inv.stubs;
+      all = all_in_vain c.args.plan.now c.args.typist (begun c.args.verified) c.loop-tally.tally (devices_of g.L.Line g.K.Keep c.args.line.now c.args.keep.now) (devices_of g.L.Line g.K.Keep c.loop-tally.line c.loop-tally.keep) (let few = inv.bounded.few in omega (arith, few, c.loop-tally-test.false)) inv.stubs;
       few_sent = (let few = few_sent c.args.verified c.loop-tally.tally inv.near inv.bounded in omega (arith, few));
       few_spent = (let few = few_spent c.args.verified c.loop-tally.tally inv.near inv.bounded in omega (arith, few));
     }

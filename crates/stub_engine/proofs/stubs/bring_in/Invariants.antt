@@ -10,8 +10,8 @@ use Rattle.stub_engine.proofs.stubs.bring_in.Given as goal
 
 abbrev pub invariant-loop-tally : goal.invariant-loop-tally
 invariant-loop-tally g l = record {
-  stubs : AreStubs (bringing l.fn.plan l.fn.patience (begun l.fn.verified, l.tally) None) (devices_of g.L.Line g.K.Keep l.fn.line l.fn.keep) (devices_of g.L.Line g.K.Keep l.line l.keep);
-  kept_by : IsKeptBy (progress_calls g.K.Keep) (stubs_give (bringing l.fn.plan l.fn.patience (begun l.fn.verified, l.tally) None)) l.fn.keep l.keep;
+  stubs : AreStubs (bringing l.fn.plan l.fn.typist (begun l.fn.verified, l.tally) None) (devices_of g.L.Line g.K.Keep l.fn.line l.fn.keep) (devices_of g.L.Line g.K.Keep l.line l.keep);
+  kept_by : IsKeptBy (progress_calls g.K.Keep) (stubs_give (bringing l.fn.plan l.fn.typist (begun l.fn.verified, l.tally) None)) l.fn.keep l.keep;
   near : l.tally.verified ≤ l.fn.verified + 28672;
   bounded : AreBounded l.fn.verified l.tally;
 }

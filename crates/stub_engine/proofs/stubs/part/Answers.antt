@@ -1,4 +1,4 @@
-use Rattle.std.proofs.Common.{arith, ap, sym, subst, ◌∙◌, Some}
+use Rattle.std.proofs.Common.{◌^◌, ◌<◌, arith, ap, sym, subst, ◌∙◌, Some}
 use Rattle.host_devices.specs.Devices.{devices_of, line_told}
 use Rattle.engine.specs.Keeping.{keeping, progress_calls}
 use Rattle.engine.specs.Stopping.{keep_fault}
@@ -13,7 +13,7 @@ use Rattle.stub_engine.proofs.stubs.part.Goals as goal
 
 -- no stub is planned
 pub returns-in-Err-clause-brought : goal.returns-in-Err-clause-brought
-returns-in-Err-clause-brought g c = unplanned c.args.plan.now c.args.patience c.in-Err.end c.args.tally.now (devices_of g.L.Line g.K.Keep c.args.line.now c.args.keep.now) c.in-Err.ensures.unplanned c.requires.within
+returns-in-Err-clause-brought g c = unplanned c.args.plan.now c.args.typist c.in-Err.end c.args.tally.now (devices_of g.L.Line g.K.Keep c.args.line.now c.args.keep.now) c.in-Err.ensures.unplanned c.requires.within
 
 pub returns-in-Err-clause-kept : goal.returns-in-Err-clause-kept
 returns-in-Err-clause-kept g c = kept_none (progress_calls g.K.Keep) c.args.keep.now c.args.plan.now.words c.args.tally.now.verified c.args.tally.now.verified (omega arith)
@@ -22,7 +22,7 @@ returns-in-Err-clause-kept g c = kept_none (progress_calls g.K.Keep) c.args.keep
 pub returns-in-Some-clause-brought : goal.returns-in-Some-clause-brought
 returns-in-Some-clause-brought g c =
     let tally = tally_unstarted c.args.tally.now c.with_counts-brought.result c.with_words.result c.bring-core.result.0 c.sent_count.result c.spent.result c.sent_count.ensures.value c.spent.ensures.value c.with_counts-brought.ensures c.with_words.ensures in
-    not_started c.args.plan.now c.args.patience c.args.tally.now c.with_words.result c.in-Ok.planned.plan c.in-Ok.planned.chunks.items c.bring-core.result (Some c.in-Some.stop) (line_told g.L.Line c.args.line.now) (line_told g.L.Line c.bring-core.new.line) (g.K.Keep.told c.args.keep.now) c.in-Ok.ensures.planned c.ranges.patience.fits
+    not_started c.args.plan.now c.args.typist c.args.tally.now c.with_words.result c.in-Ok.planned.plan c.in-Ok.planned.chunks.items c.bring-core.result (Some c.in-Some.stop) (line_told g.L.Line c.args.line.now) (line_told g.L.Line c.bring-core.new.line) (g.K.Keep.told c.args.keep.now) c.in-Ok.ensures.planned (subst (λ n. n < 2 ^ 32) c.bring-core.ensures.driven.same_patience c.bring-core.ensures.driven.host.long)
     c.requires.worth c.requires.within c.in-Some.ensures (λ none. is_some c.in-Some.stop none) c.bring-core.ensures (let same = c.sent_count.ensures.value in let most = c.sent_count.ensures.most in omega (arith, same, most, at_most c.bring-core.result.0.careful)) tally
 
 pub returns-in-Some-clause-kept : goal.returns-in-Some-clause-kept
@@ -36,8 +36,8 @@ pub returns-clause-brought : goal.returns-clause-brought
 returns-clause-brought g c =
     let tally = tally_exchanged c.args.tally.now c.with_counts-brought.result c.with_counts.result c.with_words-2.result c.bring-core.result.0 c.exchange-stop.result.0 c.sent_count.result c.spent.result c.from.result c.sent_count.ensures.value c.spent.ensures.value c.from.ensures c.with_counts-brought.ensures
     c.with_counts.ensures c.with_words-2.ensures in
-    started c.args.plan.now c.args.patience c.args.tally.now c.with_words-2.result c.in-Ok.planned.plan c.in-Ok.planned.chunks.items c.bring-core.result c.exchange-stop.result.0 c.exchange-stop.result.1 (fault_of c.left_by.result) (line_told g.L.Line c.args.line.now) (line_told g.L.Line c.bring-core.new.line)
-    (line_told g.L.Line c.exchange-stop.new.line) (g.K.Keep.told c.args.keep.now) (g.K.Keep.told c.exchange-stop.new.keep) c.in-Ok.ensures.planned c.ranges.patience.fits c.requires.worth (sym c.why_unstarted.ensures ∙ c.in_default.is) c.left_by.ensures c.bring-core.ensures (rw (c.duplex.ensures) at (rw (c.deref.ensures.value) at c.exchange-stop.ensures.led))
+    started c.args.plan.now c.args.typist c.args.tally.now c.with_words-2.result c.in-Ok.planned.plan c.in-Ok.planned.chunks.items c.bring-core.result c.exchange-stop.result.0 c.exchange-stop.result.1 (fault_of c.left_by.result) (line_told g.L.Line c.args.line.now) (line_told g.L.Line c.bring-core.new.line)
+    (line_told g.L.Line c.exchange-stop.new.line) (g.K.Keep.told c.args.keep.now) (g.K.Keep.told c.exchange-stop.new.keep) c.in-Ok.ensures.planned (subst (λ n. n < 2 ^ 32) c.bring-core.ensures.driven.same_patience c.bring-core.ensures.driven.host.long) c.requires.worth (sym c.why_unstarted.ensures ∙ c.in_default.is) c.left_by.ensures c.bring-core.ensures (rw (c.duplex.ensures) at (rw (c.deref.ensures.value) at c.exchange-stop.ensures.led))
     (let same = c.sent_count.ensures.value in let most = c.sent_count.ensures.most in omega (arith, same, most, at_most c.bring-core.result.0.careful)) tally
 
 pub returns-clause-kept : goal.returns-clause-kept

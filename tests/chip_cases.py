@@ -254,6 +254,18 @@ def any_test(chance):
     return test._replace(faults=tuple(faults))
 
 
+def any_bus(chance, test):
+    """By chance a bad bus for a test of each word of a range, in memory that is good otherwise: the test, what its chips are besides, and what
+    has to be said of the bus."""
+    if test.every != 1 or chance.random() < 0.5:
+        return test, {}, test.bus()
+    test = test._replace(faults=())
+    if chance.random() < 0.5:
+        return test, {"touching": tuple(chance.sample(range(BITS), 2))}, test.bus(touches=True)
+    line = chance.randrange(1, LINES)
+    return test, {"dead": (line,)}, test.bus({test.good() ^ 1 << line} & set(test.around(test.good())))
+
+
 class ChipCase(Case):
     """Tests of memories."""
 
@@ -261,7 +273,7 @@ class ChipCase(Case):
         """Asserts that nothing was typed that starts anything; that each number that was stored is what the word held, or its complement, or,
         where a bus is tested, one of the numbers of that; and that each word reads what it did, but for some."""
         machine = line.machine
-        self.is_so((re.findall(r"[^0-7/\rZ]", machine.typed), machine.starts), ([], []))
+        self.is_so((re.findall(r"[^0-7/\rZa]", machine.typed), machine.starts), ([], []))
         for address, value in machine.words.stored:
             held = before[address // 2]
             numbers = (*NUMBERS[:3], OTHER_NUMBER if held == NUMBERS[3] else NUMBERS[3]) if address == bus else ()

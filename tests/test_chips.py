@@ -19,12 +19,12 @@ FIRST, LAST = 0o1000, 0o1006
 # A memory of these words is enough where none lies above.
 FEW = 1024
 
-# Keys: of the trial of a console, a look, an open word with three digits, and a look; and of a word that is looked at twice, turned over,
+# Keys: of the trial of a console, a look, an open word with three digits, a letter, and a look; and of a word that is looked at twice, turned over,
 # looked at, put back and looked at. The characters of both ways: of the trial's first look, and of all of it; of `Z`; of a word, up to where
 # its number is known, and up to where it is tested.
-TRIAL, KEYS = 30, 44
+TRIAL, KEYS = 31, 44
 DEPOSIT, LOOK = 22, 8
-LOOKED, TRIED, PROMPTED, WORD, KNOWN, DONE = 30, 97, 5, 124, 46, 120
+LOOKED, TRIED, PROMPTED, WORD, KNOWN, DONE = 30, 102, 5, 124, 46, 120
 
 # The same of a word that is deposited by a load, and of one that is looked at alone.
 DEPOSITED, LOOKED_AT = 62, 25

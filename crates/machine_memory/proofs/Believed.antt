@@ -52,10 +52,10 @@ use Rattle.memory_report.specs.declared.findings.TestEnd.TheVariants as test
 use Rattle.memory_report.specs.Bus.{BusFound, same_words}
 use Rattle.machine_memory.specs.Belief.{AreBelievable, Remains}
 use Rattle.machine_memory.specs.Bus.{mark, number_at, reading}
-use Rattle.machine_memory.specs.BusCourse.{again_from, behind_mark, behind_put_back, bus_begins, first_good, in_bus, on_from, put_back_next, then_bus, with_marked, with_returned, by_look, by_second_look}
-use Rattle.machine_memory.specs.BusRuns.{IsLookAgainStep, IsLookStep, IsMarkStep, IsPutBackStep}
+use Rattle.machine_memory.specs.BusCourse.{again_from, behind_mark, behind_put_back, bus_begins, first_good, in_bus, on_from, put_back_next, stopped_load, then_bus, with_marked, with_returned, by_look, by_second_look}
+use Rattle.machine_memory.specs.BusRuns.{IsLookAgainStep, IsLookStep, IsMarkStep, IsNamedStep, IsPutBackStep}
 use Rattle.machine_memory.proofs.BusFacts.{AreMarks, AtPlace, IsLent, IsUnread, Looked, looked, marked_hold, marks_apart, returned_hold, unread_apart, unread_marks}
-use Rattle.machine_memory.proofs.BusLeads.{first_good_has, look_within, look_words, mark_within, mark_words, put_back_within, put_back_words, second_look_within, second_look_words, test_words, then_are, then_within}
+use Rattle.machine_memory.proofs.BusLeads.{first_good_has, look_within, look_words, mark_within, mark_words, put_back_within, put_back_words, stopped_within, stopped_words, second_look_within, second_look_words, test_words, then_are, then_within}
 use Rattle.machine_memory.proofs.Deposits.{Deposited, deposited}
 use Rattle.machine_memory.specs.Course.{AreWords, IsWithin, Standing, behind_test, begun, over, by_first, by_stop, by_verdict, next_bank, test_next, try_next}
 use Rattle.machine_memory.specs.Options.{IsAsked, probe_options}
@@ -365,6 +365,27 @@ put_back_stands options before word s after m now parts lost l t honest =
     subst (λ (x : Standing). Stands before x now) (sym t.after_is)
     (put_back_stops before s word t.stop now d.held d.loaded (record { ready = d.ready; words = l.words; touches = l.touches; lent = lent_then before word word.old t.stop m now l.lent d; marks = l.marks }))
 
+-- where it may not stand, the word is named
+named_stops : (before : List ℕ) (s : Standing) (word : Borrowed) (stopped : LoadStop) (now : Machine) → Lends before s word now → Stands before (stopped_load s word stopped) now
+named_stops before s word (stop.Ended loaded.Loaded) now l = ended_stands before s word test.GaveUp now l
+named_stops before s word (stop.Ended (loaded.WontHold a)) now l = ended_stands before s word test.GaveUp now l
+named_stops before s word (stop.Ended (loaded.NoWord a)) now l = ended_stands before s word (test.NoWord a) now l
+named_stops before s word (stop.Ended loaded.Started) now l = ended_stands before s word test.GaveUp now l
+named_stops before s word (stop.Ended loaded.Uncertain) now l = ended_stands before s word test.GaveUp now l
+named_stops before s word (stop.Ended loaded.MaybeStarted) now l = ended_stands before s word test.GaveUp now l
+named_stops before s word (stop.Ended loaded.GaveUp) now l = ended_stands before s word test.GaveUp now l
+named_stops before s word (stop.LineFailed fault) now l = ended_stands before s word (test.LineFailed fault) now l
+named_stops before s word (stop.KeepFailed fault) now l = ended_stands before s word test.TurnsOver now l
+named_stops before s word stop.TurnsOver now l = ended_stands before s word test.TurnsOver now l
+
+named_stands : (options : MemoryOptions) (before : List ℕ) (word : Borrowed) (s after : Standing) (m now : Machine) (parts : List (List Item)) (lost : ℕ) → Lends before s word m →
+    IsNamedStep options word s after parts → AreHonest m parts lost now → Stands before after now
+named_stands options before word s after m now parts lost l t honest =
+    let one : IsOnePart m now t.deposit_led.said = one_part m now parts t.deposit_led.said lost t.deposit_led.part honest in
+    let d : Deposited m now word.address word.old t.stop = deposited options word.address word.old t.stop parts m now one.lost t.deposit_led l.ready one.honest in
+    subst (λ (x : Standing). Stands before x now) (sym t.after_is)
+    (named_stops before s word t.stop now (record { ready = d.ready; words = l.words; touches = l.touches; lent = lent_then before word word.old t.stop m now l.lent d; marks = l.marks }))
+
 -- ---- behind a look around it
 
 lent_on : (before : List ℕ) (word : Borrowed) (b : BusFound) (now : List ℕ) (next : Option ℕ) → IsLent before word now → AreMarks before word b → AtPlace before (on_from word next) b now
@@ -473,6 +494,14 @@ record StandsWithin (options : MemoryOptions) (before : List ℕ) (s : Standing)
   pub within : IsWithin options.to s.place
   pub are : AreWords s.words
 
+named_within : (options : MemoryOptions) (before : List ℕ) (word : Borrowed) (s after : Standing) (m now : Machine) (parts : List (List Item)) (lost : ℕ) → IsLent before word m.memory × AreMarks before word s.bus →
+    IsNamedStep options word s after parts → StandsWithin options before s m → AreHonest m parts lost now → StandsWithin options before after now
+named_within options before word s after m now parts lost at t k honest = record {
+  stands = named_stands options before word s after m now parts lost (record { ready = k.stands.ready; words = k.stands.words; touches = k.stands.touches; lent = at.0; marks = at.1 }) t honest;
+  within = subst (λ (x : Standing). IsWithin options.to x.place) (sym t.after_is) (stopped_within options.to s word t.stop);
+  are = subst AreWords (sym (ap (λ (x : Standing). x.words) t.after_is ∙ stopped_words s word t.stop)) k.are;
+}
+
 step_stands : (options : MemoryOptions) (before : List ℕ) (place : Place) (s after : Standing) (m now : Machine) (parts : List (List Item)) (lost : ℕ) → options.patience < 2 ^ 32 → IsAsked options → s.place ≡ place →
     IsStepAt options place s after parts → StandsWithin options before s m → AreHonest m parts lost now → StandsWithin options before after now
 step_stands options before (Trying at) s after m now parts lost long asked is t k honest =
@@ -496,14 +525,18 @@ step_stands options before (Testing at) s after m now parts lost long asked is t
           (then_within options.to options.every (behind_test options.to s t.last t.stop) reached (test_within options.to s t.last t.stop range.to_is));
       are = subst (λ (x : Standing). AreWords x.words) (sym t.after_is) (then_are options.every (behind_test options.to s t.last t.stop) reached);
     }
-step_stands options before (Marking word place) s after m now parts lost long asked is t k honest =
+step_stands options before (Marking word place) s after m now parts lost long asked is (inr t) k honest =
+    named_within options before word s after m now parts lost (subst (λ (place : Place). AtPlace before place s.bus m.memory) is k.stands.at) t k honest
+step_stands options before (Looking word first) s after m now parts lost long asked is (inr t) k honest =
+    named_within options before word s after m now parts lost (subst (λ (place : Place). AtPlace before place s.bus m.memory) is k.stands.at) t k honest
+step_stands options before (Marking word place) s after m now parts lost long asked is (inl t) k honest =
     let at = subst (λ (place : Place). AtPlace before place s.bus m.memory) is k.stands.at in
     record {
       stands = mark_stands options before word place s after m now parts lost (record { ready = k.stands.ready; words = k.stands.words; touches = k.stands.touches; lent = at.0; marks = at.1 }) t honest;
       within = subst (λ (x : Standing). IsWithin options.to x.place) (sym t.after_is) (mark_within options.to place s word t.stop (subst (IsWithin options.to) is k.within));
       are = subst AreWords (sym (ap (λ (x : Standing). x.words) t.after_is ∙ mark_words place s word t.stop)) k.are;
     }
-step_stands options before (Looking word first) s after m now parts lost long asked is t k honest =
+step_stands options before (Looking word first) s after m now parts lost long asked is (inl t) k honest =
     let at = subst (λ (place : Place). AtPlace before place s.bus m.memory) is k.stands.at in
     let within = subst (IsWithin options.to) is k.within in
     let lends : s.borrowed ≡ Some word = subst (λ (place : Place). IsFree place s.borrowed) is k.stands.free in

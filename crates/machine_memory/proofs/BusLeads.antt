@@ -37,12 +37,12 @@ use Rattle.machine_memory.specs.declared.course.Place.{Place}
 use Rattle.machine_memory.specs.declared.course.Place.TheVariants.{Trying, Testing, Marking, Looking, PuttingBack, LookingAgain, Over}
 use Rattle.machine_memory.specs.declared.memory_options.MemoryOptions.{MemoryOptions}
 use Rattle.machine_memory.specs.Bus.{neighbours, number_at}
-use Rattle.machine_memory.specs.BusCourse.{again_from, behind_look, behind_mark, behind_put_back, behind_second_look, bus_begins, first_good, good_also, on_from, put_back_next, then_bus}
-use Rattle.machine_memory.specs.BusRuns.{IsDepositLed, IsLookAgainStep, IsLookLed, IsLookStep, IsMarkStep, IsPutBackStep}
+use Rattle.machine_memory.specs.BusCourse.{again_from, behind_look, behind_mark, behind_put_back, behind_second_look, bus_begins, first_good, good_also, in_bus, on_from, put_back_next, stopped_load, then_bus}
+use Rattle.machine_memory.specs.BusRuns.{HasBack, IsDepositLed, IsLookAgainStep, IsLookLed, IsLookStep, IsMarkStep, IsNamedStep, IsPutBackStep, IsReady, IsRestored, IsUnlent}
 use Rattle.machine_memory.specs.Course.{AreWords, IsWithin, Standing, behind_test, by_stop}
 use Rattle.machine_memory.specs.Words.{words_of}
 use Rattle.machine_memory.specs.Options.{probe_options}
-use Rattle.machine_memory.specs.Runs.{IsCutLook}
+use Rattle.machine_memory.specs.Runs.{IsCutLook, IsStepAt}
 use Rattle.machine_memory.specs.Turns.{most_turns}
 
 -- ---- one host
@@ -119,7 +119,32 @@ pub second_look_step : (options : MemoryOptions) (word : Borrowed) (first : ℕ)
     OnLine (IsLookLed options word.address first last stop) line line' → after ≡ behind_second_look before word last stop → OnLine (IsLookAgainStep options word first before after) line line'
 second_look_step options word first before after last stop line line' led is = record { parts = led.parts; are = record { last = last; stop = stop; look_led = led.are; after_is = is }; on_line = led.on_line }
 
+pub named_step : (options : MemoryOptions) (word : Borrowed) (before after : Standing) (stop : LoadStop) (line line' : Option (List Item)) →
+    OnLine (IsDepositLed options word.address word.old stop) line line' → after ≡ stopped_load before word stop → OnLine (IsNamedStep options word before after) line line'
+named_step options word before after stop line line' led is = record { parts = led.parts; are = record { stop = stop; deposit_led = led.are; after_is = is }; on_line = led.on_line }
+
+-- a step at a mark, or a look, is one or the other
+pub marked_or : (options : MemoryOptions) (word : Borrowed) (place : ℕ) (before after : Standing) (line line' : Option (List Item)) → OnLine (IsMarkStep options word place before after) line line' → OnLine (IsStepAt options (Marking word place) before after) line line'
+marked_or options word place before after line line' step = record { parts = step.parts; are = inl step.are; on_line = step.on_line }
+
+pub or_named : (options : MemoryOptions) (word : Borrowed) (place : ℕ) (before after : Standing) (line line' : Option (List Item)) → OnLine (IsNamedStep options word before after) line line' → OnLine (IsStepAt options (Marking word place) before after) line line'
+or_named options word place before after line line' step = record { parts = step.parts; are = inr step.are; on_line = step.on_line }
+
+pub looked_or : (options : MemoryOptions) (word : Borrowed) (first : ℕ) (before after : Standing) (line line' : Option (List Item)) → OnLine (IsLookStep options word first before after) line line' → OnLine (IsStepAt options (Looking word first) before after) line line'
+looked_or options word first before after line line' step = record { parts = step.parts; are = inl step.are; on_line = step.on_line }
+
+pub look_or_named : (options : MemoryOptions) (word : Borrowed) (first : ℕ) (before after : Standing) (line line' : Option (List Item)) → OnLine (IsNamedStep options word before after) line line' → OnLine (IsStepAt options (Looking word first) before after) line line'
+look_or_named options word first before after line line' step = record { parts = step.parts; are = inr step.are; on_line = step.on_line }
+
+-- the host that puts back is there
+pub back_is : (options : MemoryOptions) (word : Borrowed) (back : Option Deposit) (deposit : Deposit) → HasBack options word back → back ≡ Some deposit → IsDeposit (probe_options options word.address) word.old deposit
+back_is options word back deposit has is = subst (HasBack options word) is has
+
 -- ---- cut off
+
+-- an old number that stands again
+pub restored : (options : MemoryOptions) (word : Borrowed) (stop : LoadStop) (line line' : Option (List Item)) → OnLine (IsDepositLed options word.address word.old stop) line line' → stop ≡ load.Ended loaded.Loaded → OnLine (IsRestored options word) line line'
+restored options word stop line line' led is = subst (λ (s : LoadStop). OnLine (IsDepositLed options word.address word.old s) line line') is led
 
 pub look_cut : (options : MemoryOptions) (word : Borrowed) (first : ℕ) (last : Reader) (stop : LookStop) (line line' : Option (List Item)) → OnLine (IsLookLed options word.address first last stop) line line' → OnLine (IsCutLook options word first) line line'
 look_cut options word first last stop line line' led = record { parts = led.parts; are = inr (last, stop, led.are); on_line = led.on_line }
@@ -175,6 +200,97 @@ put_back_within to s word (load.Ended loaded.GaveUp) = tt
 put_back_within to s word (load.LineFailed fault) = tt
 put_back_within to s word (load.KeepFailed fault) = tt
 put_back_within to s word load.TurnsOver = tt
+
+pub stopped_within : (to : ℕ) (s : Standing) (word : Borrowed) (stop : LoadStop) → IsWithin to (stopped_load s word stop).place
+stopped_within to s word (load.Ended loaded.Loaded) = tt
+stopped_within to s word (load.Ended (loaded.WontHold address)) = tt
+stopped_within to s word (load.Ended (loaded.NoWord address)) = tt
+stopped_within to s word (load.Ended loaded.Started) = tt
+stopped_within to s word (load.Ended loaded.Uncertain) = tt
+stopped_within to s word (load.Ended loaded.MaybeStarted) = tt
+stopped_within to s word (load.Ended loaded.GaveUp) = tt
+stopped_within to s word (load.LineFailed fault) = tt
+stopped_within to s word (load.KeepFailed fault) = tt
+stopped_within to s word load.TurnsOver = tt
+
+pub stopped_words : (s : Standing) (word : Borrowed) (stop : LoadStop) → (stopped_load s word stop).words ≡ s.words
+stopped_words s word (load.Ended loaded.Loaded) = refl
+stopped_words s word (load.Ended (loaded.WontHold address)) = refl
+stopped_words s word (load.Ended (loaded.NoWord address)) = refl
+stopped_words s word (load.Ended loaded.Started) = refl
+stopped_words s word (load.Ended loaded.Uncertain) = refl
+stopped_words s word (load.Ended loaded.MaybeStarted) = refl
+stopped_words s word (load.Ended loaded.GaveUp) = refl
+stopped_words s word (load.LineFailed fault) = refl
+stopped_words s word (load.KeepFailed fault) = refl
+stopped_words s word load.TurnsOver = refl
+
+pub stopped_ready : (s : Standing) (word : Borrowed) (stop : LoadStop) → IsUnlent (stopped_load s word stop).place
+stopped_ready s word (load.Ended loaded.Loaded) options back = tt
+stopped_ready s word (load.Ended (loaded.WontHold address)) options back = tt
+stopped_ready s word (load.Ended (loaded.NoWord address)) options back = tt
+stopped_ready s word (load.Ended loaded.Started) options back = tt
+stopped_ready s word (load.Ended loaded.Uncertain) options back = tt
+stopped_ready s word (load.Ended loaded.MaybeStarted) options back = tt
+stopped_ready s word (load.Ended loaded.GaveUp) options back = tt
+stopped_ready s word (load.LineFailed fault) options back = tt
+stopped_ready s word (load.KeepFailed fault) options back = tt
+stopped_ready s word load.TurnsOver options back = tt
+
+-- the host that puts back stays where a word is lent
+next_mark_ready : (options : MemoryOptions) (place : ℕ) (word : Borrowed) (back : Option Deposit) (more : Bool) → HasBack options word back → IsReady options (if more then Marking word (place + 1) else Looking word 0) back
+next_mark_ready options place word back true has = has
+next_mark_ready options place word back false has = has
+
+pub mark_ready : (options : MemoryOptions) (place : ℕ) (s : Standing) (word : Borrowed) (stop : LoadStop) (back : Option Deposit) → HasBack options word back → IsReady options (behind_mark s word place stop).place back
+mark_ready options place s word (load.Ended loaded.Loaded) back has = next_mark_ready options place word back (nat_lt place 3) has
+mark_ready options place s word (load.Ended (loaded.WontHold address)) back has = has
+mark_ready options place s word (load.Ended (loaded.NoWord address)) back has = tt
+mark_ready options place s word (load.Ended loaded.Started) back has = tt
+mark_ready options place s word (load.Ended loaded.Uncertain) back has = tt
+mark_ready options place s word (load.Ended loaded.MaybeStarted) back has = tt
+mark_ready options place s word (load.Ended loaded.GaveUp) back has = tt
+mark_ready options place s word (load.LineFailed fault) back has = tt
+mark_ready options place s word (load.KeepFailed fault) back has = tt
+mark_ready options place s word load.TurnsOver back has = tt
+
+on_ready : (options : MemoryOptions) (word : Borrowed) (next : Option ℕ) (back : Option Deposit) → HasBack options word back → IsReady options (on_from word next) back
+on_ready options word None back has = has
+on_ready options word (Some next) back has = has
+
+pub look_ready : (options : MemoryOptions) (s : Standing) (word : Borrowed) (last : Reader) (stop : LookStop) (back : Option Deposit) → HasBack options word back → IsReady options (behind_look s word last stop).place back
+look_ready options s word last (look.Ended looked.Complete) back has = has
+look_ready options s word last (look.Ended (looked.NoWord gap)) back has = on_ready options word (in_bus gap) back has
+look_ready options s word last (look.Ended looked.GaveUp) back has = tt
+look_ready options s word last look.TurnsOver back has = tt
+look_ready options s word last (look.LineFailed fault) back has = tt
+
+put_back_next_ready : (word : Borrowed) (marked : List ℕ) → IsUnlent (put_back_next word marked)
+put_back_next_ready word [] options back = tt
+put_back_next_ready word (address ∷ marked) options back = tt
+
+pub put_back_ready : (s : Standing) (word : Borrowed) (stop : LoadStop) → IsUnlent (behind_put_back s word stop).place
+put_back_ready s word (load.Ended loaded.Loaded) options back = put_back_next_ready word s.bus.marked options back
+put_back_ready s word (load.Ended (loaded.WontHold address)) options back = tt
+put_back_ready s word (load.Ended (loaded.NoWord address)) options back = tt
+put_back_ready s word (load.Ended loaded.Started) options back = tt
+put_back_ready s word (load.Ended loaded.Uncertain) options back = tt
+put_back_ready s word (load.Ended loaded.MaybeStarted) options back = tt
+put_back_ready s word (load.Ended loaded.GaveUp) options back = tt
+put_back_ready s word (load.LineFailed fault) options back = tt
+put_back_ready s word (load.KeepFailed fault) options back = tt
+put_back_ready s word load.TurnsOver options back = tt
+
+again_ready : (word : Borrowed) (next : Option ℕ) → IsUnlent (again_from word next)
+again_ready word None options back = tt
+again_ready word (Some next) options back = tt
+
+pub second_look_ready : (s : Standing) (word : Borrowed) (last : Reader) (stop : LookStop) → IsUnlent (behind_second_look s word last stop).place
+second_look_ready s word last (look.Ended looked.Complete) options back = tt
+second_look_ready s word last (look.Ended (looked.NoWord gap)) options back = again_ready word (in_bus gap) options back
+second_look_ready s word last (look.Ended looked.GaveUp) options back = tt
+second_look_ready s word last look.TurnsOver options back = tt
+second_look_ready s word last (look.LineFailed fault) options back = tt
 
 pub put_back_words : (s : Standing) (word : Borrowed) (stop : LoadStop) → (behind_put_back s word stop).words ≡ s.words
 put_back_words s word (load.Ended loaded.Loaded) = refl

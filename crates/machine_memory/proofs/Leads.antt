@@ -22,6 +22,7 @@ use Rattle.probe_report.specs.declared.judging.Verdict.TheVariants.{Forgets, Sto
 use Rattle.machine_probe.specs.Runs.{OnLine}
 use Rattle.machine_memory.specs.declared.memory_options.MemoryOptions.{MemoryOptions}
 use Rattle.machine_memory.specs.BusCourse.{then_bus}
+use Rattle.machine_memory.specs.BusRuns.{IsUnlent}
 use Rattle.machine_memory.specs.Course.{IsWithin, Standing, behind_test, behind_trial, by_first, by_stop, by_verdict, next_bank, test_next, try_next}
 use Rattle.probe_report.specs.Judging.{verdict_of}
 use Rattle.machine_memory.specs.Words.{words_of}
@@ -36,6 +37,10 @@ use Rattle.machine_memory.specs.Runs.{IsCutStep, IsTestLed, IsTestStep, IsTrySte
 pub map_ok : {T E : Type 0} (r : Result T E) (P Q : T → Type 0) → ((x : T) → P x → Q x) → IfOk r P → IfOk r Q
 map_ok (Ok x) P Q f p = f x p
 map_ok (Err e) P Q f p = tt
+
+pub map_err : {T E : Type 0} (r : Result T E) (P Q : Type 0) → (P → Q) → OnErr r P → OnErr r Q
+map_err (Ok x) P Q f p = tt
+map_err (Err e) P Q f p = f p
 
 pub holds_on_error : {T E : Type 0} (r : Result T E) (P : Type 0) → P → OnErr r P
 holds_on_error (Ok x) P p = tt
@@ -172,3 +177,24 @@ verdict_words to s f Unknown = first_words to s f f.first
 
 pub trial_words : (to : ℕ) (s : Standing) (f : Findings) → (behind_trial to s f).words ≡ s.words
 trial_words to s f = verdict_words to s f (verdict_of f)
+
+-- ---- and lends none
+
+try_ready : (address : ℕ) (next : Option ℕ) → IsUnlent (try_next address next)
+try_ready address None options back = tt
+try_ready address (Some next) options back = tt
+
+first_ready : (to : ℕ) (s : Standing) (f : Findings) (first : Sighting) → IsUnlent (by_first to s f first).place
+first_ready to s f (look.Number old) options back = tt
+first_ready to s f look.NoWord options back = try_ready f.address (next_bank f.address to) options back
+first_ready to s f look.GaveUp options back = tt
+first_ready to s f look.TurnsOver options back = tt
+first_ready to s f (look.LineFailed fault) options back = tt
+
+verdict_ready : (to : ℕ) (s : Standing) (f : Findings) (verdict : Verdict) → IsUnlent (by_verdict to s f verdict).place
+verdict_ready to s f Forgets options back = tt
+verdict_ready to s f Stores options back = tt
+verdict_ready to s f Unknown options back = first_ready to s f f.first options back
+
+pub trial_ready : (to : ℕ) (s : Standing) (f : Findings) → IsUnlent (behind_trial to s f).place
+trial_ready to s f = verdict_ready to s f (verdict_of f)

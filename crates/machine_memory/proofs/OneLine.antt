@@ -17,11 +17,13 @@ use Rattle.machine_memory.specs.declared.memory_options.MemoryOptions.{MemoryOpt
 use Rattle.machine_memory.specs.Belief.{AreBelievableOver}
 use Rattle.machine_memory.specs.Course.{AreWords, IsWithin, Standing, begun, behind_test, by_verdict}
 use Rattle.machine_memory.specs.Bus.{number_at}
+use Rattle.machine_memory.specs.BusRuns.{IsNamedStep}
+use Rattle.memory_core.specs.declared.stage.Borrowed.{Borrowed}
 use Rattle.machine_memory.specs.Options.{IsAsked, probe_options}
 use Rattle.machine_memory.specs.Runs.{AreSteps, IsRow, IsStepAt, most_steps}
 use Rattle.machine_memory.proofs.Believed.{believes, test_asked, test_leaves}
 use Rattle.machine_memory.proofs.BusFacts.{look_leaves}
-use Rattle.machine_memory.proofs.BusLeads.{look_within, look_words, mark_within, mark_words, put_back_within, put_back_words, second_look_within, second_look_words, test_words, then_are, then_within}
+use Rattle.machine_memory.proofs.BusLeads.{look_within, look_words, mark_within, mark_words, put_back_within, put_back_words, stopped_within, stopped_words, second_look_within, second_look_words, test_words, then_are, then_within}
 use Rattle.machine_memory.proofs.Deposits.{deposit_leaves}
 use Rattle.machine_memory.proofs.Leads.{test_within, trial_within, trial_words}
 
@@ -43,6 +45,11 @@ behind : (front more : List (List Item)) (place : Place) → AllLeave front → 
 behind front more place all (inl leave) = inl (all_join front more all leave)
 behind front more place all (inr hosts) = inr (hosts_behind front more all hosts.0, hosts.1)
 
+-- a word that is named was given its old number by a host like the others
+named_leaves : (options : MemoryOptions) (word : Borrowed) (s after : Standing) (parts : List (List Item)) → IsNamedStep options word s after parts → Leave parts after.place
+named_leaves options word s after parts t =
+    inl (subst AllLeave (sym t.deposit_led.part) (deposit_leaves options word.address word.old t.stop parts t.deposit_led, tt))
+
 step_leaves : (options : MemoryOptions) (place : Place) (s after : Standing) (parts : List (List Item)) → options.patience < 2 ^ 32 → IsAsked options → IsWithin options.to place → IsStepAt options place s after parts → Leave parts after.place
 step_leaves options (Trying at) s after parts long asked range t =
     by (tried_hosts (probe_options options at) t.f parts range.from_is long t.tried)
@@ -52,9 +59,11 @@ step_leaves options (Trying at) s after parts long asked range t =
     by (inr hosts) = inr (hosts.0, subst (λ (x : Standing). IsOver x.place) (sym t.after_is) (stored_over options.to s t.f (verdict_of t.f) hosts.1))
 step_leaves options (Testing at) s after parts long asked range t =
     inl (subst AllLeave (sym t.test_led.part) (test_leaves options at t.last t.stop parts long asked.some range t.test_led, tt))
-step_leaves options (Marking word place) s after parts long asked within t =
+step_leaves options (Marking word place) s after parts long asked within (inr t) = named_leaves options word s after parts t
+step_leaves options (Looking word first) s after parts long asked within (inr t) = named_leaves options word s after parts t
+step_leaves options (Marking word place) s after parts long asked within (inl t) =
     inl (subst AllLeave (sym t.deposit_led.part) (deposit_leaves options word.address (number_at place word.old) t.stop parts t.deposit_led, tt))
-step_leaves options (Looking word first) s after parts long asked within t =
+step_leaves options (Looking word first) s after parts long asked within (inl t) =
     inl (subst AllLeave (sym t.look_led.part) (look_leaves options word.address first t.last t.stop parts long within.1 t.look_led, tt))
 step_leaves options (PuttingBack word) s after parts long asked within t =
     inl (subst AllLeave (sym t.deposit_led.part) (deposit_leaves options word.address word.old t.stop parts t.deposit_led, tt))
@@ -65,6 +74,12 @@ step_leaves options (Over end) s after parts long asked range t = inl (subst All
 record IsIn (options : MemoryOptions) (s : Standing) : Type 0 where
   pub within : IsWithin options.to s.place
   pub are : AreWords s.words
+
+named_within : (options : MemoryOptions) (word : Borrowed) (s after : Standing) (parts : List (List Item)) → AreWords s.words → IsNamedStep options word s after parts → IsIn options after
+named_within options word s after parts are t = record {
+  within = subst (λ (x : Standing). IsWithin options.to x.place) (sym t.after_is) (stopped_within options.to s word t.stop);
+  are = subst AreWords (sym (ap (λ (x : Standing). x.words) t.after_is ∙ stopped_words s word t.stop)) are;
+}
 
 step_within : (options : MemoryOptions) (place : Place) (s after : Standing) (parts : List (List Item)) → options.patience < 2 ^ 32 → IsAsked options → s.place ≡ place → IsWithin options.to place → AreWords s.words → IsStepAt options place s after parts → IsIn options after
 step_within options (Trying at) s after parts long asked is range are t = record {
@@ -77,11 +92,13 @@ step_within options (Testing at) s after parts long asked is range are t =
       within = subst (λ (x : Standing). IsWithin options.to x.place) (sym t.after_is) (then_within options.to options.every (behind_test options.to s t.last t.stop) reached (test_within options.to s t.last t.stop range.to_is));
       are = subst (λ (x : Standing). AreWords x.words) (sym t.after_is) (then_are options.every (behind_test options.to s t.last t.stop) reached);
     }
-step_within options (Marking word place) s after parts long asked is within are t = record {
+step_within options (Marking word place) s after parts long asked is within are (inr t) = named_within options word s after parts are t
+step_within options (Looking word first) s after parts long asked is within are (inr t) = named_within options word s after parts are t
+step_within options (Marking word place) s after parts long asked is within are (inl t) = record {
   within = subst (λ (x : Standing). IsWithin options.to x.place) (sym t.after_is) (mark_within options.to place s word t.stop within);
   are = subst AreWords (sym (ap (λ (x : Standing). x.words) t.after_is ∙ mark_words place s word t.stop)) are;
 }
-step_within options (Looking word first) s after parts long asked is within are t = record {
+step_within options (Looking word first) s after parts long asked is within are (inl t) = record {
   within = subst (λ (x : Standing). IsWithin options.to x.place) (sym t.after_is) (look_within options.to s word t.last t.stop within.0);
   are = subst AreWords (sym (ap (λ (x : Standing). x.words) t.after_is ∙ look_words s word t.last t.stop)) are;
 }

@@ -16,7 +16,7 @@ use Rattle.looking_engine.specs.Stopping.{LookStop}
 use Rattle.reading_core.specs.Reader.{Reader}
 use Rattle.memory_core.specs.declared.stage.Borrowed.{Borrowed}
 use Rattle.machine_memory.specs.BusCourse.{then_bus}
-use Rattle.machine_memory.specs.BusRuns.{IsLookAgainStep, IsLookLed, IsLookStep, IsMarkStep, IsPutBackStep}
+use Rattle.machine_memory.specs.BusRuns.{IsLookAgainStep, IsLookLed, IsLookStep, IsMarkStep, IsNamedStep, IsPutBackStep, IsRestored}
 use Rattle.machine_memory.specs.Course.{Standing, behind_test, behind_trial}
 use Rattle.machine_memory.specs.Options.{probe_options}
 use Rattle.machine_memory.specs.Turns.{most_turns}
@@ -42,12 +42,15 @@ pub record IsTestStep (options : MemoryOptions) (at : ℕ) (before after : Stand
   pub test_led : IsTestLed options at last stop parts
   pub after_is : after ≡ then_bus options.every (behind_test options.to before last stop)
 
--- what comes next was done: where nothing does, nothing was said
+-- what comes next was done, or, where memory was wanting for it, the word got its old number again, which may not stand: where nothing comes next, nothing
+-- was said
 abbrev pub IsStepAt : MemoryOptions → Place → Standing → Standing → List (List Item) → Type 0
 IsStepAt options (Trying at) before after parts = IsTryStep options at before after parts
 IsStepAt options (Testing at) before after parts = IsTestStep options at before after parts
-IsStepAt options (Marking word place) before after parts = IsMarkStep options word place before after parts
-IsStepAt options (Looking word first) before after parts = IsLookStep options word first before after parts
+IsStepAt options (Marking word place) before after parts =
+    IsMarkStep options word place before after parts ⊎ IsNamedStep options word before after parts
+IsStepAt options (Looking word first) before after parts =
+    IsLookStep options word first before after parts ⊎ IsNamedStep options word before after parts
 IsStepAt options (PuttingBack word) before after parts = IsPutBackStep options word before after parts
 IsStepAt options (LookingAgain word first) before after parts = IsLookAgainStep options word first before after parts
 IsStepAt options (Over end) before after parts = (after ≡ before) × (parts ≡ [])
@@ -70,17 +73,17 @@ most_steps = 64
 abbrev pub IsRow : MemoryOptions → Standing → Standing → List (List Item) → Type 0
 IsRow options first last parts = AreSteps most_steps options first last parts
 
--- a look at the words around one that want of memory cut off
+-- a second look at the words around one that want of memory cut off
 abbrev pub IsCutLook : MemoryOptions → Borrowed → ℕ → List (List Item) → Type 0
 IsCutLook options word first parts = (parts ≡ []) ⊎ ((last : Reader) × (stop : LookStop) × IsLookLed options word.address first last stop parts)
 
--- a step that want of memory cut off: before a host was led, or behind it
+-- a step that want of memory cut off: before a host was led, or behind it. A word that was lent has its old number again
 abbrev pub IsCutStep : MemoryOptions → Place → List (List Item) → Type 0
 IsCutStep options (Trying at) parts = IsUntried (probe_options options at) parts ⊎ ((f : Findings) × IsTriedOut (probe_options options at) f parts)
 IsCutStep options (Testing at) parts = (parts ≡ []) ⊎ ((last : Tester) × (stop : Stop End) × IsTestLed options at last stop parts)
-IsCutStep options (Marking word place) parts = parts ≡ []
-IsCutStep options (Looking word first) parts = IsCutLook options word first parts
-IsCutStep options (PuttingBack word) parts = parts ≡ []
+IsCutStep options (Marking word place) parts = IsRestored options word parts
+IsCutStep options (Looking word first) parts = IsRestored options word parts
+IsCutStep options (PuttingBack word) parts = ⊥
 IsCutStep options (LookingAgain word first) parts = IsCutLook options word first parts
 IsCutStep options (Over end) parts = parts ≡ []
 

@@ -1,12 +1,14 @@
 //! A test of a bus between two hosts.
-ghost use Rattle.std.specs.Prelude.{◌≡◌, ◌+◌, ◌++◌, true, None, Some, length, min, IfOk};
+ghost use Rattle.std.specs.Prelude.{◌≡◌, ◌+◌, ◌≤◌, ◌++◌, true, None, Some, length, min, vec_capacity, IfOk, OnErr};
+ghost use Rattle.engine.specs.declared.stop.Stop.TheVariants.{Ended};
+ghost use Rattle.host_core.specs.declared.phase.End.TheVariants.{Loaded};
 ghost use Rattle.machine_memory.specs.Bus.{mark, reading};
 ghost use Rattle.machine_memory.specs.BusCourse.{behind_look, behind_mark, behind_put_back, behind_second_look, first_good, good_also};
 ghost use Rattle.machine_memory.specs.BusCourse.{in_bus, look_on, next_mark, put_back_next, second_look_on, stopped_load, then_bus};
 
 use crate::bus_numbers::{NUMBERS, mark};
 use crate::course::{Course, Place};
-use crate::neighbours::{LAST_WORD, push_reading};
+use crate::neighbours::{LAST_WORD, note_reading, push_reading};
 use host_core::End as LoadEnd;
 use load_engine::Stop as LoadStop;
 use looking_engine::Stop as LookStop;
@@ -73,6 +75,18 @@ impl Course {
         self.over(end, Some(word))
     }
 
+    /// What comes behind the old number, where memory was wanting for more: that, or, where the number may not stand, an end
+    /// that names the word.
+    pub(crate) fn behind_want(self, word: Borrowed, stop: LoadStop) -> Result<Course, AllocError>
+        ensures named { IfOk result (λ course. course ≡ stopped_load self word stop) }
+        ensures restored { OnErr result (stop ≡ Ended Loaded) }
+    {
+        match stop {
+            LoadStop::Ended(LoadEnd::Loaded) => Err(AllocError),
+            other => Ok(self.stopped_load(word, other)),
+        }
+    }
+
     /// What comes behind the deposit of the number at this place.
     pub(crate) fn behind_mark(self, word: Borrowed, place: u8, stop: LoadStop) -> Course
         ensures { result ≡ behind_mark self word place stop }
@@ -106,23 +120,27 @@ impl Course {
         }
     }
 
-    /// What comes behind a look at the words around this one, which holds the mark.
+    /// What comes behind a look at the words around this one, which holds the mark. There is room for those that read it,
+    /// behind the earlier ones.
     pub(crate) fn behind_look(
         self,
         word: Borrowed,
         core: &ReadingCore,
+        marked: Vec<u16>,
         stop: Looked,
-    ) -> Result<Course, AllocError>
-        ensures { IfOk result (λ course. course ≡ behind_look self word core.now stop) }
+    ) -> Course
+        requires same { marked.items ≡ self.bus.marked }
+        requires ample { length marked.items + length core.now.values ≤ vec_capacity marked }
+        ensures { result ≡ behind_look self word core.now stop }
     {
-        let course = self.with_marked(word, core)?;
-        Ok(match stop {
+        let course = self.with_marked(word, core, marked);
+        match stop {
             Looked::Ended(LookEnd::Complete) => course.at(Place::PuttingBack(word)),
             Looked::Ended(LookEnd::NoWord(gap)) => course.at(look_on(word, gap)),
             Looked::Ended(LookEnd::GaveUp) => course.over(TestEnd::GaveUp, Some(word)),
             Looked::TurnsOver => course.over(TestEnd::TurnsOver, Some(word)),
             Looked::LineFailed(fault) => course.over(TestEnd::LineFailed(fault), Some(word)),
-        })
+        }
     }
 
     /// What comes behind a second look at them, once the word has its old number again.
@@ -152,22 +170,26 @@ impl Course {
     }
 
     // What a look read while the word held the mark.
-    fn with_marked(self, word: Borrowed, core: &ReadingCore) -> Result<Course, AllocError>
-        ensures { IfOk result (λ course. course ≡ record self {
+    fn with_marked(self, word: Borrowed, core: &ReadingCore, marked: Vec<u16>) -> Course
+        requires same { marked.items ≡ self.bus.marked }
+        requires ample { length marked.items + length core.now.values ≤ vec_capacity marked }
+        ensures { result ≡ record self {
           bus = record self.bus {
             looked_at = min (self.bus.looked_at + length core.now.values) 4294967295;
             marked = self.bus.marked ++ reading (mark word.old) core.now.addresses core.now.values;
           };
-        }) }
+        } }
     {
         let Bus {
             at,
             touches,
             looked_at,
-            mut marked,
+            marked: earlier,
             returned,
         } = self.bus;
-        push_reading(&mut marked, mark(word.old), core.addresses(), core.values())?;
+        drop(earlier);
+        let mut marked = marked;
+        note_reading(&mut marked, mark(word.old), core.addresses(), core.values());
         let more = core.values().len() as u32;
         let bus = Bus {
             at,
@@ -176,7 +198,7 @@ impl Course {
             marked,
             returned,
         };
-        Ok(Course { bus, ..self })
+        Course { bus, ..self }
     }
 
     // What a look read once the word had its old number again.

@@ -1,4 +1,5 @@
-ghost use Rattle.std.specs.Prelude.{◌≤◌};
+ghost use Rattle.std.specs.Prelude.{◌≡◌, ◌≤◌};
+ghost use Rattle.machine_memory.specs.Options.{words_asked};
 
 /// Which words are tested, and how patient the test is.
 #[derive(Clone, Copy, Debug, PartialEq, Eq)]
@@ -21,6 +22,7 @@ impl MemoryOptions {
     pub(crate) fn count(self) -> u32
         requires some { 1 ≤ self.every }
         requires order { self.from ≤ self.to }
+        ensures { result ≡ words_asked self }
     {
         u32::from(self.to - self.from) / (2 * u32::from(self.every)) + 1
     }

@@ -1,18 +1,19 @@
 //! The hosts of a test of memory, one after another over one line.
-ghost use Rattle.std.specs.Prelude.{◌≡◌, IfOk, OnErr};
+ghost use Rattle.std.specs.Prelude.{◌≡◌, None, IfOk, OnErr};
 ghost use Rattle.reading_core.specs.Addresses.{IsRange};
 ghost use Rattle.machine_probe.specs.Runs.{OnLine};
 ghost use Rattle.machine_memory.specs.declared.course.Place.TheVariants.{Testing, Trying};
+ghost use Rattle.machine_memory.specs.BusRuns.{IsReady, IsUnlent};
 ghost use Rattle.machine_memory.specs.Course.{AreWords, IsWithin};
 ghost use Rattle.machine_memory.specs.Options.{IsAsked};
 ghost use Rattle.machine_memory.specs.Runs.{IsCut, IsCutStep, IsRow, IsStep, IsTestStep, IsTryStep};
 
 use crate::behind::Behind;
-use crate::bus_steps::{look_again, look_around, mark_word, put_back};
+use crate::bus_steps::{back_for, look_again, look_around, mark_word, put_back};
 use crate::course::{Course, Place};
 use crate::memory_options::MemoryOptions;
 use host_devices::{Line, MOST_TURNS, Onlooker};
-use machine_probe::{ProbeOptions, try_console};
+use machine_probe::{Deposit, ProbeOptions, try_console};
 use memory_core::MemoryCore;
 use memory_engine::{WordWatch, put_to_test};
 use std::alloc::{AllocError, Global};
@@ -23,7 +24,9 @@ const STEPS: u32 = 64;
 
 /// Leads the hosts of a test, one after another over the line, until it is over.
 ///
-/// The one error is want of memory, before a host or behind one.
+/// The one error is want of memory, before a host or behind one. A word that was lent to the bus has its old number again
+/// then: the host for that is made before anything is deposited, and where the number may not stand there is no error, but an
+/// end that names the word.
 pub(crate) fn make_steps<L: Line, O: Onlooker + WordWatch>(
     alloc: Global,
     course: Course,
@@ -33,13 +36,15 @@ pub(crate) fn make_steps<L: Line, O: Onlooker + WordWatch>(
 ) -> Result<Course, AllocError>
     requires asked { IsAsked options }
     requires within { IsWithin options.to course.place }
+    requires ready { IsReady options course.place None }
     requires words { AreWords course.words }
     ensures made { IfOk result (λ last. OnLine (IsRow options course last) (L.told line.old) (L.told line.new)) }
     ensures cut { OnErr result (OnLine (IsCut options course) (L.told line.old) (L.told line.new)) }
 {
     let mut course = course;
+    let mut back = None;
     for _ in 0..STEPS {
-        course = step(alloc, course, options, line, onlooker)?;
+        course = step(alloc, course, &mut back, options, line, onlooker)?;
     }
     Ok(course)
 }
@@ -48,6 +53,7 @@ pub(crate) fn make_steps<L: Line, O: Onlooker + WordWatch>(
 fn step<L: Line, O: Onlooker + WordWatch>(
     alloc: Global,
     course: Course,
+    back: &mut Option<Deposit>,
     options: MemoryOptions,
     line: &mut L,
     onlooker: &O,
@@ -55,20 +61,22 @@ fn step<L: Line, O: Onlooker + WordWatch>(
     requires asked { IsAsked options }
     requires within { IsWithin options.to course.place }
     requires words { AreWords course.words }
+    requires ready { IsReady options course.place back.old }
     ensures made { IfOk result (λ next. OnLine (IsStep options course next) (L.told line.old) (L.told line.new)) }
     ensures within { IfOk result (λ next. IsWithin options.to next.place) }
     ensures words { IfOk result (λ next. AreWords next.words) }
+    ensures ready { IfOk result (λ next. IsReady options next.place back.new) }
     ensures cut { OnErr result (OnLine (IsCutStep options course.place) (L.told line.old) (L.told line.new)) }
 {
     match course.place {
         Place::Trying(at) => try_at(alloc, course, at, options, line),
-        Place::Testing(at) => test_from(alloc, course, at, options, line, onlooker),
+        Place::Testing(at) => test_from(alloc, course, at, back, options, line, onlooker),
         Place::Marking(word, place) => {
             onlooker.borrows(word);
-            mark_word(alloc, course, word, place, options, line)
+            mark_word(alloc, course, word, place, back, options, line)
         }
-        Place::Looking(word, first) => look_around(alloc, course, word, first, options, line),
-        Place::PuttingBack(word) => put_back(alloc, course, word, options, line),
+        Place::Looking(word, first) => look_around(alloc, course, word, first, back, options, line),
+        Place::PuttingBack(word) => Ok(put_back(course, word, back.take().unwrap(), line)),
         Place::LookingAgain(word, first) => look_again(alloc, course, word, first, options, line),
         Place::Over(_) => Ok(course),
     }
@@ -88,6 +96,7 @@ fn try_at<L: Line>(
     ensures made { IfOk result (λ next. OnLine (IsTryStep options at course next) (L.told line.old) (L.told line.new)) }
     ensures within { IfOk result (λ next. IsWithin options.to next.place) }
     ensures words { IfOk result (λ next. AreWords next.words) }
+    ensures ready { IfOk result (λ next. IsUnlent next.place) }
     ensures cut { OnErr result (OnLine (IsCutStep options (Trying at)) (L.told line.old) (L.told line.new)) }
 {
     let probe = ProbeOptions {
@@ -103,6 +112,7 @@ fn test_from<L: Line, O: Onlooker + WordWatch>(
     alloc: Global,
     course: Course,
     at: u16,
+    back: &mut Option<Deposit>,
     options: MemoryOptions,
     line: &mut L,
     onlooker: &O,
@@ -113,6 +123,7 @@ fn test_from<L: Line, O: Onlooker + WordWatch>(
     ensures made { IfOk result (λ next. OnLine (IsTestStep options at course next) (L.told line.old) (L.told line.new)) }
     ensures within { IfOk result (λ next. IsWithin options.to next.place) }
     ensures words { IfOk result (λ next. AreWords next.words) }
+    ensures ready { IfOk result (λ next. IsReady options next.place back.new) }
     ensures cut { OnErr result (OnLine (IsCutStep options (Testing at)) (L.told line.old) (L.told line.new)) }
 {
     let core = MemoryCore::of_range(alloc, at, options.to, options.every, options.patience)?;
@@ -122,5 +133,7 @@ fn test_from<L: Line, O: Onlooker + WordWatch>(
     };
     let (core, stop) = put_to_test(core, line, MOST_TURNS, &behind, onlooker);
     let next = course.behind_test(&core, stop, options.to)?;
-    Ok(next.then_bus(options.every))
+    let next = next.then_bus(options.every);
+    *back = back_for(alloc, next.place, options)?;
+    Ok(next)
 }

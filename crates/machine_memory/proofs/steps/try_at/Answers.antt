@@ -2,8 +2,9 @@ use Rattle.std.proofs.Common.{ap, subst, sym, ◌∙◌}
 use Rattle.memory_report.specs.declared.findings.Word.{Word}
 use Rattle.std.specs.Prelude.{List}
 use Rattle.reading_core.specs.Addresses.{IsRange}
+use Rattle.machine_memory.specs.BusRuns.{IsUnlent}
 use Rattle.machine_memory.specs.Course.{AreWords, IsWithin, Standing}
-use Rattle.machine_memory.proofs.Leads.{holds_on_error, map_ok, trial_within, trial_words, try_cut, try_step}
+use Rattle.machine_memory.proofs.Leads.{holds_on_error, map_ok, trial_ready, trial_within, trial_words, try_cut, try_step}
 use Rattle.machine_memory.proofs.steps.try_at.Goals as goal
 
 pub returns-clause-made : goal.returns-clause-made
@@ -32,4 +33,10 @@ pub returns-clause-words : goal.returns-clause-words
 returns-clause-words g c =
     map_ok c.behind_trial.result _ _
     (λ after is. subst (λ (words : List Word). AreWords words) (sym (ap (λ (s : Standing). s.words) is ∙ trial_words c.args.options.to c.args.course c.in_ok-found.found)) c.requires.words)
+    c.behind_trial.ensures
+
+pub returns-clause-ready : goal.returns-clause-ready
+returns-clause-ready g c =
+    map_ok c.behind_trial.result _ _
+    (λ after is. subst (λ (s : Standing). IsUnlent s.place) (sym is) (trial_ready c.args.options.to c.args.course c.in_ok-found.found))
     c.behind_trial.ensures

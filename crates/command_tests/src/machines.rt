@@ -230,7 +230,7 @@ static PROBES: [Row; 6] = [
         Asked::Probe(LOOK),
         SystemSetting { tick: 1, ..AMPLE },
         Status::Done,
-        "prompt yes\nstyle 0\nforgets digits yes\nmemory 000000 to 157776\nkey 1.0 ms\na load of 28672 words takes 28 minutes at this pace\nend Probed\n",
+        "prompt yes\nstyle 0\nkeeps small letters not known\nforgets digits yes\nmemory 000000 to 157776\nkey 1.0 ms\na load of 28672 words takes 28 minutes at this pace\nend Probed\n",
         "",
         1,
     ),
@@ -249,7 +249,7 @@ static PROBES: [Row; 6] = [
             ..AMPLE
         },
         Status::Done,
-        "prompt yes\nstyle 0\nforgets digits yes\nmemory 000000 to 003776\nkey 100.0 ms\na load of 1024 words takes 102 minutes at this pace\nend Probed\n",
+        "prompt yes\nstyle 0\nkeeps small letters not known\nforgets digits yes\nmemory 000000 to 003776\nkey 100.0 ms\na load of 1024 words takes 102 minutes at this pace\nend Probed\n",
         "",
         1,
     ),
@@ -314,7 +314,7 @@ static TESTS: [Row; 7] = [
             },
         ),
         SystemSetting {
-            loses: Some(120),
+            loses: Some(124),
             ..LOADED
         },
         Status::Done,

@@ -1,34 +1,43 @@
 -- What readers have left of files that were opened one behind the other.
-use Rattle.std.proofs.Common.{◌≡◌, ◌<◌, ◌≤◌, ℕ, zero, suc, List, [], ◌∷◌, ◌++◌, Option, Some, None, length, map, set, take, drop, Result, Ok, Err, is_ok, is_err, false, if◌then◌else◌, get_or, slice_index_or, refl, sym, ap, ◌∙◌, subst, append_assoc, append-nil, arith}
-use Rattle.std.proofs.KnownBytes.{Consumes-trans}
+use Rattle.std.proofs.Common.{◌≡◌, ◌<◌, ◌≤◌, ℕ, zero, suc, List, [], ◌∷◌, ◌++◌, Option, Some, None, length, map, set, take, drop, Result, Ok, Err, is_ok, is_err, Bool, true, false, if◌then◌else◌, get_or, slice_index_or, refl, sym, ap, ◌∙◌, subst, append_assoc, append-nil, arith}
+use Rattle.std.proofs.KnownBytes.{Consumes-trans, Keeps-refl, Keeps-trans}
 use Rattle.std.proofs.lemmas.List.{drop_all, map-append, take_all}
 use Rattle.std.specs.List.{AllZip, remove}
-use Rattle.std.specs.Io.KnownBytes.{Consumes}
+use Rattle.std.specs.Io.KnownBytes.{Consumes, IsAtEnd, Keeps, prepend_known}
 use Rattle.host_devices.specs.Told.{HasAsked}
-use Rattle.input_files.specs.Opening.{Name, InputStep, AreAdded, Opened, NotOpened, opening, IsTried, Once, Again, OpenAtOnce, IsFrontOf, IsLeft, given_in}
+use Rattle.input_files.specs.Opening.{Name, InputStep, AreAdded, Opened, NotOpened, opening, IsTried, Once, Again, given_in}
+use Rattle.input_files.specs.Source.{left_behind}
 use Rattle.input_files.specs.Taking.{behind_first}
 
--- ---- fronts
+-- ---- what was read ahead
 
-pub front_refl : (all : Option (List ℕ)) → IsFrontOf all all
-front_refl None = tt
-front_refl (Some all) = ([], append-nil all)
+-- what was taken, and behind it what is left, where it has not ended
+pub as_it_ended : (before after : Option (List ℕ)) (taken : List ℕ) (has_ended : Bool) → Consumes before after taken → (has_ended ≡ true → IsAtEnd after)
+    → Keeps before (prepend_known taken (left_behind has_ended after))
+as_it_ended None after taken has_ended h at_end = tt
+as_it_ended (Some xs) None taken has_ended h at_end = absurd h
+as_it_ended (Some xs) (Some ys) taken true h at_end = sym (h ∙ ap (λ l. taken ++ l) (at_end refl))
+as_it_ended (Some xs) (Some ys) taken false h at_end = sym h
 
-pub front_trans : (first second all : Option (List ℕ)) → IsFrontOf first second → IsFrontOf second all → IsFrontOf first all
-front_trans first second None h k = tt
-front_trans first None (Some z) h k = absurd k
-front_trans None (Some y) (Some z) h k = absurd h
-front_trans (Some x) (Some y) (Some z) h k = (h.0 ++ k.0, sym (append_assoc x h.0 k.0) ∙ ap (λ l. l ++ k.0) h.1 ∙ k.1)
+-- so it is of a file that was read to there
+pub ahead_of : {X : Type 0} (known : X → Option (List ℕ)) (before : Option (List ℕ)) (file kept : X) (text items : List ℕ) (has_ended : Bool) → kept ≡ file → items ≡ text
+    → Consumes before (known file) text × (has_ended ≡ true → IsAtEnd (known file)) → Keeps before (prepend_known items (left_behind has_ended (known kept)))
+ahead_of known before file kept text items has_ended is all so =
+    subst (λ f. Keeps before (prepend_known items (left_behind has_ended (known f)))) (sym is)
+    (subst (λ l. Keeps before (prepend_known l (left_behind has_ended (known file)))) (sym all) (as_it_ended before (known file) text has_ended so.0 so.1))
 
--- what was taken is a front
-pub front_taken : (before after : Option (List ℕ)) (taken : List ℕ) → Consumes before after taken → IsFrontOf (Some taken) before
-front_taken None after taken h = tt
-front_taken (Some xs) None taken h = absurd h
-front_taken (Some xs) (Some ys) taken h = (ys, sym h)
+-- what is no other is kept
+pub kept_same : (before after : Option (List ℕ)) → after ≡ before → Keeps before after
+kept_same before after is = subst (Keeps before) (sym is) (Keeps-refl before)
 
-pub nothing_taken : (text : List ℕ) (all : Option (List ℕ)) → text ≡ [] → IsFrontOf (Some text) all
-nothing_taken text None is = tt
-nothing_taken text (Some all) is = (all, ap (λ l. l ++ all) is)
+pub never_both : {X : Type 0} (test : Bool) → test ≡ false → test ≡ true → X
+never_both true is_false is = absurd (cc is_false)
+never_both false is_false is = absurd (cc is)
+
+-- a read that gave nothing
+pub none_more : (a b c : Option (List ℕ)) (text buf : List ℕ) (n : ℕ) → n ≡ 0 → Consumes a b text → Consumes b c (take n buf) → Consumes a c text
+none_more a b c text buf n none before more =
+    subst (Consumes a c) (append-nil text) (Consumes-trans a b c text [] before (subst (λ m. Consumes b c (take m buf)) none more))
 
 -- a read of one byte at most, which gave one
 pub one_byte_more : (a b c : Option (List ℕ)) (text text' buf : List ℕ) (n byte : ℕ) → Consumes a b text → Consumes b c (take n buf) → n ≤ length buf → length buf ≡ 1 → 0 < n
@@ -40,31 +49,33 @@ one_byte_more a b c text text' (x ∷ []) n byte before more fits one some grown
     subst (Consumes a c) (sym all) (Consumes-trans a b c text (take n (x ∷ [])) before more)
 one_byte_more a b c text text' (x ∷ y ∷ zs) n byte before more fits one some grown byte_is = let no : ⊥ = omega (arith, one) in absurd no
 
-pub fronts_refl : (all : List (Option (List ℕ))) → AllZip IsFrontOf all all
-fronts_refl [] = tt
-fronts_refl (x ∷ xs) = (front_refl x, fronts_refl xs)
+-- ---- what is kept of several files
 
-fronts_trans : (xs ys zs : List (Option (List ℕ))) → AllZip IsFrontOf xs ys → AllZip IsFrontOf ys zs → AllZip IsFrontOf xs zs
-fronts_trans [] [] [] h k = tt
-fronts_trans [] [] (z ∷ zs) h k = absurd k
-fronts_trans [] (y ∷ ys) zs h k = absurd h
-fronts_trans (x ∷ xs) [] zs h k = absurd h
-fronts_trans (x ∷ xs) (y ∷ ys) [] h k = absurd k
-fronts_trans (x ∷ xs) (y ∷ ys) (z ∷ zs) h k = (front_trans x y z h.0 k.0, fronts_trans xs ys zs h.1 k.1)
+pub all_kept : (all : List (Option (List ℕ))) → AllZip Keeps all all
+all_kept [] = tt
+all_kept (x ∷ xs) = (Keeps-refl x, all_kept xs)
 
-fronts_join : (xs ys us vs : List (Option (List ℕ))) → AllZip IsFrontOf xs ys → AllZip IsFrontOf us vs → AllZip IsFrontOf (xs ++ us) (ys ++ vs)
-fronts_join [] [] us vs h k = k
-fronts_join [] (y ∷ ys) us vs h k = absurd h
-fronts_join (x ∷ xs) [] us vs h k = absurd h
-fronts_join (x ∷ xs) (y ∷ ys) us vs h k = (h.0, fronts_join xs ys us vs h.1 k)
+kept_on : (xs ys zs : List (Option (List ℕ))) → AllZip Keeps xs ys → AllZip Keeps ys zs → AllZip Keeps xs zs
+kept_on [] [] [] h k = tt
+kept_on [] [] (z ∷ zs) h k = absurd k
+kept_on [] (y ∷ ys) zs h k = absurd h
+kept_on (x ∷ xs) [] zs h k = absurd h
+kept_on (x ∷ xs) (y ∷ ys) [] h k = absurd k
+kept_on (x ∷ xs) (y ∷ ys) (z ∷ zs) h k = (Keeps-trans x y z h.0 k.0, kept_on xs ys zs h.1 k.1)
+
+kept_joined : (xs ys us vs : List (Option (List ℕ))) → AllZip Keeps xs ys → AllZip Keeps us vs → AllZip Keeps (xs ++ us) (ys ++ vs)
+kept_joined [] [] us vs h k = k
+kept_joined [] (y ∷ ys) us vs h k = absurd h
+kept_joined (x ∷ xs) [] us vs h k = absurd h
+kept_joined (x ∷ xs) (y ∷ ys) us vs h k = (h.0, kept_joined xs ys us vs h.1 k)
 
 -- one more of them was read ahead
-pub fronts_set : {X : Type 0} (known : X → Option (List ℕ)) (now start : List X) (i : ℕ) (d y : X) → i < length now → AllZip IsFrontOf (map known now) (map known start)
-    → IsFrontOf (known y) (known (get_or now i d)) → AllZip IsFrontOf (map known (set now i y)) (map known start)
-fronts_set known [] start i d y within h front = let no : ⊥ = omega (arith, within) in absurd no
-fronts_set known (x ∷ xs) [] i d y within h front = absurd h
-fronts_set known (x ∷ xs) (z ∷ zs) zero d y within h front = (front_trans (known y) (known x) (known z) front h.0, h.1)
-fronts_set known (x ∷ xs) (z ∷ zs) (suc i) d y within h front = (h.0, fronts_set known xs zs i d y (omega (arith, within)) h.1 front)
+pub kept_at : {X : Type 0} (known : X → Option (List ℕ)) (start now : List X) (i : ℕ) (d y : X) → i < length now → AllZip Keeps (map known start) (map known now)
+    → Keeps (known (get_or now i d)) (known y) → AllZip Keeps (map known start) (map known (set now i y))
+kept_at known start [] i d y within h kept = let no : ⊥ = omega (arith, within) in absurd no
+kept_at known [] (x ∷ xs) i d y within h kept = absurd h
+kept_at known (z ∷ zs) (x ∷ xs) zero d y within h kept = (Keeps-trans (known z) (known x) (known y) h.0 kept, h.1)
+kept_at known (z ∷ zs) (x ∷ xs) (suc i) d y within h kept = (h.0, kept_at known zs xs i d y (omega (arith, within)) h.1 kept)
 
 -- ---- steps
 
@@ -73,43 +84,23 @@ given_joined [] b = refl
 given_joined (Opened name given ∷ steps) b = ap (λ l. given ∷ l) (given_joined steps b)
 given_joined (NotOpened name ∷ steps) b = given_joined steps b
 
-at_once : (a b : List InputStep) → OpenAtOnce (a ++ b) → OpenAtOnce a × OpenAtOnce b
-at_once [] b h = (tt, h)
-at_once (Opened name given ∷ steps) b h = at_once steps b h
-at_once (NotOpened name ∷ steps) b h = absurd h
-
--- nothing was read ahead
-pub untouched : (steps : List InputStep) (all : List (Option (List ℕ))) → IsLeft all steps all
-untouched steps all = record { fronts = fronts_refl all; whole = λ once. refl }
-
--- files were read ahead behind a first try that failed
-pub read_ahead : (name : List ℕ) (steps : List InputStep) (all left : List (Option (List ℕ))) → AllZip IsFrontOf left all → IsLeft all (NotOpened name ∷ steps) left
-read_ahead name steps all left fronts = record { fronts = fronts; whole = λ once. absurd once }
-
-pub left_joined : (had between left : List (Option (List ℕ))) (a b : List InputStep) → IsLeft (had ++ given_in a) a between → IsLeft (between ++ given_in b) b left
-    → IsLeft (had ++ given_in (a ++ b)) (a ++ b) left
+pub left_joined : (had between left : List (Option (List ℕ))) (a b : List InputStep) → AllZip Keeps (had ++ given_in a) between → AllZip Keeps (between ++ given_in b) left
+    → AllZip Keeps (had ++ given_in (a ++ b)) left
 left_joined had between left a b h k =
     let all : had ++ given_in (a ++ b) ≡ (had ++ given_in a) ++ given_in b = ap (λ l. had ++ l) (given_joined a b) ∙ sym (append_assoc had (given_in a) (given_in b)) in
-    record {
-      fronts = subst (AllZip IsFrontOf left) (sym all)
-          (fronts_trans left (between ++ given_in b) ((had ++ given_in a) ++ given_in b) k.fronts
-          (fronts_join between (had ++ given_in a) (given_in b) (given_in b) h.fronts (fronts_refl (given_in b))));
-      whole = λ once. k.whole (at_once a b once).1 ∙ ap (λ l. l ++ given_in b) (h.whole (at_once a b once).0) ∙ sym all;
-    }
+    subst (λ l. AllZip Keeps l left) (sym all)
+    (kept_on ((had ++ given_in a) ++ given_in b) (between ++ given_in b) left (kept_joined (had ++ given_in a) between (given_in b) (given_in b) h (all_kept (given_in b))) k)
 
 given_one : (name : List ℕ) (tried : Option (Option (List ℕ))) (given : Option (List ℕ)) (steps : List InputStep) → IsTried name tried steps → tried ≡ Some given → given_in steps ≡ given ∷ []
 given_one name tried given steps (Once t) is = subst (λ o. given_in (opening name o ∷ []) ≡ given ∷ []) (sym is) refl
 given_one name tried given steps (Again t) is = subst (λ o. given_in (opening name o ∷ []) ≡ given ∷ []) (sym is) refl
 
 -- a file that was opened beside others
-pub one_added : (name : List ℕ) (given : Option (List ℕ)) (others left : List (Option (List ℕ))) (steps : List InputStep) → IsTried name (Some given) steps → IsLeft others steps left
-    → IsLeft (others ++ given_in steps) steps (left ++ given ∷ [])
+pub one_added : (name : List ℕ) (given : Option (List ℕ)) (others left : List (Option (List ℕ))) (steps : List InputStep) → IsTried name (Some given) steps → AllZip Keeps others left
+    → AllZip Keeps (others ++ given_in steps) (left ++ given ∷ [])
 one_added name given others left steps tried is =
-    let one : given_in steps ≡ given ∷ [] = given_one name (Some given) given steps tried refl in
-    record {
-      fronts = subst (λ l. AllZip IsFrontOf (left ++ given ∷ []) (others ++ l)) (sym one) (fronts_join left others (given ∷ []) (given ∷ []) is.fronts (fronts_refl (given ∷ [])));
-      whole = λ once. ap (λ l. l ++ given ∷ []) (is.whole once) ∙ ap (λ l. others ++ l) (sym one);
-    }
+    subst (λ l. AllZip Keeps (others ++ l) (left ++ given ∷ [])) (sym (given_one name (Some given) given steps tried refl))
+    (kept_joined others left (given ∷ []) (given ∷ []) is (all_kept (given ∷ [])))
 
 -- .. and then put behind them
 pub pushed : {X A E : Type 0} (result : Result A E) (items others now : List X) (len : ℕ) (file : X) → is_err result ≡ false → len ≡ length others → length others ≡ length items

@@ -6,7 +6,6 @@ use Rattle.endings.specs.declared.failure.Failure.TheVariants.{NoMemory}
 use Rattle.endings.specs.Held.{Held}
 use Rattle.host_devices.specs.Told.{HasAsked}
 use Rattle.input_files.specs.Opening.{Name, InputStep, AreTried, AllOpen}
-use Rattle.input_files.proofs.Left.{untouched}
 use Rattle.input_files.proofs.Tried.{no_room, tried_of}
 use Rattle.input_files.specs.Inputs.{Known, Inputs, AreOpened, IsUnopened, FailsUnopened, OfFiles, OfTapes, files_of, inputs_of, means_input, only_input}
 use Rattle.input_files.specs.Intake.{Intake, intake}
@@ -16,7 +15,7 @@ of_files known names files now P is = record { rests = map known now; is_so = is
 
 -- nothing was opened
 none_opened : (opened : Option (List InputStep)) → AreOpened [] [] opened opened
-none_opened opened = ([], tells_none opened, (AllOpen, untouched [] []))
+none_opened opened = ([], tells_none opened, (AllOpen, tt))
 
 files_none : (names : List Name) (opened opened' : Option (List InputStep)) → means_input names ≡ true → AreOpened [] [] opened opened' → AreOpened (files_of names) [] opened opened'
 files_none names opened opened' is h = subst (λ b. AreOpened (if b then [] else names) [] opened opened') (sym is) h

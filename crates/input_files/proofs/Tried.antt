@@ -2,6 +2,7 @@
 use Rattle.std.proofs.Common.{◌≡◌, ◌<◌, ◌≤◌, ◌+◌, ℕ, suc, Bool, true, false, List, [], ◌∷◌, ◌++◌, Option, Some, None, Result, Ok, Err, is_ok, length, take, drop, refl, sym, subst, get_or, append_assoc, append-nil, drop-cons}
 use Rattle.std.proofs.lemmas.List.{take-append-drop, take_all, take_more}
 use Rattle.std.specs.Bool.{OnTrue}
+use Rattle.std.specs.Io.KnownBytes.{Keeps}
 use Rattle.std.specs.List.{AllZip}
 use Rattle.std.specs.Prelude.{OnErr}
 use Rattle.std.specs.Result.{IfOk, IfErr, IsErr, IsErrAnd}
@@ -9,9 +10,9 @@ use Rattle.host_devices.proofs.Told.{tells_join, tells_none}
 use Rattle.host_devices.specs.Told.{HasAsked, Tells}
 use Rattle.endings.specs.declared.failure.Failure.{Failure}
 use Rattle.endings.specs.declared.failure.Failure.TheVariants.{CannotRead, NoMemory}
-use Rattle.input_files.specs.Opening.{Name, InputStep, NotOpened, opening, given_by, IsTried, Once, Again, AreTried, AllOpen, Opens, Shut, NoRoom, NoRoomToRetry, AreAdded, IsFrontOf, IsLeft, IsUnbuffered}
+use Rattle.input_files.specs.Opening.{Name, InputStep, NotOpened, opening, given_by, IsTried, Once, Again, AreTried, AllOpen, Opens, Shut, NoRoom, NoRoomToRetry, AreAdded, IsUnbuffered}
 use Rattle.input_files.proofs.Errors.{error_is}
-use Rattle.input_files.proofs.Left.{untouched, read_ahead, one_added, left_joined}
+use Rattle.input_files.proofs.Left.{all_kept, one_added, left_joined}
 
 -- ---- what an error says
 
@@ -34,24 +35,24 @@ none_given remaining (Ok file) is = absurd (cc is)
 none_given remaining (Err error) is = refl
 
 pub once : (name : List ℕ) (given : Option (Option (List ℕ))) (all : List (Option (List ℕ))) (a b : Option (List InputStep)) → Tells a b (opening name given ∷ [])
-    → HasAsked a b (λ steps. IsTried name given steps × IsLeft all steps all)
-once name given all a b told = (opening name given ∷ [], told, (Once given, untouched (opening name given ∷ []) all))
+    → HasAsked a b (λ steps. IsTried name given steps × AllZip Keeps all all)
+once name given all a b told = (opening name given ∷ [], told, (Once given, all_kept all))
 
 -- what is told of a file that did not open
 pub refused : (name : List ℕ) (given : Option (Option (List ℕ))) (a b : Option (List InputStep)) → given ≡ None → Tells a b (opening name given ∷ []) → Tells a b (NotOpened name ∷ [])
 refused name given a b is told = subst (λ o. Tells a b (opening name o ∷ [])) is told
 
 pub again : (name : List ℕ) (given : Option (Option (List ℕ))) (all left : List (Option (List ℕ))) (a b c : Option (List InputStep)) → Tells a b (NotOpened name ∷ [])
-    → Tells b c (opening name given ∷ []) → AllZip IsFrontOf left all → HasAsked a c (λ steps. IsTried name given steps × IsLeft all steps left)
-again name given all left a b c first second fronts = (
+    → Tells b c (opening name given ∷ []) → AllZip Keeps all left → HasAsked a c (λ steps. IsTried name given steps × AllZip Keeps all left)
+again name given all left a b c first second kept = (
   NotOpened name ∷ opening name given ∷ [],
   tells_join a b c (NotOpened name ∷ []) (opening name given ∷ []) first second,
-  (Again given, read_ahead name (opening name given ∷ []) all left fronts),
+  (Again given, kept),
 )
 
 -- a name that was tried, and its file put behind a buffer
 pub buffered : {F E : Type 0} (remaining : F → Option (List ℕ)) (name : Name) (opened : Result F E) (given : Option (List ℕ)) (others left : List (Option (List ℕ))) (a b : Option (List InputStep))
-    → given_by remaining opened ≡ Some given → HasAsked a b (λ steps. IsTried name.now (given_by remaining opened) steps × IsLeft others steps left)
+    → given_by remaining opened ≡ Some given → HasAsked a b (λ steps. IsTried name.now (given_by remaining opened) steps × AllZip Keeps others left)
     → HasAsked a b (AreAdded (name ∷ []) others (left ++ given ∷ []))
 buffered remaining name opened given others left a b is tried =
     let once : IsTried name.now (Some given) tried.0 = subst (λ o. IsTried name.now o tried.0) is tried.2.0 in (
@@ -76,7 +77,7 @@ unbuffered_as remaining name (Err error) NoMemory steps is tried = absurd (cc is
 unbuffered_as remaining name (Err error) other steps is tried = absurd is
 
 pub unbuffered : {F E : Type 0} (remaining : F → Option (List ℕ)) (name : Name) (opened : Result F E) (failure : Failure) (others left : List (Option (List ℕ))) (a b : Option (List InputStep))
-    → IsUnbuffered name (is_ok opened) failure → HasAsked a b (λ steps. IsTried name.now (given_by remaining opened) steps × IsLeft others steps left)
+    → IsUnbuffered name (is_ok opened) failure → HasAsked a b (λ steps. IsTried name.now (given_by remaining opened) steps × AllZip Keeps others left)
     → HasAsked a b (AreTried (name ∷ []) (Some failure))
 unbuffered remaining name opened failure others left a b is tried = (tried.0, tried.1, unbuffered_as remaining name opened failure tried.0 is tried.2.0)
 
@@ -138,7 +139,7 @@ added_more xs ys others between left a b c h k = (
 -- ---- one name after another
 
 pub none_added : (names : List Name) (others : List (Option (List ℕ))) (a : Option (List InputStep)) → HasAsked a a (AreAdded (take 0 names) others others)
-none_added names others a = ([], tells_none a, (AllOpen, subst (λ l. IsLeft l [] others) (sym (append-nil others)) (untouched [] others)))
+none_added names others a = ([], tells_none a, (AllOpen, subst (λ l. AllZip Keeps l others) (sym (append-nil others)) (all_kept others)))
 
 parts : (names : List Name) (i : ℕ) (d : Name) → i < length names → take i names ++ (get_or names i d ∷ drop (suc i) names) ≡ names
 parts names i d within = subst (λ rest. take i names ++ rest ≡ names) (drop-cons names i d within) (take-append-drop i names)

@@ -1,6 +1,7 @@
 -- The files that are opened by their names, in an order, and what each gives its reader.
-use Rattle.std.specs.Prelude.{◌≡◌, ℕ, Bool, true, false, List, [], ◌∷◌, ◌++◌, Option, Some, None, Result, Ok, Err, ⊤}
+use Rattle.std.specs.Prelude.{◌≡◌, ℕ, Bool, true, false, List, [], ◌∷◌, ◌++◌, Option, Some, None, Result, Ok, Err}
 use Rattle.std.specs.Borrow.{Bor}
+use Rattle.std.specs.Io.KnownBytes.{Keeps}
 use Rattle.std.specs.List.{AllZip}
 use Rattle.endings.specs.declared.failure.Failure.{Failure}
 use Rattle.endings.specs.declared.failure.Failure.TheVariants.{CannotRead, NoMemory}
@@ -46,26 +47,10 @@ given_in [] = []
 given_in (Opened name given ∷ steps) = given ∷ given_in steps
 given_in (NotOpened name ∷ steps) = given_in steps
 
--- no name had to be tried twice
-abbrev pub OpenAtOnce : List InputStep → Type 0
-OpenAtOnce [] = ⊤
-OpenAtOnce (Opened name given ∷ steps) = OpenAtOnce steps
-OpenAtOnce (NotOpened name ∷ steps) = ⊥
-
--- of all that a file gives this is a front, where it is told
-abbrev pub IsFrontOf : Option (List ℕ) → Option (List ℕ) → Type 0
-IsFrontOf front None = ⊤
-IsFrontOf None (Some all) = ⊥
-IsFrontOf (Some front) (Some all) = (rest : List ℕ) × (front ++ rest ≡ all)
-
--- behind these steps readers have left of files what those give: all of it, or, once a name had to be tried twice, fronts that were read ahead
-pub record IsLeft (given : List (Option (List ℕ))) (steps : List InputStep) (left : List (Option (List ℕ))) : Type 0 where
-  pub fronts : AllZip IsFrontOf left given
-  pub whole : OpenAtOnce steps → left ≡ given
-
--- files of these names were opened behind others, and this is what their readers have left and those of these
+-- files of these names were opened behind others, and all that those and these will give is what their readers have left, where it is told: also of one that
+-- was read ahead, since a name had to be tried twice
 abbrev pub AreAdded : List Name → List (Option (List ℕ)) → List (Option (List ℕ)) → List InputStep → Type 0
-AreAdded names others left steps = AreTried names None steps × IsLeft (others ++ given_in steps) steps left
+AreAdded names others left steps = AreTried names None steps × AllZip Keeps (others ++ given_in steps) left
 
 -- a file was not opened by this name, or it was and there is no memory for its buffer
 abbrev pub IsUnbuffered : Name → Bool → Failure → Type 0

@@ -2,9 +2,10 @@
 ghost use Rattle.std.specs.Prelude.{◌≡◌, ◌+◌, ◌++◌, ◌∷◌, [], length, map, Some, false, is_ok, IfOk, IfErr, OnOk, OnErr};
 ghost use Rattle.std.specs.Bool.{OnTrue};
 ghost use Rattle.std.specs.Io.Buffered.{reader_remaining};
+ghost use Rattle.std.specs.Io.KnownBytes.{Keeps};
 ghost use Rattle.std.specs.List.{AllZip};
 ghost use Rattle.host_devices.specs.Told.{HasAsked, Tells};
-ghost use Rattle.input_files.specs.Opening.{NotOpened, IsTried, AreTried, AreAdded, IsFrontOf, IsLeft, IsUnbuffered, given_by};
+ghost use Rattle.input_files.specs.Opening.{NotOpened, IsTried, AreTried, AreAdded, IsUnbuffered, given_by};
 ghost use Rattle.input_files.specs.Source.{source_remaining};
 ghost use Rattle.input_files.specs.Taking.{behind_first};
 
@@ -120,7 +121,7 @@ fn opened_beside<F: InputFiles>(
 ) -> Result<io::Result<F::File>, AllocError>
     ensures tried { IfOk result (λ opened. HasAsked (F.opened rt.old) (F.opened rt.new) (λ steps.
         IsTried name.now (given_by F.File.remaining opened) steps
-        × IsLeft (map (source_remaining F.File.remaining) others.old) steps (map (source_remaining F.File.remaining) others.new))) }
+        × AllZip Keeps (map (source_remaining F.File.remaining) others.old) (map (source_remaining F.File.remaining) others.new))) }
     ensures starved { OnErr result (Tells (F.opened rt.old) (F.opened rt.new) (NotOpened name.now ∷ [])) }
 {
     let opened = rt.open_input(name);
@@ -164,7 +165,7 @@ fn lacks_descriptor<T>(opened: &io::Result<T>) -> bool
 
 // Reads files ahead and closes them.
 fn read_all_ahead<F: Read + Drop>(alloc: Global, files: &mut [Source<F>]) -> Result<(), AllocError>
-    ensures { OnOk result (AllZip IsFrontOf (map (source_remaining F.remaining) files.new) (map (source_remaining F.remaining) files.old)) }
+    ensures { OnOk result (AllZip Keeps (map (source_remaining F.remaining) files.old) (map (source_remaining F.remaining) files.new)) }
 {
     for place in 0..files.len() {
         files[place].read_ahead(alloc)?;

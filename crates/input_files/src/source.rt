@@ -1,14 +1,16 @@
 //! A file that was opened, and that can be read ahead and closed: where the system has no descriptor left,
 //! the next file gets its one.
-ghost use Rattle.std.specs.Prelude.{Some, IfOk, OnOk};
+ghost use Rattle.std.specs.Prelude.{IfOk};
 ghost use Rattle.std.specs.Io.Buffered.{reader_remaining};
-ghost use Rattle.input_files.specs.Opening.{IsFrontOf};
+ghost use Rattle.std.specs.Io.KnownBytes.{Keeps};
+ghost use Rattle.input_files.specs.Source.{ahead_remaining};
 
 use byte_io::{InputFault, read_up_to};
 use loss_scripts::SCRIPT_LIMIT;
 use std::alloc::{AllocError, Global};
 use std::collections::VecDeque;
 use std::io::{BufReader, ErrorKind, Read};
+use std::snapshot::Snapshot;
 use std::{io, mem};
 use tape_blocks::{Fed, ReadError, TapeReader};
 use tape_values::TAPE_LIMIT;
@@ -33,12 +35,12 @@ pub enum Source<F> {
     Open(Role, BufReader<F>),
 
     /// It was read ahead and closed.
-    Closed(Ahead),
+    Closed(Ahead<F>),
 }
 
 impl<F: Read + Drop> Source<F> {
     ghost use Rattle.std.specs.Prelude.{OnOk};
-    ghost use Rattle.input_files.specs.Opening.{IsFrontOf};
+    ghost use Rattle.std.specs.Io.KnownBytes.{Keeps};
     ghost use Rattle.input_files.specs.Source.{source_remaining};
 
     /// Takes of the file what its reader will ask for, and closes it. Its reader is told of a read that fails,
@@ -46,13 +48,13 @@ impl<F: Read + Drop> Source<F> {
     ///
     /// `AllocError` comes only where a growth was refused; then the file is closed, and what was taken is lost.
     pub(crate) fn read_ahead(&mut self, alloc: Global) -> Result<(), AllocError>
-        ensures { OnOk result (IsFrontOf (source_remaining F.remaining self.new) (source_remaining F.remaining self.old)) }
+        ensures { OnOk result (Keeps (source_remaining F.remaining self.old) (source_remaining F.remaining self.new)) }
     {
-        let nothing = Source::Closed(Ahead {
-            text: VecDeque::new(alloc),
-            is_broken: false,
-        });
-        let ahead = match mem::replace(self, nothing) {
+        let failing = match self {
+            Source::Open(_, file) => Ahead::failing(alloc, file),
+            Source::Closed(_) => return Ok(()),
+        };
+        let ahead = match mem::replace(self, Source::Closed(failing)) {
             Source::Open(Role::Tape, file) => ahead_of_tape(alloc, file)?,
             Source::Open(Role::Script, file) => ahead_of_script(alloc, file)?,
             Source::Closed(ahead) => ahead,
@@ -77,20 +79,41 @@ impl<F: Read> Read for Source<F> {
 
 /// What was read ahead of a file, as far as it was not yet passed on.
 #[derive(Drop)]
-pub struct Ahead {
+pub struct Ahead<F> {
     text: VecDeque<u8>,
 
-    /// Whether the read behind the text failed.
-    is_broken: bool,
+    /// Whether the file ended behind the text. Else a read that comes to there fails, as the file's did; or nobody comes
+    /// to there, since its reader asks for no more.
+    has_ended: bool,
+
+    /// The file as it was behind the text, which only clauses read.
+    file: Snapshot<BufReader<F>>,
 }
 
-impl Read for Ahead {
-    ghost use Rattle.std.specs.Prelude.{Some};
+impl<F: Read> Ahead<F> {
+    ghost use Rattle.std.specs.Prelude.{◌≡◌};
+    ghost use Rattle.std.specs.Io.Buffered.{reader_remaining};
+    ghost use Rattle.input_files.specs.Source.{ahead_remaining};
 
-    ghost remaining = { λ ahead. Some ahead.text.items };
+    // Nothing of a file, which can't be read.
+    fn failing(alloc: Global, file: &BufReader<F>) -> Ahead<F>
+        ensures { ahead_remaining F.remaining result ≡ reader_remaining F.remaining file.now }
+    {
+        Ahead {
+            text: VecDeque::new(alloc),
+            has_ended: false,
+            file: Snapshot::of(file),
+        }
+    }
+}
+
+impl<F: Read> Read for Ahead<F> {
+    ghost use Rattle.input_files.specs.Source.{ahead_remaining};
+
+    ghost remaining = { ahead_remaining F.remaining };
 
     fn read(&mut self, buf: &mut [u8]) -> io::Result<usize> {
-        if self.is_broken && self.text.is_empty() {
+        if self.text.is_empty() && !self.has_ended && !buf.is_empty() {
             return Err(io::Error::from(ErrorKind::Other));
         }
         self.text.read(buf)
@@ -99,21 +122,24 @@ impl Read for Ahead {
 
 // What the reader of a tape takes of a file: it is asked after each byte, since only it knows where a tape ends. What it
 // makes of the tape is told when its turn comes.
-fn ahead_of_tape<F: Read + Drop>(alloc: Global, mut file: BufReader<F>) -> Result<Ahead, AllocError>
-    ensures { IfOk result (λ ahead. IsFrontOf (Some ahead.text.items) (reader_remaining F.remaining file)) }
+fn ahead_of_tape<F: Read + Drop>(
+    alloc: Global,
+    mut file: BufReader<F>,
+) -> Result<Ahead<F>, AllocError>
+    ensures { IfOk result (λ ahead. Keeps (reader_remaining F.remaining file) (ahead_remaining F.remaining ahead)) }
 {
     let mut reader = TapeReader::new(alloc);
     let mut text = Vec::new(alloc);
-    let mut is_broken = false;
+    let mut has_ended = false;
     for _ in 0..INPUT_LIMIT {
         let mut byte = [0u8; 1];
         match file.read(&mut byte) {
-            Ok(0) => break,
-            Ok(_) => text.push(byte[0])?,
-            Err(_) => {
-                is_broken = true;
+            Ok(0) => {
+                has_ended = true;
                 break;
             }
+            Ok(_) => text.push(byte[0])?,
+            Err(_) => break,
         }
         match reader.feed(&byte) {
             Ok(Fed::More) => {}
@@ -123,7 +149,8 @@ fn ahead_of_tape<F: Read + Drop>(alloc: Global, mut file: BufReader<F>) -> Resul
     }
     Ok(Ahead {
         text: VecDeque::from_vec(text),
-        is_broken,
+        has_ended,
+        file: Snapshot::of(&file),
     })
 }
 
@@ -131,18 +158,17 @@ fn ahead_of_tape<F: Read + Drop>(alloc: Global, mut file: BufReader<F>) -> Resul
 fn ahead_of_script<F: Read + Drop>(
     alloc: Global,
     mut file: BufReader<F>,
-) -> Result<Ahead, AllocError>
-    ensures { IfOk result (λ ahead. IsFrontOf (Some ahead.text.items) (reader_remaining F.remaining file)) }
+) -> Result<Ahead<F>, AllocError>
+    ensures { IfOk result (λ ahead. Keeps (reader_remaining F.remaining file) (ahead_remaining F.remaining ahead)) }
 {
+    let failing = Ahead::failing(alloc, &file);
     match read_up_to(alloc, &mut file, SCRIPT_LIMIT + 1) {
         Ok(text) => Ok(Ahead {
+            has_ended: text.len() <= SCRIPT_LIMIT,
             text: VecDeque::from_vec(text),
-            is_broken: false,
+            file: Snapshot::of(&file),
         }),
-        Err(InputFault::Read) => Ok(Ahead {
-            text: VecDeque::new(alloc),
-            is_broken: true,
-        }),
+        Err(InputFault::Read) => Ok(failing),
         Err(InputFault::Memory) => Err(AllocError),
     }
 }

@@ -1,6 +1,6 @@
 -- Rows of the tables of what is asked, by what came of a call.
 use Rattle.std.proofs.Common.{◌≡◌, ℕ, ◌+◌, ◌<◌, ◌≤◌, ◌⊎◌, inl, inr, ◌∙◌, sym, ap, subst, refl, List, [], ◌∷◌, ◌++◌, length, append_assoc, Bool, true, false, Option, Some, None, Result, Ok, Err}
-use Rattle.record_file.specs.Beginning.{new_name, Course, NotReplaced, GivenUp, Replaced, course, IsBeside, Whole, Unsynced, NotRenamed, Stopped, IsFileCut, CutAndSynced, NotCut, IsLetGo, Goes, LeadsElsewhere, Stays, StaysBehindLink, IsMadeReady, ReadyDevice, ReadyFile, IsAllWritten, IsWrittenOver, Device as OverDevice, PlainFile as OverFile, IsPlaceSynced, FolderOpened, FolderShut}
+use Rattle.record_file.specs.Beginning.{new_name, Course, NotReplaced, GivenUp, Replaced, course, IsBeside, Whole, Unsynced, NotRenamed, Stopped, IsFileCut, CutAndSynced, NotCut, IsLetGo, Goes, LeadsElsewhere, Stays, StaysBehindLink, IsMadeReady, ReadyDevice, ReadyFile, IsAllWritten, IsWrittenOver, Device as OverDevice, PlainFile as OverFile, IsPlaceSynced, FolderOpened, FolderShut, Replaces}
 use Rattle.record_file.specs.Course.{renamed, was_made}
 use Rattle.host_devices.proofs.Told.{tells_join}
 use Rattle.host_devices.specs.Told.{HasAsked, Tells}
@@ -193,28 +193,28 @@ left_as None None left text step h t = (None, tt, tt)
 left_as None (Some x) left text step h t = absurd t
 left_as (Some x) b left text step h t = (left, h, t)
 
-pub whole : (name new folder text : List ℕ) (before : List DiskStep) (made : Made) (left : Option (List ℕ)) (steps : List DiskStep) (a b c d : Option (List DiskStep)) → IsFolderOf name folder
-    → new ≡ new_name name → AreAside (new_name name) true before → OnSome a (Lasts left (Some text)) → Tells a b steps → Tells b c (Did (Rename new name left) ∷ [])
-    → Tells c d (Did (SyncFolder folder) ∷ []) → IsNameSeen name true steps → HasAsked a d (λ list. IsBeside name text made Replaced Before (Did (FindSoleFile name) ∷ (before ++ list)))
-whole name new folder text before made left steps a b c d f is aside h t r s Seen =
+pub whole : (name new folder text : List ℕ) (made : Made) (left : Option (List ℕ)) (steps : List DiskStep) (a b c d : Option (List DiskStep)) → IsFolderOf name folder
+    → new ≡ new_name name → OnSome a (Lasts left (Some text)) → Tells a b steps → Tells b c (Did (Rename new name left) ∷ [])
+    → Tells c d (Did (SyncFolder folder) ∷ []) → IsNameSeen name true steps → HasAsked a d (Replaces name text made Replaced Before)
+whole name new folder text made left steps a b c d f is h t r s Seen =
     let l = left_as b c left text (λ left'. Did (Rename (new_name name) name left')) (still (Lasts left (Some text)) a b (Did (Look name) ∷ []) t h)
     (subst (λ n. Tells b c (Did (Rename n name left) ∷ [])) is r) in (
       Did (Look name) ∷ Did (Rename (new_name name) name l.0) ∷ Did (SyncFolder folder) ∷ [],
       tells_join a b d (Did (Look name) ∷ []) (Did (Rename (new_name name) name l.0) ∷ Did (SyncFolder folder) ∷ []) t
           (tells_join b c d (Did (Rename (new_name name) name l.0) ∷ []) (Did (SyncFolder folder) ∷ []) l.2 s),
-      Whole before l.0 folder (aside.0 false, aside.1, l.1) f,
+      λ before aside. Whole before l.0 folder (aside.0 false, aside.1, l.1) f,
     )
 
-pub unsynced : (name new folder text : List ℕ) (before : List DiskStep) (made : Made) (left : Option (List ℕ)) (steps : List DiskStep) (a b c d : Option (List DiskStep)) → new ≡ new_name name
-    → AreAside (new_name name) true before → OnSome a (Lasts left (Some text)) → Tells a b steps → Tells b c (Did (Rename new name left) ∷ [])
-    → Tells c d (Failed (SyncFolder folder) ∷ []) → IsNameSeen name true steps → HasAsked a d (λ list. IsBeside name text made GivenUp Before (Did (FindSoleFile name) ∷ (before ++ list)))
-unsynced name new folder text before made left steps a b c d is aside h t r s Seen =
+pub unsynced : (name new folder text : List ℕ) (made : Made) (left : Option (List ℕ)) (steps : List DiskStep) (a b c d : Option (List DiskStep)) → new ≡ new_name name
+    → OnSome a (Lasts left (Some text)) → Tells a b steps → Tells b c (Did (Rename new name left) ∷ [])
+    → Tells c d (Failed (SyncFolder folder) ∷ []) → IsNameSeen name true steps → HasAsked a d (Replaces name text made GivenUp Before)
+unsynced name new folder text made left steps a b c d is h t r s Seen =
     let l = left_as b c left text (λ left'. Did (Rename (new_name name) name left')) (still (Lasts left (Some text)) a b (Did (Look name) ∷ []) t h)
     (subst (λ n. Tells b c (Did (Rename n name left) ∷ [])) is r) in (
       Did (Look name) ∷ Did (Rename (new_name name) name l.0) ∷ Failed (SyncFolder folder) ∷ [],
       tells_join a b d (Did (Look name) ∷ []) (Did (Rename (new_name name) name l.0) ∷ Failed (SyncFolder folder) ∷ []) t
           (tells_join b c d (Did (Rename (new_name name) name l.0) ∷ []) (Failed (SyncFolder folder) ∷ []) l.2 s),
-      Unsynced before l.0 folder (aside.0 false, aside.1, l.1),
+      λ before aside. Unsynced before l.0 folder (aside.0 false, aside.1, l.1),
     )
 
 pub not_renamed : {A E : Type 0} (name new text : List ℕ) (before : List DiskStep) (made : Made) (left : Option (List ℕ)) (removal : Result A E) (steps : List DiskStep)
@@ -323,12 +323,11 @@ same_place name before after a b is h = subst (λ kind. HasAsked a b (IsPlaceSyn
 
 -- the steps before it, and those of the renaming
 pub beside_behind : (name text : List ℕ) (made : Made) (way : Course) (after : Made) (a b c d : Option (List DiskStep)) → Tells a b (Did (FindSoleFile name) ∷ [])
-    → (first : HasAsked b c (AreAside (new_name name) true)) → HasAsked c d (λ steps. IsBeside name text made way after (Did (FindSoleFile name) ∷ (first.0 ++ steps)))
-    → HasAsked a d (IsBeside name text made way after)
+    → HasAsked b c (AreAside (new_name name) true) → HasAsked c d (Replaces name text made way after) → HasAsked a d (IsBeside name text made way after)
 beside_behind name text made way after a b c d s p q = (
   Did (FindSoleFile name) ∷ (p.0 ++ q.0),
   tells_join a b d (Did (FindSoleFile name) ∷ []) (p.0 ++ q.0) s (tells_join b c d p.0 q.0 p.1 q.1),
-  q.2,
+  q.2 p.0 p.2,
 )
 
 pub not_renamed_for : (name new text : List ℕ) (made : Made) (a b : Option (List DiskStep)) → new ≡ new_name name

@@ -1,7 +1,7 @@
 -- How a record is begun anew: so that FILE is at each moment the old one or the new one.
 use Rattle.std.specs.Prelude.{◌≡◌, List, [], ◌∷◌, ◌++◌, Bool, true, false, Option, Some, None, Result, Ok, Err, codes, length, ℕ}
 use Rattle.load_record.specs.Keeper.{Lasts}
-use Rattle.record_file.specs.DiskStep.{Look, FindSoleFile, Open, Rename, Remove, SyncFolder, Cut, SyncFile, DiskStep, Did, Failed, LedTo, step_by, HasFailed, LeaveAllBut, held_behind}
+use Rattle.record_file.specs.DiskStep.{Look, FindSoleFile, Open, Rename, Remove, SyncFolder, Cut, SyncFile, DiskStep, Did, Failed, LedTo, step_by, HasFailed, AreAside, LeaveAllBut, held_behind}
 use Rattle.record_file.specs.Folder.{IsFolderOf}
 use Rattle.record_file.specs.Known.{Known}
 use Rattle.record_file.specs.declared.disk.Access.TheVariants.{ReadOnly}
@@ -47,6 +47,11 @@ pub data IsBeside (name text : List ℕ) (made : Made) : Course → Made → Lis
       → IsBeside name text made GivenUp Before (Did (FindSoleFile name) ∷ (before ++ (renaming name left ++ Failed (SyncFolder folder) ∷ [])))
   NotRenamed : (steps : List DiskStep) → IsNewLetGo name steps → HasFailed steps → IsBeside name text made NotReplaced made steps
   Stopped : (steps : List DiskStep) → IsNewLetGo name steps → IsBeside name text made GivenUp made steps
+
+-- behind any steps by which the new file came to be held, these give it the old one's name, or do not
+abbrev pub Replaces : (name text : List ℕ) → Made → Course → Made → List DiskStep → Type 0
+Replaces name text made course after steps =
+    (before : List DiskStep) → AreAside (new_name name) true before → IsBeside name text made course after (Did (FindSoleFile name) ∷ (before ++ steps))
 
 -- ---- the record written where it is
 

@@ -5,7 +5,7 @@ ghost use Rattle.host_devices.specs.declared.fault.KeepFault.TheVariants as keep
 ghost use Rattle.load_record.specs.declared.version.Version.TheVariants.{Second};
 ghost use Rattle.load_record.specs.Keeper.{Lasts};
 ghost use Rattle.load_record.specs.RecordText.{record_text};
-ghost use Rattle.record_file.specs.Beginning.{course, new_name, IsAllWritten, IsBeside, IsFileCut, IsMadeReady, IsPlaceSynced, IsWrittenOver, IsNotWrittenOver};
+ghost use Rattle.record_file.specs.Beginning.{course, new_name, IsAllWritten, IsBeside, IsFileCut, IsMadeReady, IsPlaceSynced, IsWrittenOver, IsNotWrittenOver, Replaces};
 ghost use Rattle.record_file.specs.Course.{is_done, renamed, was_made};
 ghost use Rattle.record_file.specs.DiskRecord.{HasBegun};
 ghost use Rattle.record_file.specs.DiskStep.{DiskStep, AreAside, Did, FindSoleFile, HasFailed};
@@ -92,14 +92,14 @@ fn replace<D: Disk>(
     new: &D::File,
     folder: &D::File,
 ) -> Result<bool, RecordFault>
+    requires { beside.now ≡ new_name name.now }
     ensures fault { IfErr result IsUnbegun }
     ensures device { held.new.device ≡ held.old.device }
     ensures standing { held.new.standing ≡ held.old.standing }
     ensures old_record { held.new.file ≡ held.old.file }
-    ensures asked { (dir text : List ℕ) (before : List DiskStep) → D.is_opened_as folder.now dir → IsFolderOf name.now dir → beside.now ≡ new_name name.now
-        → OnSome (D.asked disk.old) (Lasts (D.File.on_disk new.now) (Some text)) → AreAside (new_name name.now) true before
-        → HasAsked (D.asked disk.old) (D.asked disk.new) (λ steps. IsBeside name.now text held.old.made (renamed result) held.new.made
-        (Did (FindSoleFile name.now) ∷ (before ++ steps))) }
+    ensures asked { (dir text : List ℕ) → D.is_opened_as folder.now dir → IsFolderOf name.now dir
+        → OnSome (D.asked disk.old) (Lasts (D.File.on_disk new.now) (Some text))
+        → HasAsked (D.asked disk.old) (D.asked disk.new) (Replaces name.now text held.old.made (renamed result) held.new.made) }
 {
     if !is_named(disk, name, held) {
         let _ = disk.remove(beside);

@@ -3,8 +3,10 @@ use Rattle.std.proofs.Common.{◌≡◌, ℕ, ◌+◌, ◌-◌, List, [], ◌∷
 use Rattle.std.proofs.lemmas.Bool.{eqb-false, eqb-true}
 use Rattle.std.specs.Bool.{IsTrue}
 use Rattle.std.specs.Io.KnownBytes.{Appends}
+use Rattle.std.proofs.KnownBytes.{Appends-nil}
 use Rattle.std.specs.Prelude.{OnSome, option_map, is_err, replicate, IfErr, IsErrAnd, OnErr, ⊤}
 use Rattle.std.specs.String.{string_bytes}
+use Rattle.byte_io.specs.Output.{WritesPrefix}
 use Rattle.host_devices.specs.Failures.{fault_of}
 use Rattle.host_devices.specs.Told.{HasAsked, Tells}
 use Rattle.record_file.specs.DiskStep.{DiskStep, Did, Failed, LedTo, answered, step_by, LookAtName, FindSoleFile, FindFile, Open, Hold, Link, Rename, Remove, Cut, SyncFile}
@@ -32,6 +34,15 @@ still P (Some items) (Some grown) more g h = h
 pub done : {A E : Type 0} (P : Type 0) (result : Result A E) → false ≡ is_err result → OnOk result P → P
 done P (Ok value) is p = p
 done P (Err error) is p = absurd (cc is)
+
+-- .. or not
+pub failed : {A E : Type 0} (P : Type 0) (result : Result A E) → true ≡ is_err result → OnErr result P → P
+failed P (Ok value) is p = absurd (cc is)
+failed P (Err error) is p = p
+
+-- nothing was written
+pub nothing_written : (out : Option (List ℕ)) (text : List ℕ) → WritesPrefix out out text
+nothing_written out text = (text, record { written = []; whole = refl; appended = Appends-nil out })
 
 -- what is known of the error that a result has is known of the result
 pub error_is : {T E : Type 0} (r : Result T E) (error : E) (P : E → Type 0) → IsErrAnd r (λ e. e ≡ error) → P error → IfErr r P
@@ -206,26 +217,26 @@ added_on contents name text before part part' a b is own appends longer kept syn
 )
 
 -- or it was not
-pub not_added_on : {T : Type 0} (contents : T → Option (List ℕ)) (name : List ℕ) (before : Option (Part T)) (part part' : Part T) (a b : Option (List DiskStep)) → Some part ≡ before
-    → HasAsked a b (IsUnadded (Some (room_of contents part)) (Some (room_of contents part')))
-    → HasAsked a b (IsNotAdded (disk_at a name (option_map (room_of contents) before) ⇒ disk_at b name (Some (room_of contents part'))))
-not_added_on contents name before part part' a b is unadded = (
+pub not_added_on : {T : Type 0} (contents : T → Option (List ℕ)) (name text : List ℕ) (before : Option (Part T)) (part part' : Part T) (a b : Option (List DiskStep)) → Some part ≡ before
+    → HasAsked a b (IsUnadded text (Some (room_of contents part)) (Some (room_of contents part')))
+    → HasAsked a b (IsNotAdded text (disk_at a name (option_map (room_of contents) before) ⇒ disk_at b name (Some (room_of contents part'))))
+not_added_on contents name text before part part' a b is unadded = (
   unadded.0,
   unadded.1,
   record {
-    unadded = subst (λ room. IsUnadded room (Some (room_of contents part')) unadded.0) (ap (option_map (room_of contents)) is) unadded.2;
+    unadded = subst (λ room. IsUnadded text room (Some (room_of contents part')) unadded.0) (ap (option_map (room_of contents)) is) unadded.2;
     name = refl;
   },
 )
 
 -- nor without room
-pub not_added_nowhere : {T : Type 0} (contents : T → Option (List ℕ)) (name : List ℕ) (before after : Option (Part T)) (a : Option (List DiskStep)) → None ≡ before → after ≡ None
-    → HasAsked a a (IsNotAdded (disk_at a name (option_map (room_of contents) before) ⇒ disk_at a name (option_map (room_of contents) after)))
-not_added_nowhere contents name before after a is none = (
+pub not_added_nowhere : {T : Type 0} (contents : T → Option (List ℕ)) (name text : List ℕ) (before after : Option (Part T)) (a : Option (List DiskStep)) → None ≡ before → after ≡ None
+    → HasAsked a a (IsNotAdded text (disk_at a name (option_map (room_of contents) before) ⇒ disk_at a name (option_map (room_of contents) after)))
+not_added_nowhere contents name text before after a is none = (
   [],
   tells_none a,
   record {
-    unadded = subst (λ room. IsUnadded (option_map (room_of contents) room) (option_map (room_of contents) after) []) is (subst (λ room. IsUnadded None (option_map (room_of contents) room) []) (sym none) NoFile);
+    unadded = subst (λ room. IsUnadded text (option_map (room_of contents) room) (option_map (room_of contents) after) []) is (subst (λ room. IsUnadded text None (option_map (room_of contents) room) []) (sym none) NoFile);
     name = refl;
   },
 )
@@ -309,10 +320,10 @@ put_answer folder text (Err fault) a b disk h = h
 pub add_answer : {T : Type 0} (contents : T → Option (List ℕ)) (folder name text : List ℕ) (before : Option (Part T)) (part part' : Part T) (answer : Result ⊤ ShelfFault) (a b : Option (List DiskStep))
     → Some part ≡ before → string_bytes part'.name ≡ string_bytes part.name → OnOk answer (Appends (contents part.file) (contents part'.file) text) → OnOk answer (part'.length ≡ part.length + length text)
     → OnOk answer (part'.kept ≡ true) → OnOk answer (HasAsked a b (λ steps. steps ≡ Did (SyncFile (contents part'.file)) ∷ []))
-    → IfErr answer (λ _. HasAsked a b (IsUnadded (Some (room_of contents part)) (Some (room_of contents part'))))
+    → IfErr answer (λ _. HasAsked a b (IsUnadded text (Some (room_of contents part)) (Some (room_of contents part'))))
     → HasAsked a b (AsksFor folder (add_step text answer) (disk_at a name (option_map (room_of contents) before) ⇒ disk_at b name (Some (room_of contents part'))))
 add_answer contents folder name text before part part' (Ok done) a b is own appends longer kept synced unadded = added_on contents name text before part part' a b is own appends longer kept synced
-add_answer contents folder name text before part part' (Err fault) a b is own appends longer kept synced unadded = not_added_on contents name before part part' a b is unadded
+add_answer contents folder name text before part part' (Err fault) a b is own appends longer kept synced unadded = not_added_on contents name text before part part' a b is unadded
 
 -- ---- a part that was left
 

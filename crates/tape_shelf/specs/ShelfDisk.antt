@@ -1,6 +1,7 @@
 -- What is asked of a disk to make room there for a tape, to add to it, and to give it its name.
 use Rattle.std.specs.Prelude.{◌≡◌, ◌⊎◌, ℕ, ◌+◌, List, [], ◌∷◌, ◌++◌, length, Bool, true, false, Option, Some, None, OnSome, codes, replicate, ⊤}
 use Rattle.std.specs.Io.KnownBytes.{Appends}
+use Rattle.byte_io.specs.Output.{WritesPrefix}
 use Rattle.byte_io.specs.Text.{name_slash}
 use Rattle.host_devices.specs.Told.{HasAsked}
 use Rattle.record_file.specs.DiskStep.{DiskStep, Did, Failed, LedTo, step_by}
@@ -168,10 +169,10 @@ pub data IsNamed (place : Place) (room : Room) : Option ShelfFault → List Disk
       → IsNaming room.name place.name None naming → IsSettling place room fault settling → IsNamed place room fault (syncing ++ (naming ++ settling))
 
 -- the last text was written to the file beside, and that gets the tape's name, with all that was written to it and no byte more; or it can't be
--- written
+-- written whole
 pub data IsPut (closing : Closing) (room : Room) : Option ShelfFault → List DiskStep → Type 0 where
-  NotWritten : (written : Option (List ℕ)) (leaving : List DiskStep) → IsLeftBehind room.kept room.name written leaving
-      → IsPut closing room (Some Write) leaving
+  NotWritten : (written : Option (List ℕ)) (leaving : List DiskStep) → WritesPrefix room.written written closing.text
+      → IsLeftBehind room.kept room.name written leaving → IsPut closing room (Some Write) leaving
   Written : (written : Option (List ℕ)) (fault : Option ShelfFault) (naming : List DiskStep) → Appends room.written written closing.text
       → IsNamed closing.place (record room { written = written; length = room.length + length closing.text }) fault naming
       → IsPut closing room fault naming
@@ -241,16 +242,17 @@ pub record IsAdded (text : List ℕ) (disk : Change ShelfDisk) (steps : List Dis
   pub room : disk.after.room ≡ Some (record { name = earlier.name; written = written; length = earlier.length + length text; kept = true })
   pub name : disk.after.name ≡ disk.before.name
 
--- it could not be written; or not be brought to the disk, and then it counts as one that is there; or there is no room
-pub data IsUnadded : Option Room → Option Room → List DiskStep → Type 0 where
-  NoFile : IsUnadded None None []
-  Unwritten : (room : Room) (written : Option (List ℕ)) → IsUnadded (Some room) (Some (record room { written = written })) []
-  Unsure : (room : Room) (written : Option (List ℕ)) (size : ℕ)
-      → IsUnadded (Some room) (Some (record { name = room.name; written = written; length = size; kept = true })) (Failed (SyncFile written) ∷ [])
+-- a text could not be written whole; or not be brought to the disk, and then it counts as one that is there; or there is no room
+pub data IsUnadded (text : List ℕ) : Option Room → Option Room → List DiskStep → Type 0 where
+  NoFile : IsUnadded text None None []
+  Unwritten : (room : Room) (written : Option (List ℕ)) → WritesPrefix room.written written text
+      → IsUnadded text (Some room) (Some (record room { written = written })) []
+  Unsure : (room : Room) (written : Option (List ℕ)) (size : ℕ) → Appends room.written written text → size ≡ room.length + length text
+      → IsUnadded text (Some room) (Some (record { name = room.name; written = written; length = size; kept = true })) (Failed (SyncFile written) ∷ [])
 
 -- a text was not added
-pub record IsNotAdded (disk : Change ShelfDisk) (steps : List DiskStep) : Type 0 where
-  pub unadded : IsUnadded disk.before.room disk.after.room steps
+pub record IsNotAdded (text : List ℕ) (disk : Change ShelfDisk) (steps : List DiskStep) : Type 0 where
+  pub unadded : IsUnadded text disk.before.room disk.after.room steps
   pub name : disk.after.name ≡ disk.before.name
 
 -- the last text of a tape whose folder has this name

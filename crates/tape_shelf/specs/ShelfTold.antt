@@ -24,7 +24,7 @@ AsksFor folder (NotReserved length fault) disk = HasNoRoom fault disk
 AsksFor folder (Resume numbers) disk = HasPart folder numbers disk
 AsksFor folder (NotResumed fault) disk = HasNoPart disk
 AsksFor folder (Add text) disk = IsAdded text disk
-AsksFor folder (NotAdded text) disk = IsNotAdded disk
+AsksFor folder (NotAdded text) disk = IsNotAdded text disk
 AsksFor folder (Put text) disk = IsPutOn (closing_in folder text disk.before) None disk
 AsksFor folder (NotPut text fault) disk = IsPutOn (closing_in folder text disk.before) (Some fault) disk
 

@@ -274,7 +274,7 @@ fn add_to<D: Disk>(disk: &mut D, beside: &mut Part<D::File>, text: &[u8]) -> Res
     ensures kept { OnOk result (beside.new.kept ≡ true) }
     ensures synced { OnOk result (HasAsked (D.asked disk.old) (D.asked disk.new) (λ steps. steps ≡ Did (SyncFile (D.File.contents beside.new.file)) ∷ [])) }
     ensures not_added { IfErr result (λ _. HasAsked (D.asked disk.old) (D.asked disk.new)
-        (IsUnadded (Some (room_of D.File.contents beside.old)) (Some (room_of D.File.contents beside.new)))) }
+        (IsUnadded text.now (Some (room_of D.File.contents beside.old)) (Some (room_of D.File.contents beside.new)))) }
 {
     let Some(length) = beside.length.checked_add(text.len() as u64) else {
         return Err(ShelfFault::Write);

@@ -25,13 +25,13 @@ pub returns-in_err-replaced-in-Ok-begun-clause-asked : goal.returns-in_err-repla
 returns-in_err-replaced-in-Ok-begun-clause-asked g c =
     let first = but_join _ _ _ _ _ (at_folder _ _ _ _ c.in-Ok.ensures.asked) (but_new _ _ _ _ _ (c.as_str-beside.ensures.value ∙ c.in_ok-text.ensures.ok) (made_some _ _ _ c.in_ok-file.field-0 c.in-Some.file c.in-Some.is c.in_ok-file.ensures.asked)) in
     beside_failed _ _ _ _ _ _ c.from_residual-in_err-replaced-in-Ok-begun.result c.from_residual-in_err-replaced-in-Ok-begun.ensures.0
-    (beside_behind _ _ _ _ _ _ _ _ _ c.if-not-is_sole_file.ensures.asked first (c.in_err-replaced-in-Ok-begun.ensures.asked _ _ first.0 c.in-Ok.ensures.opened c.folder_of.ensures (c.as_str-beside.ensures.value ∙ c.in_ok-text.ensures.ok) (lies_on_disk g.D.File.Write.contents _ c.in_ok-file.field-0 c.in-Some.file _ _ _ _ _ c.in-Some.is c.in_ok-file.ensures.fresh c.permit_as.ensures.same c.in-Ok-begun.ensures.written c.in-Ok-begun.ensures.begun.lasts c.writer.ensures.lasting) first.2))
+    (beside_behind _ _ _ _ _ _ _ _ _ c.if-not-is_sole_file.ensures.asked first (c.in_err-replaced-in-Ok-begun.ensures.asked _ _ c.in-Ok.ensures.opened c.folder_of.ensures (lies_on_disk g.D.File.Write.contents _ c.in_ok-file.field-0 c.in-Some.file _ _ _ _ _ c.in-Some.is c.in_ok-file.ensures.fresh c.permit_as.ensures.same c.in-Ok-begun.ensures.written c.in-Ok-begun.ensures.begun.lasts c.writer.ensures.lasting)))
 
 pub returns-in-Ok-begun-clause-asked : goal.returns-in-Ok-begun-clause-asked
 returns-in-Ok-begun-clause-asked g c =
     let first = but_join _ _ _ _ _ (at_folder _ _ _ _ c.in-Ok.ensures.asked) (but_new _ _ _ _ _ (c.as_str-beside.ensures.value ∙ c.in_ok-text.ensures.ok) (made_some _ _ _ c.in_ok-file.field-0 c.in-Some.file c.in-Some.is c.in_ok-file.ensures.asked)) in
     beside_kept _ _ _ _ _ _ c.then_some.result c.in_ok-replaced-in-Ok-begun.replaced _ c.then_some.ensures
-    (beside_behind _ _ _ _ _ _ _ _ _ c.if-not-is_sole_file.ensures.asked first (c.in_ok-replaced-in-Ok-begun.ensures.asked _ _ first.0 c.in-Ok.ensures.opened c.folder_of.ensures (c.as_str-beside.ensures.value ∙ c.in_ok-text.ensures.ok) (lies_on_disk g.D.File.Write.contents _ c.in_ok-file.field-0 c.in-Some.file _ _ _ _ _ c.in-Some.is c.in_ok-file.ensures.fresh c.permit_as.ensures.same c.in-Ok-begun.ensures.written c.in-Ok-begun.ensures.begun.lasts c.writer.ensures.lasting) first.2))
+    (beside_behind _ _ _ _ _ _ _ _ _ c.if-not-is_sole_file.ensures.asked first (c.in_ok-replaced-in-Ok-begun.ensures.asked _ _ c.in-Ok.ensures.opened c.folder_of.ensures (lies_on_disk g.D.File.Write.contents _ c.in_ok-file.field-0 c.in-Some.file _ _ _ _ _ c.in-Some.is c.in_ok-file.ensures.fresh c.permit_as.ensures.same c.in-Ok-begun.ensures.written c.in-Ok-begun.ensures.begun.lasts c.writer.ensures.lasting)))
 
 pub returns-clause-asked : goal.returns-clause-asked
 returns-clause-asked g c = stopped_back _ _ _ _ _ _ (c.as_str-beside.ensures.value ∙ c.in_ok-text.ensures.ok)

@@ -2,16 +2,20 @@ use Rattle.host_devices.proofs.Told.{tells_none}
 use Rattle.std.proofs.Common.{refl}
 use Rattle.record_file.proofs.Asking.{asked_one, tells_failed, tells_done}
 use Rattle.tape_shelf.specs.ShelfDisk.{Unwritten, Unsure}
+use Rattle.tape_shelf.proofs.OnShelf.{done, failed, nothing_written}
 use Rattle.tape_shelf.proofs.new_file.add_to.Goals as goal
 
 pub returns-in_default-clause-not_added : goal.returns-in_default-clause-not_added
-returns-in_default-clause-not_added g c = asked_one _ _ _ (tells_none _) (Unwritten _ _)
+returns-in_default-clause-not_added g c = asked_one _ _ _ (tells_none _) (Unwritten _ _ (nothing_written _ _))
 
 pub returns-then-is_err-clause-not_added : goal.returns-then-is_err-clause-not_added
-returns-then-is_err-clause-not_added g c = asked_one _ _ _ (tells_none _) (Unwritten _ _)
+returns-then-is_err-clause-not_added g c =
+    asked_one _ _ _ (tells_none _) (Unwritten _ _ (failed _ c.write_and_flush.result c.if-is_err.ensures.value c.write_and_flush.ensures.err))
 
 pub returns-then-is_err-2-clause-not_added : goal.returns-then-is_err-2-clause-not_added
-returns-then-is_err-2-clause-not_added g c = asked_one _ _ _ (tells_failed _ _ _ c.sync_file.result c.sync_file.ensures.asked c.if-is_err-2.ensures.value) (Unsure _ _ _)
+returns-then-is_err-2-clause-not_added g c =
+    asked_one _ _ _ (tells_failed _ _ _ c.sync_file.result c.sync_file.ensures.asked c.if-is_err-2.ensures.value)
+    (Unsure _ _ _ (done _ c.write_and_flush.result c.if-is_err.ensures.value c.write_and_flush.ensures.ok) c.in-Some.ensures.1)
 
 pub returns-clause-synced : goal.returns-clause-synced
 returns-clause-synced g c = asked_one _ _ _ (tells_done _ _ _ c.sync_file.result c.sync_file.ensures.asked c.if-is_err-2.ensures.value) refl

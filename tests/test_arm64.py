@@ -235,9 +235,9 @@ class Building(Small):
                    f" --extern clap={self.path('kit')}/rlibs/clap.rlib ", f" -L dependency={crates}/low/out/rlib ", f" --incremental {out}/incremental ", f" -o {out}/ldaodt.o"):
             self.assertIn(it, f"{words} ")
         self.assertEqual((words.count("apart"), words.count("--extern low=")), (0, 0))
-        # What is C of it has the first instructions that there were, as the rest, and may lie at any address.
+        # What is C of it has the first instructions that there were, as the rest, may lie at any address, and leaps over no page of a stack.
         compiling = self.noted("lines")[2].split()
-        self.assertLess({CROSS, "-march=armv8-a", "-fPIE", "-c", self.path("tree/tools/arm64/system.c")}, set(compiling))
+        self.assertLess({CROSS, "-march=armv8-a", "-fPIE", "-fstack-clash-protection", "-c", self.path("tree/tools/arm64/system.c")}, set(compiling))
         linking = self.noted(CROSS)
         self.assertEqual(linking[-2:], [f"{out}/ldaodt.o", f"{out}/system.o"])
         self.assertLess({"-static-pie", "-Wl,-z,max-page-size=65536"}, set(linking))

@@ -172,6 +172,17 @@ class Pipes(Many):
                     writer.join()
                     self.is_so((command, limit, stays, given, is_awaited), (command, limit, stays, wanted, False))
 
+    def test_a_pipe_with_a_tape_that_is_refused(self):
+        """No more of it is awaited than up to there."""
+        for limit in (AMPLE, *LIMITS):
+            is_over = threading.Event()
+            writer = self.writing(BAD, is_over)
+            given = self.ldaodt(["check", *self.with_names({4: "pipe"})], setup=limited(limit))
+            is_awaited = not writer.is_alive()
+            is_over.set()
+            writer.join()
+            self.is_so((limit, given, is_awaited), (limit, Answer(3, "", f"ldaodt: tape 5 {BAD_SUM}\n"), False))
+
     def test_an_open_pipe_by_its_number(self):
         """As a shell hands over `<(..)`; both names of one pipe are read in their order."""
         for text, status, fault in ((self.tape, 0, ""), (b"", 3, "ldaodt: tape 5 refused at 0: NoTransfer\n")):

@@ -166,10 +166,13 @@ class Machine(Case):
         it.hears("1002/001001 ")
 
     def test_the_halt_switch(self):
-        it = self.switched_on("--halt")
-        it.puts(words_of_hello())
-        it.starts()
-        self.is_so(it.hears("@"), "\r\n001000\r\n@")
+        """Of a machine whose memory is bad, too."""
+        for options in ("--halt", "--halt --stuck 20000:0:1"):
+            it = self.switched_on(options)
+            it.puts(words_of_hello())
+            it.starts()
+            self.is_so(it.hears("@"), "\r\n001000\r\n@")
+            self.switch_off()
 
     def test_losses(self):
         """All of them, none of them, and by a chance that can be had again."""
@@ -232,6 +235,12 @@ class Machine(Case):
             it.types("1000/\r")
             self.is_so(it.hears("@"), f"1000/{shown}")
             self.switch_off()
+
+    def test_a_console_that_prints_unasked_is_none(self):
+        """Its line would hold only what came before a key."""
+        told = subprocess.run([f"{TOP}/tools/machine", "--console", "endless", self.path("lsi11")], capture_output=True, text=True, timeout=60)
+        self.is_so((told.returncode, told.stdout, "argument --console: invalid choice: 'endless'" in told.stderr), (2, "", True))
+        self.is_so(os.path.lexists(self.path("lsi11")), False)
 
     def test_a_line_of_a_speed(self):
         """At 300 baud a character takes a thirtieth of a second, what ODT answers and what a program prints. Both ways go on at once: of so
@@ -325,10 +334,10 @@ class Machine(Case):
     def test_bits_that_are_stuck(self):
         """Of a word, and of each word of a range, whatever is deposited; the other bits and words are good. Of two that are asked for the last
         one counts."""
-        it = self.switched_on("--stuck 1000:0:1 --stuck 001000:15:0 --stuck 20000-20004:2:0 --stuck 20004:2:1 --stuck 20010:5:1 --stuck 20010:5:0")
+        it = self.switched_on("--stuck 1000:0:1 --stuck 001000:15:0 --stuck 20000-20006:2:0 --stuck 20004:2:1 --stuck 20010:5:1 --stuck 20010:5:0")
         for word in (0, 0o177777, 0o125252):
             stuck = {0o776: word, 0o1000: word & 0o077777 | 1, 0o1002: word, 0o17776: word,
-                     0o20000: word & ~4, 0o20002: word & ~4, 0o20004: word | 4, 0o20006: word, 0o20010: word & ~0o40}
+                     0o20000: word & ~4, 0o20002: word & ~4, 0o20004: word | 4, 0o20006: word & ~4, 0o20010: word & ~0o40, 0o20012: word}
             self.is_so({address: self.holds(it, address, word) for address in stuck}, stuck)
 
     def test_each_bit_that_is_stuck(self):
@@ -410,19 +419,47 @@ class Machine(Case):
         self.is_so((told.returncode, told.stdout, told.stderr), (1, "", f"machine: {self.path('lsi11')} is there already, and is no link\n"))
         self.is_so(bytes_of(self.path("lsi11")), b"mine")
 
-    def test_an_hour_without_a_key(self):
-        """Then it switches itself off, and not after ten minutes: by a clock that goes 400 times as fast."""
-        faster = "import runpy, sys, time; clock = time.monotonic; time.monotonic = lambda: 400 * clock()"
+    def test_a_name_that_is_another_machine_s(self):
+        """That one is switched off by it, and the later one stays on."""
+        self.switched_on()
+        earlier = self.process()
+        it = self.switched_on("--style 2")
+        self.assertTrue(self.waits(lambda: not os.path.exists(f"/proc/{earlier}")))
+        time.sleep(1)
+        it.types("Z")
+        self.is_so(it.hears("@"), "?\r\r\n@")
+
+    def quick_clock(self, times, options=""):
+        """Switches on a machine whose clock goes so many times as fast; returns when."""
+        faster = f"import runpy, sys, time; clock = time.monotonic; time.monotonic = lambda: {times} * clock()"
         run = f"{faster}; sys.path[0] = '{TOP}/tools'; runpy.run_path('{TOP}/tools/machine', run_name='__main__')"
         began = time.monotonic()
-        subprocess.run([sys.executable, "-c", run, self.path("lsi11")], stdout=subprocess.DEVNULL, timeout=60, check=True)
+        subprocess.run([sys.executable, "-c", run, *options.split(), self.path("lsi11")], stdout=subprocess.DEVNULL, timeout=60, check=True)
         self.addCleanup(self.switch_off)
-        time.sleep(max(0, began + 1200 / 400 - time.monotonic()))
-        is_on = os.path.islink(self.path("lsi11"))
-        self.assertTrue(is_on or time.monotonic() > began + 3600 / 400)
-        self.assertTrue(self.waits(lambda: not os.path.islink(self.path("lsi11"))))
-        self.assertGreaterEqual(time.monotonic(), began + 3600 / 400)
+        return began
 
+    def goes_off(self, behind, early, hour):
+        """Asserts that it is still on for so many seconds behind a time, and goes off an hour behind that."""
+        time.sleep(max(0, behind + early - time.monotonic()))
+        is_on = os.path.islink(self.path("lsi11"))
+        self.assertTrue(is_on or time.monotonic() > behind + hour)
+        self.assertTrue(self.waits(lambda: not os.path.islink(self.path("lsi11"))))
+        self.assertGreaterEqual(time.monotonic(), behind + hour)
+
+    def test_an_hour_without_a_key(self):
+        """Then it switches itself off, and not after ten minutes: by a clock that goes 400 times as fast."""
+        self.goes_off(self.quick_clock(400), 1200 / 400, 3600 / 400)
+
+    def test_an_hour_behind_the_last_key(self):
+        """However long it was on before, also at a line of a speed."""
+        for options in ("", "--speed 9600"):
+            began = self.quick_clock(600, options)
+            time.sleep(max(0, began + 1800 / 600 - time.monotonic()))
+            end = os.open(self.path("lsi11"), os.O_RDWR | os.O_NOCTTY)
+            typed = time.monotonic()
+            os.write(end, b"Z")
+            self.goes_off(typed, 2400 / 600, 3600 / 600)
+            os.close(end)
 
 
 class Commands(Case):
@@ -446,6 +483,18 @@ class Commands(Case):
         self.is_so(process.stdout.readline(), "connected\n")
         return process, Terminal((end, end.recv), end.sendall)
 
+    def test_a_port_that_is_asked_for(self):
+        """There it is until it is interrupted, which ends it without a word."""
+        with socket.create_server(("127.0.0.1", 0)) as free:
+            port = free.getsockname()[1]
+        heed = lambda: signal.signal(signal.SIGINT, signal.default_int_handler)
+        process = subprocess.Popen([sys.executable, "-B", f"{TOP}/tools/odt_peer.py", "--port", str(port)], stdin=subprocess.DEVNULL, stdout=subprocess.PIPE,
+                                   stderr=subprocess.PIPE, text=True, preexec_fn=heed)
+        self.addCleanup(process.kill)
+        self.is_so(process.stdout.readline(), f"127.0.0.1:{port}\n")
+        process.send_signal(signal.SIGINT)
+        self.is_so((process.communicate(timeout=SECONDS), process.returncode), (("", ""), 0))
+
     def test_what_it_tells(self):
         """Each start and each end of a connection; what the program prints, which is started."""
         process, it = self.at_a_port("--says", "HI\\r\\n", "--style", "2", "--words", "256", "--console", "wide")
@@ -458,14 +507,18 @@ class Commands(Case):
         self.is_so(process.stdout.readline(), f"gone: 17 keys, {4 + 10 + 3 + 5 + 5 + 7 + 4} characters answered, 0 lost\n")
 
     def test_losses_and_changes(self):
-        """Of a hundred characters so many, each way."""
-        process, it = self.at_a_port("--loss", "50", "--seed", "1")
-        it.types("Z" * 200)
-        while not it.hears_nothing(3 * self.quiet / 1000):
-            it.heard += it.read(64).decode()
-        self.assertTrue(140 < len(it.heard) < 260, len(it.heard))
-        it.end.close()
-        self.assertRegex(process.stdout.readline(), rf"^gone: 200 keys, {len(it.heard)} characters answered, \d+ lost\n$")
+        """Of a hundred characters so many, each way, by a chance that can be had again."""
+        shown = []
+        for seed in ("1", "1", "2"):
+            process, it = self.at_a_port("--loss", "50", "--seed", seed)
+            it.types("Z" * 200)
+            while not it.hears_nothing(3 * self.quiet / 1000):
+                it.heard += it.read(64).decode()
+            self.assertTrue(140 < len(it.heard) < 260, len(it.heard))
+            it.end.close()
+            self.assertRegex(process.stdout.readline(), rf"^gone: 200 keys, {len(it.heard)} characters answered, \d+ lost\n$")
+            shown.append(it.heard)
+        self.is_so((shown[0] == shown[1], shown[0] == shown[2]), (True, False))
         process, it = self.at_a_port("--change", "100")
         it.types("Z")
         self.is_so([(ord(it.read(1)) ^ ord(wanted)).bit_count() for wanted in "?\r\n@"], [1] * 4)

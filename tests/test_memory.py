@@ -171,7 +171,7 @@ class BehindTheConnection(Case):
         """With nothing more from its first key on, from its trial, and from its search."""
         ample = self.look(["probe", "LINE"])
         self.is_so((ample.status, ample.out.split("\n")[-2]), (0, "end Probed"))
-        for at_key in (0, 9, 30):
+        for at_key in (0, 9, 31):
             with self.subTest(at_key):
                 given = self.look(["probe", "LINE"], 0, at_key)
                 self.assertTrue(given == ample or is_want(given, ample), f"{given!r:.2000}")

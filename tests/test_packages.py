@@ -12,7 +12,7 @@ import unittest
 
 from cases import Case
 from commands import AT_A_MACHINE
-from outside import PROGRAM, TOP, bytes_of
+from outside import FIRST, PROGRAM, TOP, bytes_of
 
 # What a system finds in its own folders, below /usr or another one.
 FILES = {
@@ -148,12 +148,16 @@ class LaidOut(Case):
         self.assertEqual(os.listdir(f"{self.room}/usr/share/doc"), ["other"])
 
     def test_an_archive_has_all_and_belongs_to_root(self):
+        """And nothing of what Python leaves beside an example that was run."""
+        os.mkdir(f"{self.top}/examples/__pycache__")
+        self.put("repository/examples/__pycache__/example.pyc", b"")
         self.hand_over()
         with tarfile.open(f"{self.top}/{self.lay_out('dist').strip()}") as archive:
             members = archive.getmembers()
         self.assertEqual({(it.uid, it.gid, it.uname, it.gname) for it in members}, {(0, 0, "", "")})
         folder = members[0].name
         self.assertEqual({f"{folder}/{it}" for it in PACKED} - {it.name for it in members if it.isfile()}, set())
+        self.assertEqual([it.name for it in members if "__pycache__" in it.name], [])
         self.assertEqual([it.linkname for it in members if it.name == f"{folder}/tools/serial"], ["../ldaodt-serial"])
 
     def test_an_archive_and_a_package_for_arm(self):
@@ -235,6 +239,23 @@ class LaidOut(Case):
         with open(f"{self.room}/unpacked/usr/share/doc/ldaodt/copyright", encoding="utf-8") as file:
             self.assertIn("No licence was chosen", file.read())
 
+    def test_what_is_packed_by_who_keeps_their_files_to_themselves(self):
+        """Everybody may read it, too."""
+        closed = {"preexec_fn": lambda: os.umask(0o077)}
+        with tarfile.open(f"{self.top}/{self.lay_out('dist').strip()}") as archive:
+            modes = {it.name: it.mode for it in archive}
+        self.user = closed
+        with tarfile.open(f"{self.top}/{self.lay_out('dist').strip()}") as archive:
+            self.assertEqual({it.name: it.mode for it in archive}, modes)
+        self.lay_out("install", f"{self.room}/usr")
+        for where, _, files in os.walk(f"{self.room}/usr"):
+            for it in (where, *(os.path.join(where, file) for file in files)):
+                self.assertEqual((it, os.stat(it).st_mode & 0o044), (it, 0o044))
+        if not shutil.which("dpkg-deb"):
+            self.skipTest("there is no dpkg-deb")
+        listed = subprocess.run(["dpkg-deb", "-c", f"{self.top}/{self.lay_out('deb').strip()}"], capture_output=True, text=True, check=True).stdout.splitlines()
+        self.assertEqual([it for it in listed if it[4] + it[7] != "rr" and it[0] != "l"], [])
+
     @unittest.skipUnless(shutil.which("dpkg") and os.geteuid() == 0, "there is no dpkg, or no right to install")
     def test_a_package_comes_and_goes(self):
         package = f"{self.top}/{self.lay_out('deb').strip()}"
@@ -285,6 +306,8 @@ class Bash(Completion):
         self.assertEqual(self.offers("ldaodt", ""), COMMANDS)
         self.assertEqual(self.offers("ldaodt", "re"), ["rehearse"])
         self.assertEqual(self.offers("ldaodt", "help", "sa"), ["save"])
+        # What is typed is no pattern.
+        self.assertEqual(self.offers("ldaodt", "*"), [])
 
     def test_the_options_of_each_command(self):
         for command in COMMANDS[:-1]:
@@ -307,6 +330,32 @@ class Bash(Completion):
     def test_files(self):
         self.assertIn("a tape.lda", self.offers("ldaodt", "check", "a"))
         self.assertEqual(self.offers("ldaodt", "check", "ano"), ["another.lda"])
+
+    def test_a_name_with_a_space_is_one_word(self):
+        """At a terminal, where the shell quotes a name that it completes."""
+        for name in ("one more.lda", "two more.lda"):
+            shutil.copy(FIRST, self.path(name))
+        ours, theirs = os.openpty()
+        surroundings = {**self.surroundings, "TERM": "dumb", "PS1": "ready "}
+        shell = subprocess.Popen(["bash", "--norc", "--noprofile", "-i"], env=surroundings, cwd=self.room, stdin=theirs, stdout=theirs, stderr=theirs, start_new_session=True)
+        os.close(theirs)
+        self.addCleanup(shell.wait)
+        self.addCleanup(shell.kill)
+        shown = bytearray()
+        threading.Thread(target=read_all, args=(ours, shown), daemon=True).start()
+        until = time.monotonic() + 60
+        # The script's own command that only reads is its help.
+        for number, (line, wanted) in enumerate((('. "$COMPLETION"', ""), ("ldaodt check one\t", "words 1"), ("ldaodt-serial 9600 it load two\t--help", "Usage: ldaodt load"))):
+            while shown.count(b"ready ") <= number:
+                self.assertLess(time.monotonic(), until, f"bash never came to that: {shown}")
+                time.sleep(0.01)
+            before = len(shown)
+            os.write(ours, f"{line}\n".encode())
+            while wanted and shown.count(b"ready ") <= number + 1:
+                self.assertLess(time.monotonic(), until, f"bash never came to that: {shown}")
+                time.sleep(0.01)
+            self.assertIn(wanted.encode(), shown[before:])
+        self.assertIn(b"two\\ more.lda", shown)
 
     def test_the_devices_of_a_line(self):
         for command in COMMANDS:
@@ -348,7 +397,8 @@ class Zsh(Completion):
             while (offered := text_of(self.path("offered"))).count("that is all\n") <= number:
                 self.assertLess(time.monotonic(), until, f"zsh never came to its end: {offered} {shown}")
                 time.sleep(0.01)
-        return [list(dict.fromkeys(it.splitlines())) for it in offered.split("that is all\n")[1:-1]]
+        # Where nothing fits, an empty line comes.
+        return [list(dict.fromkeys(filter(None, it.splitlines()))) for it in offered.split("that is all\n")[1:-1]]
 
     def test_what_is_offered(self):
         """All in one shell, which is slow to begin."""
@@ -359,6 +409,7 @@ class Zsh(Completion):
             "ldaodt check ano": ["another.lda"],
             "ldaodt type --style ": list("01234567"),
             "ldaodt load --quiet ": [],
+            "ldaodt load --record ano": ["another.lda"],
             **{f"ldaodt {it} --": options_of(it) for it in COMMANDS[:-1]},
             **{f"ldaodt {it} {self.path('dev/')}": DEVICES if it in MACHINES else [] for it in COMMANDS[:-1]},
             "ldaodt-serial ": ["scan", *SPEEDS],

@@ -133,6 +133,17 @@ class Endings(Case):
                 said[name[1]] = int(cells[1])
         self.is_so(said, {end: status for end, status in self.ends.items() if end != "none"})
 
+    def test_what_may_be_the_cause_where_a_word_does_not_hold(self):
+        """Not memory alone, but the line, too, and what tells which."""
+        told, = (cells[2] for cells in rows_of(text_at("docs/REAL-MACHINE.md")) if cells[0].startswith("`WontHold"))
+        for word in ("memory chip", "is the line", "`--careful`", "`memory`"):
+            self.assertIn(word, told)
+
+    def test_the_headline_names_its_premise(self):
+        """Where it says what a line may do, it says what one must not."""
+        headline, = re.findall("^> (.*)$", text_at("README.md"), re.MULTILINE)
+        self.assertRegex(headline, "^Whatever a line that changes no character ")
+
     def test_each_heading_that_a_probe_names_is_there(self):
         """Those of its lines `help`, as the crate of its report has them."""
         text = text_at("crates/probe_report/src/heard_text.rt")
@@ -442,6 +453,12 @@ class Pasting(Case):
     def test_the_examples_of_the_manual_page(self):
         self.assertGreaterEqual(len(self.of_the_manual_page()), 4)
         self.paste_all(self.of_the_manual_page())
+
+    def test_each_load_that_is_shown_is_careful(self):
+        """It costs no character more where whole words are deposited."""
+        loads = re.findall("ldaodt load .*", "".join(self.of_the_pages()))
+        self.assertGreaterEqual(len(loads), 5)
+        self.is_so([it for it in loads if " --careful" not in it], [])
 
     def test_the_block_that_goes_on_by_itself(self):
         """Where each of its loads gains words it goes on up to the start; where nothing answers there is no second load."""

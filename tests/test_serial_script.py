@@ -247,9 +247,11 @@ class Words(Script):
             self.ends(self.serial(f"110 DEVICE {words.replace(' DEVICE', '')}"), 0)
             self.is_so(self.notes()[-1], f"ldaodt {words}")
 
-    def test_the_page_has_the_same_words(self):
-        with open(f"{TOP}/docs/REAL-MACHINE.md", encoding="utf-8") as file:
-            self.is_so(re.findall(r"^stty -F /dev/ttyUSB0 (9600 .*)$", file.read(), re.MULTILINE)[0], SETTINGS["9600"])
+    def test_the_pages_have_the_same_words(self):
+        page = lambda name: bytes_of(f"{TOP}/docs/{name}").decode()
+        self.is_so(re.findall(r"^stty -F /dev/ttyUSB0 (9600 .*)$", page("REAL-MACHINE.md"), re.MULTILINE)[0], SETTINGS["9600"])
+        for speed in (110, 150):
+            self.assertIn(f"{SLOW_LINES[speed]} at {speed}", page("LINE.md"))
 
     def test_where_the_device_stands(self):
         for words, called in PLACES:
@@ -408,14 +410,14 @@ end NoPrompt
 exit "${!status-5}"
 """
 
-PROBED = "prompt yes\nstyle 0\nforgets digits yes\nmemory 000000 to 157776\nkey 2.1 ms\na load of 28672 words takes 31 minutes at this pace\nend Probed\n"
-STORES = "prompt yes\nstyle 0\nforgets digits no: do not load this machine\nthe word at 001000 holds 000000 again\nend NotTrusted\n"
+PROBED = "prompt yes\nstyle 0\nkeeps small letters not known\nforgets digits yes\nmemory 000000 to 157776\nkey 2.1 ms\na load of 28672 words takes 31 minutes at this pace\nend Probed\n"
+STORES = "prompt yes\nstyle 0\nkeeps small letters not known\nforgets digits no: do not load this machine\nthe word at 001000 holds 000000 again\nend NotTrusted\n"
 NO_WORD = "prompt yes\nend NoWord 001000\n"
-BAD_LINE = "prompt yes\nheard ?\\r\\n@00\nhelp: so\nstyle 0\nforgets digits not known\nend GaveUp\n"
+BAD_LINE = "prompt yes\nheard ?\\r\\n@00\nhelp: so\nstyle 0\nkeeps small letters not known\nforgets digits not known\nend GaveUp\n"
 PROMPT = "prompt yes\nheard @001000/00000\nhelp: so\nend GaveUp\n"
 OTHERS = "prompt yes\nheard @001000/0000000\nhelp: so\nend GaveUp\n"
 TALKS = "prompt no\nheard S\\r\\nMEMORY TEST PAS\nhelp: so\nend TurnsOver\n"
-BROKEN = "prompt yes\nstyle 0\nforgets digits not known\nthe word at 001000 held 000000, now look at it\nend LineFailed\n"
+BROKEN = "prompt yes\nstyle 0\nkeeps small letters not known\nforgets digits not known\nthe word at 001000 held 000000, now look at it\nend LineFailed\n"
 
 # The speed of a report, the report, its status; how many speeds are tried, how the scan ends, what it says of that speed, and what is
 # to be written then.

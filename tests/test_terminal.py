@@ -132,13 +132,17 @@ class ForgetfulHundredths(Hundredths):
 
 
 class SteadyConsole(Console):
-    """It answers a key each twenty-fifth of a second from its first on, and makes good what was late."""
+    """It answers so many keys a second from its first on, and makes good what was late."""
     begun = float("inf")
+
+    def __init__(self, pace=25):
+        super().__init__()
+        self.pace = pace
 
     def take(self, key):
         answer = super().take(key)
         self.begun = min(self.begun, time.monotonic())
-        time.sleep(max(0, self.begun + len(self.typed) / 25 - time.monotonic()))
+        time.sleep(max(0, self.begun + len(self.typed) / self.pace - time.monotonic()))
         return answer
 
 
@@ -250,6 +254,13 @@ class Terminal(Case):
                 least = 4000 * keys / 100 / 60
                 self.assertLessEqual(int(told[0][0]), least * 1.6)
 
+    def test_it_is_not_said_before_a_pace_tells(self):
+        """Not in the first ten seconds, nor where fewer than eight words were done by then, each of which has eight keys."""
+        self.put("many.lda", tape_of([(0o1000, bytes(8000))], 0o1000))
+        for pace, seconds in ((25, 8), (5, 12)):
+            _, shown = self.interrupted("verify many.lda LINE", SteadyConsole(pace), lambda machine, seconds=seconds: time.monotonic() > machine.begun + seconds)
+            self.is_so((pace, "minutes" in shown), (pace, False))
+
     def test_what_is_short_is_not_said(self):
         """From two minutes on it is: 500 words of eight keys take 160 seconds, of which the first ten tell the pace; 150 words take 48."""
         for count, lines in ((500, 1), (150, 0)):
@@ -287,23 +298,25 @@ class Terminal(Case):
         self.assertTrue(shown.startswith(LISTENING + NO_WORD + babble), repr(shown))
 
     def test_a_line_that_is_never_silent_is_told(self):
-        """A device that sends back what it hears, and a program that prints: once ten seconds are over, and once only. Nothing but the `Z` is
-        typed."""
+        """A device that sends back what it hears, and a program that prints: once ten seconds are over, not before, and once only. Nothing but
+        the `Z` is typed."""
         self.put_tapes("first.lda")
         line = self.device_at(Console(), settings="raw echo")
 
-        def load(terminal, line):
+        def load(terminal, line, seconds):
             process = subprocess.Popen([PROGRAM, *self.load_words(line, "first.lda")], cwd=self.room, stderr=terminal, stdout=subprocess.DEVNULL)
             self.addCleanup(self.let_go, process)
-            # On a computer that is busy it takes longer, and a test that was held up is run again with a longer quiet time.
-            time.sleep(12 + self.quiet / 200)
+            time.sleep(seconds)
             self.assertIsNone(process.poll())
             process.kill()
             process.wait()
 
+        _, shown = self.at_a_terminal(lambda it: load(it, self.console_at(EndlessMachine()), 8))
+        self.assertNotIn("never silent", shown)
         for line, says in ((line, "?..@"), (self.console_at(EndlessMachine()), "MEMORY TEST PASS..")):
             with self.subTest(says):
-                _, shown = self.at_a_terminal(lambda it, line=line: load(it, line))
+                # On a computer that is busy it takes longer, and a test that was held up is run again with a longer quiet time.
+                _, shown = self.at_a_terminal(lambda it, line=line: load(it, line, 12 + self.quiet / 200))
                 told = re.findall(r"\rthe line is never silent, and says: (.*)\r\n(.*)\x1b\[K\r\n", shown)
                 self.is_so([rest for _, rest in told], ["a program that runs does so, and a system that echoes (stty -echo); 'ldaodt probe LINE' says more"])
                 # The last that was heard, in its order.
@@ -321,7 +334,8 @@ class Terminal(Case):
 
     def test_what_is_told_behind_the_report(self):
         """How many words the record alone has verified, and what helps where a load is broken off; nothing where the start may
-        have gone out, or nobody will go on. The line breaks behind so many keys and answers."""
+        have gone out, or nobody will go on, and of a record that memory does not hold no more than its fault. The line breaks behind
+        so many keys and answers."""
         one, both = "LDAODT 2\n001000 031421", "LDAODT 2\n001000 031421\nH 001002 000377 000104\n"
         for record, close_after, more, end, told in (
             (None, None, "", "Started", ""),
@@ -343,6 +357,9 @@ class Terminal(Case):
                 given, shown = self.load_at_a_terminal(Console(memory=BOTH_WORDS), words, close_after=close_after)
                 self.is_so(given.out.split("\n")[1], f"end {end}")
                 self.is_so(shown.split(CLEARED)[-1], told)
+        self.put("a.record", both.encode())
+        given, shown = self.load_at_a_terminal(Console(), "two-words.lda --record a.record")
+        self.is_so((given.out.split("\n")[1], shown.split(CLEARED)[-1]), ("end Stale 001000", "ldaodt: memory does not hold what the record says: load with --recheck\r\n"))
 
     def test_what_is_told_where_a_machine_falls_silent(self):
         """Behind the first of its two words, which takes nine keys; or at once."""
@@ -373,6 +390,7 @@ class Terminal(Case):
         peer = self.console_at(Console())
         given, shown = self.at_a_terminal(lambda terminal: self.ldaodt(["probe", peer.address, "--quiet", str(self.quiet)], stderr=terminal))
         self.is_so((given.status, given.out.split("\n")[-2], shown), (0, "end Probed", PROBING))
+        self.is_so(self.interrupted("probe LINE", DeafConsole(), lambda machine: machine.typed), ((-signal.SIGINT, b""), PROBING))
 
     def test_a_verified_word_is_shown_also_where_it_can_not_be_kept(self):
         """The report counts it, too. The record has room for its header alone, and the keys that look at the word again
@@ -387,9 +405,9 @@ class Terminal(Case):
 class Looks(Case):
     """A look whose standard error is a terminal."""
 
-    def look_at_a_terminal(self, machine, words, quiet=None):
+    def look_at_a_terminal(self, machine, words, quiet=None, close_after=None):
         self.put_tapes("first.lda", "two-words.lda")
-        words = self.words_at(self.console_at(machine), words, quiet)
+        words = self.words_at(self.console_at(machine, close_after=close_after), words, quiet)
         return self.at_a_terminal(lambda terminal: self.ldaodt(words, stderr=terminal))
 
     def test_each_word_that_was_read_counts(self):
@@ -447,6 +465,12 @@ class Looks(Case):
             self.let_go_of("a.lda.part")
         given, shown = self.look_at_a_terminal(Console(words=600), "save a.lda LINE 1000 2776")
         self.is_so((given.status, given.out.split("\n")[1], shown.split(CLEARED)[-1]), (5, "end NoWord 002260", ""))
+        self.let_go_of("a.lda")
+        # Each of the two looks at a word has 25 keys and answers. The line breaks behind 300 words, and behind one.
+        for words, told in ((300, goes_on), (1, "")):
+            given, shown = self.look_at_a_terminal(Console(), "save a.lda LINE 1000 2776", close_after=5 + words * 50)
+            self.is_so((given.status, given.out.split("\n")[1], shown.split(CLEARED)[-1]), (4, "end LineFailed", told + FAILED))
+            self.let_go_of("a.lda.part")
 
     def let_go_of(self, name):
         """Removes a file, where it is there."""
@@ -543,7 +567,7 @@ class Tests(Case):
     """A test of memory whose standard error is a terminal."""
 
     # The keys of the trial of a console.
-    TRIAL = 30
+    TRIAL = 31
 
     def shown_of(self, test, lost_key=None):
         """The texts that are shown while a memory is tested, without the time that is left, and what each word held."""
@@ -561,6 +585,11 @@ class Tests(Case):
         self.is_so(texts, ["0 of 4098 words, 0%, listening", "0 of 4098 words, 0%", f"testing 017776, it held {held[0]}: 0 of 4098 words, 0%",
                            "1 of 4098 words, 0%", f"testing 040000, it held {held[1]}: 1 of 4098 words, 0%", "2 of 4098 words, 0%",
                            f"testing 017776, it held {held[0]}: 2 of 4098 words, 0%"])
+
+    def test_every_so_manieth_word_counts(self):
+        """Of five words each second one is tested, which are three."""
+        texts, held = self.shown_of(Test(0o1000, 0o1010, 2))
+        self.is_so(texts[-2:], [f"testing 001010, it held {held[2]}: 2 of 3 words, 66%", "3 of 3 words, 100%"])
 
     def test_mishaps_are_counted(self):
         """The second key of the first word's address is lost."""

@@ -174,6 +174,85 @@ class Commands(Case):
                 self.is_refused([*command.words(line="b:1", words="words"), "b.lda"], "unexpected argument 'b.lda' found", self.USAGES[command.name])
 
 
+# What an address has to be, and a start.
+ADDRESS = "an address is octal, of one to six digits, even, and below 160000"
+START = "a start is octal, of one to six digits"
+
+# Words in which `{}` stands for one, what it is called there, what it has to be, and the last that there may be.
+ADDRESSES = (
+    ("load first.lda x:y --start {}", "--start <AAAAAA>", f"{START}, and even", 0o177776),
+    ("dialogue first.lda --start {}", "--start <AAAAAA>", f"{START}, and even", 0o177776),
+    ("save new.lda x:y 0 2 --start {}", "--start <AAAAAA>", START, 0o177777),
+    ("make new.lda words --start {}", "--start <AAAAAA>", START, 0o177777),
+    ("probe x:y --address {}", "--address <AAAAAA>", ADDRESS, 0o157776),
+    ("save new.lda x:y {} 157776", "<FROM>", ADDRESS, 0o157776),
+    ("save new.lda x:y 0 {}", "<TO>", ADDRESS, 0o157776),
+    ("memory x:y {} 157776", "<FROM>", ADDRESS, 0o157776),
+    ("memory x:y 0 {}", "<TO>", ADDRESS, 0o157776),
+)
+
+
+class Refusals(Case):
+    """What is said of a word that is refused: which it is, what it should be, and what to type in its place."""
+
+    def setUp(self):
+        super().setUp()
+        self.put_tapes("first.lda")
+        self.put("words", b"1000/11064\n")
+
+    def is_refused(self, words, why):
+        with self.subTest(words):
+            given = self.ldaodt(words)
+            self.is_so((given.status, given.out, given.err.split("\n")[0]), (2, "", f"error: {why}"))
+
+    def is_taken(self, words):
+        """Behind its words a command reaches nobody, or ends well."""
+        with self.subTest(words):
+            self.assertIn(self.ldaodt(words).status, (0, 4))
+
+    def test_addresses(self):
+        """The first and the last are taken, in one digit as in six; and it is said what one should be that is none."""
+        for words, name, rule, last in ADDRESSES:
+            is_even = last % 2 == 0
+            with_address = lambda text, words=words: [it.format(text) for it in words.split()]
+            for text in ("0", "000002", f"{last:o}"):
+                self.is_taken(with_address(text))
+            for text in (f"{last + 1 + is_even:o}", "8", "", "0000002", "+0", "2x", *["1001"] * is_even):
+                self.is_refused(with_address(text), f"invalid value '{text}' for '{name}': {rule}")
+
+    def test_a_last_address_below_the_first(self):
+        for command in ("save new.lda x:y", "memory x:y"):
+            for first, last in (("1000", "776"), ("2", "0"), ("157776", "157774")):
+                self.is_refused(f"{command} {first} {last}", f"invalid value '{last}' for '<TO>': the last address is below the first")
+                self.is_taken(f"{command} {last} {last}")
+
+    def test_a_tape_where_a_command_belongs(self):
+        """What is told to be typed then checks it, and loads it. A name that may be a command's says nothing of a tape."""
+        self.put("program", bytes_of(FIRST))
+        for name in ("first.lda", "./program"):
+            self.is_refused(name, f"unrecognized subcommand '{name}'")
+            check, load = re.findall(r"^  tip: to \w+ a tape, use 'ldaodt (.*)'$", self.ldaodt(name).err, re.MULTILINE)
+            self.ends(self.ldaodt(check), 0, CHECKED)
+            given = self.ldaodt(self.words_at(self.console_at(Console()), load))
+            self.is_so((given.status, given.out.split("\n")[1]), (0, "end Started"))
+        for words in ("program", "help first.lda"):
+            self.is_refused(words, f"unrecognized subcommand '{words.split()[-1]}'")
+            self.assertNotIn("tip", self.ldaodt(words).err)
+
+    def test_what_is_nearly_a_word_of_the_program(self):
+        """It is said which that is; and nothing of `--`, behind which there are tapes alone."""
+        for words, tips in (
+            ("chek first.lda", ["a similar subcommand exists: 'check'"]),
+            ("load first.lda x:y --recrod a.record", ["a similar argument exists: '--record'"]),
+            ("check first.lda --words 1", []),
+            ("verify first.lda x:y --record a.record", []),
+            ("--dry-run", []),
+        ):
+            with self.subTest(words):
+                given = self.ldaodt(words)
+                self.is_so((given.status, re.findall(r"^ *tip: (.*)$", given.err, re.MULTILINE)), (2, tips))
+
+
 def options_of(command):
     """The options of a command by the page of help: each its name, what stands for its value, if it has one, and what is said of it."""
     page = bytes_of(f"{TOP}/tests/help.md").decode()
@@ -223,6 +302,15 @@ class Options(Case):
             self.is_taken(True, command, option, *some, *beside)
             self.is_taken(False, command, *beside, option, *some, option, *some)
             self.is_taken(False, command, *beside, *([option] if value else [f"{option}=1"]))
+
+    def test_no_option_is_a_value(self):
+        """Where a value is wanting it is said for which, whatever option stands there."""
+        for command, option, value, _ in self.TEXTS:
+            for other, *_ in options_of(command):
+                if value and other != "--help":
+                    with self.subTest(command.name, option=option, other=other):
+                        given = self.ldaodt([*command.words(line="x:y"), option, other])
+                        self.ends(given, 2, "", f"error: a value is required for '{option} <{value}>' but none was supplied\n\nFor more information, try '--help'.\n")
 
 
 if __name__ == "__main__":

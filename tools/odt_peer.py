@@ -93,6 +93,13 @@ class StoringMachine(Machine):
         return super().take(key)
 
 
+class FoldingMachine(Machine):
+    """It makes a capital of each small letter that is typed."""
+
+    def take(self, key):
+        return super().take(key.upper() if "a" <= key <= "z" else key)
+
+
 class WideMachine(Machine):
     """It prints eight digits behind a `/`."""
 
@@ -130,6 +137,7 @@ class EndlessMachine(DeadMachine):
 CONSOLES = {
     "odt": Machine,
     "storing": StoringMachine,
+    "folding": FoldingMachine,
     "wide": WideMachine,
     "echo": EchoingMachine,
     "boot": BootingMachine,
@@ -431,8 +439,8 @@ def main():
     machine = CONSOLES[asked.console](asked.words, asked.style, [(0, says)])
     named = {"loss": asked.loss / 100, "change": asked.change / 100, "seed": asked.seed, "close_after": asked.break_after, "baud": asked.baud, "tell": tell}
     line = Device(machine, asked.stty, **named) if asked.device else Peer(machine, asked.port, **named)
-    tell(line.name)
     try:
+        tell(line.name)
         threading.Event().wait()
     except KeyboardInterrupt:
         return 0

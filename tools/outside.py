@@ -3,6 +3,7 @@ import collections
 import errno
 import glob
 import os
+import re
 import select
 import shutil
 import signal
@@ -48,6 +49,17 @@ def fault(text, why=None):
 def line_failed(why):
     """The same of a line that failed."""
     return fault("line failed", LINE_FAILED[why])
+
+
+def came_changed(count):
+    """The line that tells of so many characters which no loss explains; none where there are none."""
+    many = "1 character" if count == 1 else f"{count} characters"
+    return f"ldaodt: {many} came changed, or not from ODT: docs/REAL-MACHINE.md, step 7\n" if count else ""
+
+
+def beside_changes(given):
+    """An answer without such a line, which is its last on standard error."""
+    return given and given._replace(err=re.sub(came_changed(r"\d+").replace("characters", "characters?").replace(".md", r"\.md") + r"\Z", "", given.err))
 
 
 NO_MEMORY = "ldaodt: out of memory\n"

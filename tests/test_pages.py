@@ -136,7 +136,7 @@ class Endings(Case):
     def test_what_may_be_the_cause_where_a_word_does_not_hold(self):
         """Not memory alone, but the line, too, and what tells which."""
         told, = (cells[2] for cells in rows_of(text_at("docs/REAL-MACHINE.md")) if cells[0].startswith("`WontHold"))
-        for word in ("memory chip", "is the line", "`--careful`", "`memory`"):
+        for word in ("memory chip", "or the line", "`--careful`", "`memory`"):
             self.assertIn(word, told)
 
     def test_the_headline_names_its_premise(self):

@@ -14,6 +14,7 @@ use Rattle.host_devices.specs.Dialogue.{keys_of}
 use Rattle.load_record.specs.Reading.{Says}
 use Rattle.load_lives.proofs.Records.{says_once, says_sound}
 use Rattle.looking_law.specs.RecordLook.{HasLooked}
+use Rattle.reading_core.specs.Reader.{once}
 use Rattle.looking_law.proofs.Never.{looked_never, never_ends, none_in}
 use Rattle.line_world.specs.Wire.{sent}
 use Rattle.honest_line.specs.Moves.{Gives}
@@ -95,8 +96,8 @@ looked program tape before keys between recorded looks z is s says h line =
       says = s.says;
       stand = there.stand;
       kept = there.kept;
-      last = ends_join keys (keys_of looks) s.last (never_ends (keys_of looks) (looked_never tape recorded looks h)) (λ g. absurd (not_both s.progress.going (s.marked g) unset));
-      marked = λ g. elim (Contains-append_cases keys (keys_of looks) 71 g) [ inl early ↦ s.marked early | inr now ↦ absurd (none_in (keys_of looks) (looked_never tape recorded looks h) now) ];
+      last = ends_join keys (keys_of looks) s.last (never_ends (keys_of looks) (looked_never once tape recorded looks h)) (λ g. absurd (not_both s.progress.going (s.marked g) unset));
+      marked = λ g. elim (Contains-append_cases keys (keys_of looks) 71 g) [ inl early ↦ s.marked early | inr now ↦ absurd (none_in (keys_of looks) (looked_never once tape recorded looks h) now) ];
       all = λ set. absurd (not_both s.progress.going set unset);
       rested = λ set. absurd (not_both s.progress.going set unset);
       next = λ _. there;

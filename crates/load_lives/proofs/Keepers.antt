@@ -17,7 +17,7 @@ use Rattle.host_core.specs.Laws.{led, replay}
 use Rattle.host_core.specs.PhaseTable.{move}
 use Rattle.host_core.proofs.Lives.{led_kept, led_plan}
 use Rattle.host_core.proofs.Marks.{go_marks}
-use Rattle.host_core.proofs.Turns.{begun_kept, kept}
+use Rattle.host_core.proofs.Turns.{begun_by_kept, kept}
 use Rattle.host_devices.specs.declared.item.Item.{Item}
 use Rattle.host_devices.specs.declared.item.Kept.{Kept}
 use Rattle.host_devices.specs.declared.item.Kept.TheVariants.{Word, Go}
@@ -310,7 +310,7 @@ keepers_leave load was stopped by =
     host : IsHost first
     host =
         let sound = says_sound plan load.text goes.recorded goes.says in
-        begun_kept plan progress.verified progress.going load.run.patience was.fits (omega (arith, goes.fewer, sound.within)) stopped.driven.patient (λ set. (sound.marked (sym goes.same_mark ∙ set)).1)
+        begun_by_kept load.run.careful plan progress.verified progress.going load.run.patience was.fits (omega (arith, goes.fewer, sound.within)) stopped.driven.patient (λ set. (sound.marked (sym goes.same_mark ∙ set)).1)
 
     within : core.verified ≤ length plan.words
     within = subst (λ (p : PlanValue). core.verified ≤ length p.words) (ap (λ (c : Core). c.plan) at ∙ led_plan first session.heard) (subst IsHost (sym at) (led_kept first session.heard host)).within

@@ -48,7 +48,7 @@ sessions_are_lives load was passed left =
     let turns = turns_of run load.stop in
     let core = core_is run.turns turns run.before run.after session in
     let u = unsent_out load.stop (decided was.driven) session.said run.items (session_said run.turns turns run.before run.after session) was.out in
-    let life : Life = record { patience = run.patience; progress = run.progress; heard = session.heard; items = run.items; unsent = u.0 } in
+    let life : Life = record { careful = run.careful; patience = run.patience; progress = run.progress; heard = session.heard; items = run.items; unsent = u.0 } in
     record {
       life = life;
       core = sym core;

@@ -1,10 +1,10 @@
 -- Lives of the host one after another, on one machine and with one record, and what may be trusted after them.
-use Rattle.std.specs.Prelude.{◌≡◌, ℕ, ◌+◌, ◌^◌, ◌<◌, ◌≤◌, ◌⊎◌, true, false, List, [], ◌∷◌, ◌++◌, length, Option, Contains, Ok, option_to_list, ⊤}
+use Rattle.std.specs.Prelude.{◌≡◌, ℕ, ◌+◌, ◌^◌, ◌<◌, ◌≤◌, ◌⊎◌, Bool, true, false, List, [], ◌∷◌, ◌++◌, length, Option, Contains, Ok, option_to_list, ⊤}
 use Rattle.tape_image.specs.Plan.{PlanValue, IsPlan}
 use Rattle.host_core.specs.declared.heard.Heard.{Heard}
 use Rattle.host_core.specs.declared.progress.Progress.{Progress}
 use Rattle.host_core.specs.Console.{go}
-use Rattle.host_core.specs.Core.{Core, begun}
+use Rattle.host_core.specs.Core.{Core, begun, begun_by}
 use Rattle.host_core.specs.Laws.{led}
 use Rattle.line_world.specs.Wire.{Wire, forgiven, most_waiting}
 use Rattle.line_world.specs.Safe.{IsSafe}
@@ -24,9 +24,10 @@ pub record WireAndRecord : Type 0 where
   pub wire : Wire
   pub text : List ℕ
 
--- a life of the host: how many mishaps it survives, the progress that it began with, what it heard, what was said on the line, and the
--- key that it was about to send, where it was stopped right before that
+-- a life of the host: whether it is careful, how many mishaps it survives, the progress that it began with, what it heard, what was said on the
+-- line, and the key that it was about to send, where it was stopped right before that
 pub record Life : Type 0 where
+  pub careful : Bool
   pub patience : ℕ
   pub progress : Progress
   pub heard : List Heard
@@ -35,7 +36,7 @@ pub record Life : Type 0 where
 
 -- the core that the life began with
 abbrev pub first_core : PlanValue → Life → Core
-first_core plan life = begun plan life.progress.verified life.progress.going life.patience
+first_core plan life = begun_by life.careful plan life.progress.verified life.progress.going life.patience
 
 -- the core that it became
 abbrev pub last_core : PlanValue → Life → Core
@@ -78,7 +79,7 @@ pub record IsLife (plan : PlanValue) (old : WireAndRecord) (life : Life) (new : 
   pub line : PassesOver old.wire life.items new.wire
   pub left : IsLeft plan life.progress (last_core plan life) life.items old.text new.text
 
--- lives one after another, the latest first: each finds what the one before it left
+-- lives one after another, the latest first, plain and careful ones in any order: each finds what the one before it left
 abbrev pub AreLives : PlanValue → WireAndRecord → List Life → WireAndRecord → Type 0
 AreLives plan old [] new = new ≡ old
 AreLives plan old (life ∷ earlier) new = (between : WireAndRecord) × AreLives plan old earlier between × IsLife plan between life new

@@ -5,7 +5,7 @@ use Rattle.tape_image.specs.Plan.{PlanValue}
 use Rattle.tape_image.specs.Word.{WordValue}
 use Rattle.host_core.specs.declared.heard.Heard.{Heard}
 use Rattle.host_core.specs.declared.progress.Progress.{Progress}
-use Rattle.host_core.specs.Core.{Core, begun}
+use Rattle.host_core.specs.Core.{Core, begun_by}
 use Rattle.host_devices.specs.declared.item.Item.{Item}
 use Rattle.host_devices.specs.Dialogue.{said, dialogue}
 use Rattle.host_devices.specs.declared.item.Kept.{Kept}
@@ -19,9 +19,10 @@ use Rattle.load_lives.specs.Lives.{WireAndRecord, Life, last_core, GoesOnFrom, P
 abbrev pub WentOut : List Item → List Item → List Item → Type 0
 WentOut all told items = (items ≡ told) ⊎ (items ≡ all)
 
--- what the engine did of a load: its plan, the progress and the patience that it began with, how many turns it took at most, the core that it came to, what
--- line and keeper told before and after, and what went out
+-- what the engine did of a load: whether it was careful, its plan, the progress and the patience that it began with, how many turns it took at most, the
+-- core that it came to, what line and keeper told before and after, and what went out
 pub record EngineRun : Type 0 where
+  pub careful : Bool
   pub plan : PlanValue
   pub progress : Progress
   pub patience : ℕ
@@ -33,7 +34,7 @@ pub record EngineRun : Type 0 where
 
 -- the core that it began with, and its turns
 abbrev pub opening : EngineRun → Core
-opening run = begun run.plan run.progress.verified run.progress.going run.patience
+opening run = begun_by run.careful run.plan run.progress.verified run.progress.going run.patience
 
 abbrev pub turns_of : EngineRun → Option LoadStop → Driving
 turns_of run stop = driving (opening run) run.core stop

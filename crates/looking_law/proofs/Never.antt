@@ -8,10 +8,10 @@ use Rattle.line_world.specs.Promises.{EndsAtGo}
 use Rattle.host_devices.specs.declared.item.Item.{Item}
 use Rattle.host_devices.specs.declared.item.Item.TheVariants.{Sent, Heard as Came}
 use Rattle.host_devices.specs.Dialogue.{keys_of}
-use Rattle.reading_core.specs.Reader.{begun}
+use Rattle.reading_core.specs.Reader.{Manner, begun_in}
 use Rattle.looking_law.specs.Belief.{dialogue}
 use Rattle.looking_law.specs.Harmless.{IsLooking, OnlyLook}
-use Rattle.looking_law.specs.RecordLook.{HasLooked}
+use Rattle.looking_law.specs.RecordLook.{HasLookedAs}
 use Rattle.looking_law.specs.Trying.{IsToldOf}
 use Rattle.looking_law.proofs.Believed.{keys_of-dialogue}
 use Rattle.looking_law.proofs.Looks.{replay_looks}
@@ -58,11 +58,11 @@ told_never : (all told : List Item) → IsToldOf all told → Never (keys_of all
 told_never all told (inl whole) never = subst (λ items. Never (keys_of items)) (sym whole) never
 told_never all told (inr (key, lacks)) never = front_never told key (subst (λ items. Never (keys_of items)) lacks never)
 
-pub looked_never : (plan : PlanValue) (recorded : Progress) (looks : List Item) → HasLooked plan recorded looks → Never (keys_of looks)
-looked_never plan recorded looks h =
-    told_never (dialogue (begun h.addresses [] h.patience) h.heard) looks h.told
-    (subst Never (sym (keys_of-dialogue h.heard (begun h.addresses [] h.patience)))
-    (looks_never false _ (replay_looks false (begun h.addresses [] h.patience) h.heard (λ e. absurd (cc e)))))
+pub looked_never : (manner : Manner) (plan : PlanValue) (recorded : Progress) (looks : List Item) → HasLookedAs manner plan recorded looks → Never (keys_of looks)
+looked_never manner plan recorded looks h =
+    told_never (dialogue (begun_in manner h.addresses [] h.patience) h.heard) looks h.told
+    (subst Never (sym (keys_of-dialogue h.heard (begun_in manner h.addresses [] h.patience)))
+    (looks_never false _ (replay_looks false (begun_in manner h.addresses [] h.patience) h.heard (λ e. absurd (cc e)))))
 
 pub never_ends : (keys : List ℕ) → Never keys → EndsAtGo keys
 never_ends [] never = tt

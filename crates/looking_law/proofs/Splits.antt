@@ -25,7 +25,7 @@ passes_split (Came what ∷ items) more x y (w, v, before, gives, passes) =
     let rest = passes_split items more v y passes in
     (rest.0, (w, v, before, gives, rest.1), rest.2)
 
-passes_on : (items : List Item) (x y z : Wire) → Passes x items y → MovesOn y z → Passes x items z
+pub passes_on : (items : List Item) (x y z : Wire) → Passes x items y → MovesOn y z → Passes x items z
 passes_on items x y z passes moves = subst (λ list. Passes x list z) (append-nil items) (passes_then items [] x y z passes moves)
 
 -- ---- the key that is under way there

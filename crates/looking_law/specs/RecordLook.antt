@@ -6,12 +6,13 @@ use Rattle.host_core.specs.declared.progress.Progress.{Progress}
 use Rattle.host_core.specs.Core.{word_nr}
 use Rattle.host_devices.specs.declared.item.Item.{Item}
 use Rattle.reading_core.specs.Addresses.{AreAddresses}
-use Rattle.reading_core.specs.Reader.{begun}
+use Rattle.reading_core.specs.Reader.{Manner, begun_in, once}
 use Rattle.looking_law.specs.Belief.{dialogue}
 use Rattle.looking_law.specs.Trying.{IsToldOf}
 
--- what was said by a host that looked at some of the words that a record says to be verified, without a mark: all of it, or all but its last key
-pub record HasLooked (plan : PlanValue) (recorded : Progress) (looks : List Item) : Type 0 where
+-- what was said by a host that looked, in a manner, at some of the words that a record says to be verified, without a mark: all of it, or all but its
+-- last key
+pub record HasLookedAs (manner : Manner) (plan : PlanValue) (recorded : Progress) (looks : List Item) : Type 0 where
   pub unmarked : recorded.going ≡ false
   pub addresses : List ℕ
   pub asked : AreAddresses addresses
@@ -19,4 +20,8 @@ pub record HasLooked (plan : PlanValue) (recorded : Progress) (looks : List Item
   pub patience : ℕ
   pub patient : patience < 2 ^ 32
   pub heard : List Heard
-  pub told : IsToldOf (dialogue (begun addresses [] patience) heard) looks
+  pub told : IsToldOf (dialogue (begun_in manner addresses [] patience) heard) looks
+
+-- the same of one that looked at each word once
+abbrev pub HasLooked : PlanValue → Progress → List Item → Type 0
+HasLooked plan recorded looks = HasLookedAs once plan recorded looks

@@ -43,7 +43,7 @@ use Rattle.load_lives.specs.FastLives.{FastLife, LinkAndRecord, PassesAt, last_c
 use Rattle.load_lives.specs.FastLooksFirst.{FastLookingLife, IsFastLookingLife}
 use Rattle.load_lives.specs.StubParts.{ArePlain, AreStubParts, StubPart, stubs_said, verified_after, verified_by}
 use Rattle.host_devices.specs.Devices.{Devices, LineTold, devices}
-use Rattle.looking_law.specs.RecordLook.{HasLooked}
+use Rattle.looking_law.specs.RecordLook.{HasLooked, HasLookedAs}
 use Rattle.sample_looks.specs.declared.finding.Finding.{Finding}
 use Rattle.sample_looks.specs.declared.finding.Finding.TheVariants.{AllStand, Stale, Unfinished}
 use Rattle.sample_looks.specs.LooksFirst.{LookingLife, IsLookingLife, SampleLooks}
@@ -56,7 +56,8 @@ use Rattle.machine_load.specs.Asked.{opened_as, task, ◌⇒◌}
 use Rattle.machine_load.specs.Driving.{IsDrivenOn}
 use Rattle.machine_load.specs.Lives.{AgainGoesOut, CameToAFastLife, CameToTwoFastLives, FiledLoad, GoesOut, HostGoesOut, LooksGoOut, PartsGoOut, StubsGoOut, LoadsAreFastLives, LoadsAreLives, of_file, with_losses}
 use Rattle.machine_load.specs.Load.{SurroundingsTold, Finish, IsBusyLife, IsLoad, IsOpening, IsHeldUp, IsIdleLife, IsLived, words_taken}
-use Rattle.machine_load.specs.Looks.{AreLooks, behind_looks, held_up_by, vouched_for}
+use Rattle.machine_load.specs.Looks.{AreLooks, behind_looks, care_of, held_up_by, vouched_for}
+use Rattle.reading_core.specs.Reader.{Manner, manner_of}
 use Rattle.machine_load.specs.Parts.{AreBrought, AreKept, ArePartsOver, Course, Held, IsDrivenUnless, LooksAgain, Unless, held, held_back, host_of, stop_of, stubs_of, told_by, turns_of, typist_for}
 use Rattle.load_engine.specs.Driven.{IsDriven, turns_give}
 use Rattle.machine_load.specs.Stubs.{hindrance_of}
@@ -131,11 +132,11 @@ less_patience : (patience spent : ℕ) → patience < 2 ^ 32 → patience - spen
 less_patience patience spent long = omega (arith, long)
 
 -- the looks of a life are at words that its record says
-of_record : (plan : PlanValue) (v patience : ℕ) (recorded : Progress) (looks : Looks) (before after : LineTold) (items : List Item) → patience < 2 ^ 32 → v ≤ recorded.verified → false ≡ recorded.going
-    → (l : AreLooks (begun plan v false patience) looks before after) → LooksGoOut l items → HasLooked plan recorded items
-of_record plan v patience recorded looks before after items long fewer same l out =
-    let sampled : SampleLooks = record { plan = plan; recorded = record { verified = v; going = false }; samples = l.samples; patience = patience; items = items } in
-    let looked : HasLooked plan sampled.recorded items =
+of_record : (careful : Bool) (plan : PlanValue) (v patience : ℕ) (recorded : Progress) (looks : Looks) (before after : LineTold) (items : List Item) → patience < 2 ^ 32 → v ≤ recorded.verified → false ≡ recorded.going
+    → (l : AreLooks (begun_by careful plan v false patience) looks before after) → LooksGoOut l items → HasLookedAs (manner_of (care_of careful) []) plan recorded items
+of_record careful plan v patience recorded looks before after items long fewer same l out =
+    let sampled : SampleLooks = record { plan = plan; recorded = record { verified = v; going = false }; samples = l.samples; manner = manner_of (care_of careful) []; patience = patience; items = items } in
+    let looked : HasLookedAs (manner_of (care_of careful) []) plan sampled.recorded items =
     are_of_the_record sampled (record { unmarked = refl; samples = l.of_record; asked = l.asked; patient = long })
     (record { turns = most_turns; stop = looks.stop; last = l.looked.reader; line = before.said; line' = after.said; inquired = l.looked.inquired.turns.session; out = out }) in record {
       unmarked = sym same;
@@ -261,8 +262,12 @@ through plan v patience stubs front before between keeper keeping free holds bro
     none_left (key ∷ sent) later e = absurd (cc e)
 
 -- the course of a life that began without the mark
+abbrev course_by : Bool → PlanValue → ℕ → ℕ → Option Stubs → Option Looks → Core → LoadEnd → Course
+course_by careful plan v patience stubs again core end = record { first = begun_by careful plan v false patience; stubs = stubs; again = again; core = core; end = end }
+
+-- that of a plain one
 abbrev course_at : PlanValue → ℕ → ℕ → Option Stubs → Option Looks → Core → LoadEnd → Course
-course_at plan v patience stubs again core end = record { first = begun plan v false patience; stubs = stubs; again = again; core = core; end = end }
+course_at plan v patience stubs again core end = course_by false plan v patience stubs again core end
 
 -- what the host made of its keeper, by how the life ended
 kept_out : (course : Course) (stop : Stop) (keeper keeper' : Keeper) → course.end ≡ Driven stop → IsKeptBy of_file.calls (turns_give (turns_of course)) keeper keeper'
@@ -340,7 +345,7 @@ module _ (plan : PlanValue) (v w patience : ℕ) (again rest : List Item) (old n
   goes = record { recorded = progress; says = subst (λ text. Says plan text (Ok progress)) (sym recorded) (written_says plan w fits within); fewer = omega arith; same_mark = refl }
 
   looked_again : (looks : Looks) (before seen : LineTold) → (l : AreLooks (begun plan w false patience) looks before seen) → LooksGoOut l again → HasLooked plan progress again
-  looked_again looks before seen l out = of_record plan w patience progress looks before seen again long (omega arith) refl l out
+  looked_again looks before seen l out = of_record false plan w patience progress looks before seen again long (omega arith) refl l out
 
   second_life : (stubs : Stubs) (looks : Looks) (held : Option LoadEnd) (core : Core) (end : LoadEnd) (before seen after : Devices) (keeping keeper' : Keeper) → w ≡ stubs.tally.verified → held_up_by looks ≡ held → HoldsRecord keeping plan w
       → (l : AreLooks (begun plan w false patience) looks before.line seen.line) → LooksGoOut l again → (host : IsDrivenUnless held (course_at plan v patience (Some stubs) (Some looks) core end) seen after)
@@ -353,7 +358,7 @@ module _ (plan : PlanValue) (v w patience : ℕ) (again rest : List Item) (old n
   second_life stubs looks None core end before seen after keeping keeper' here free holds l went host kept out is =
       behind plan (vouched_for w looks.finding) (patience - looks.spent) again [] rest old new fits (less_patience patience looks.spent long) (goes_behind plan old.text w looks.finding goes)
       (inr (looked_again looks before.line seen.line l went)) passes [] (vouched_for w looks.finding) core host.stop (session_told_by seen) (session_told_by after) keeper' refl tt tt refl session out'
-      (host_holds plan (vouched_for w looks.finding) (patience - looks.spent) host.stop core (session_told_by seen) (session_told_by after) keeping keeper' rest fits (less_patience patience looks.spent long)
+      (host_holds false plan (vouched_for w looks.finding) (patience - looks.spent) host.stop core (session_told_by seen) (session_told_by after) keeping keeper' rest fits (less_patience patience looks.spent long)
       (omega (arith, within, vouched_below w looks.finding)) still session out' by) is
     where
       still : HoldsRecord keeping plan (vouched_for w looks.finding)
@@ -426,7 +431,7 @@ module _ (plan : PlanValue) (v patience : ℕ) (looks front again rest : List It
       let t = through plan v patience stubs front before between keeper keeping free holds brought kept went in
       inl (
         behind plan v patience looks front rest old new fits long goes looked (single none) brought.all.brought.parts stubs.tally.verified core host.stop (session_told_by seen) (session_told_by after) keeper' brought.all.brought.verified brought.all.brought.are_parts (plain_parts (typist_for begins) plan v 0 brought.all.brought.parts refl brought.all.brought.worth) t.said host.driven.session out
-            (host_holds plan stubs.tally.verified patience host.stop core (session_told_by seen) (session_told_by after) keeping keeper' rest fits long brought.all.within t.held host.driven.session out
+            (host_holds false plan stubs.tally.verified patience host.stop core (session_told_by seen) (session_told_by after) keeping keeper' rest fits long brought.all.within t.held host.driven.session out
             (kept_out (course_at plan v patience (Some stubs) None core end) host.stop keeping keeper' host.end_is host_kept).kept_by) is,
         none,
       )
@@ -473,7 +478,7 @@ module _ (plan : PlanValue) (v patience : ℕ) (looks front again rest : List It
   parts_lived None None core end before after holds parts (none, (not_again, out)) is =
       inl (
         behind plan v patience looks front rest old new fits long goes looked (single not_again) [] v core parts.rest.gone.host.stop (session_told_by (devices parts.rest.seen (of_file.calls.told parts.between.keeper))) (session_told_by (told_by of_file.calls after)) after.keeper refl tt tt (sym none) parts.rest.gone.host.driven.session out
-            (host_holds plan v patience parts.rest.gone.host.stop core (session_told_by (devices parts.rest.seen (of_file.calls.told parts.between.keeper))) (session_told_by (told_by of_file.calls after)) parts.between.keeper after.keeper rest fits long fewer_than_all
+            (host_holds false plan v patience parts.rest.gone.host.stop core (session_told_by (devices parts.rest.seen (of_file.calls.told parts.between.keeper))) (session_told_by (told_by of_file.calls after)) parts.between.keeper after.keeper rest fits long fewer_than_all
             (subst (λ (k : Keeper). HoldsRecord k plan v) (sym parts.stubs_kept) holds) parts.rest.gone.host.driven.session out
             (kept_out (course_at plan v patience None None core end) parts.rest.gone.host.stop parts.between.keeper after.keeper parts.rest.gone.host.end_is parts.rest.kept).kept_by) is,
         not_again,
@@ -510,7 +515,7 @@ module _ (plan : PlanValue) (v patience : ℕ) (told : Option (List ℕ)) (betwe
       subst Came (sym held.core_is)
       (left_alone (vouched_for v held.first_looks.looks.finding) (patience - held.first_looks.looks.spent) false (less_patience patience held.first_looks.looks.spent long)
       (goes_behind plan old.text v held.first_looks.looks.finding goes)
-      (inr (of_record plan v patience goes.recorded held.first_looks.looks held.first_looks.line held.first_looks.behind looks long goes.fewer goes.same_mark held.first_looks.looked out))
+      (inr (of_record false plan v patience goes.recorded held.first_looks.looks held.first_looks.line held.first_looks.behind looks long goes.fewer goes.same_mark held.first_looks.looked out))
       held.first_looks.record_same no_front not_again no_rest)
 
   -- one that is driven
@@ -520,7 +525,7 @@ module _ (plan : PlanValue) (v patience : ℕ) (told : Option (List ℕ)) (betwe
   driven_fast false goes life looked out =
       parts_lived plan (vouched_for v life.first_looks.looks.finding) (patience - life.first_looks.looks.spent) looks front again rest old new fits (less_patience patience life.first_looks.looks.spent long)
       (goes_behind plan old.text v life.first_looks.looks.finding goes)
-      (inr (of_record plan v patience goes.recorded life.first_looks.looks life.first_looks.line life.first_looks.behind looks long goes.fewer goes.same_mark life.first_looks.looked looked))
+      (inr (of_record false plan v patience goes.recorded life.first_looks.looks life.first_looks.line life.first_looks.behind looks long goes.fewer goes.same_mark life.first_looks.looked looked))
       passes finish.stubs finish.again finish.core finish.end (held life.first_looks.behind life.driven.keeper) (held life.driven.line' life.driven.keeper') life.driven.begun_so life.driven.parts out (sym life.driven.left ∙ is)
 
   fast_lived : {fast writable : Bool} (going : Bool) → GoesOnFrom plan old.text (record { verified = v; going = going }) → (life : IsLived (IsDrivenOn of_file) (opened_as (begun plan v going patience) fast writable) (between ⇒ after) finish) → GoesOut life looks front again rest
@@ -549,7 +554,7 @@ came_to load old new (inr two) = inr (record {
 })
 
 pub loads_are_fast_lives : LoadsAreFastLives
-loads_are_fast_lives load old new made passes = came_to load old new l
+loads_are_fast_lives load old new plain made passes = came_to load old new l
   where
     plan : PlanValue
     plan = load.plan
@@ -573,7 +578,7 @@ loads_are_fast_lives load old new made passes = came_to load old new l
 
     l : OneOrTwo plan load.finish.core load.looks load.front load.again load.rest old new
     l =
-        subst (λ (core : Core). (life : IsLived (IsDrivenOn of_file) (opened_as core options.fast promised.writable) (promised.between ⇒ load.after) load.finish) → GoesOut life load.looks load.front load.again load.rest → OneOrTwo plan load.finish.core load.looks load.front load.again load.rest old new) (sym (plain_core plan options promised.opened.opening made.plain))
+        subst (λ (core : Core). (life : IsLived (IsDrivenOn of_file) (opened_as core options.fast promised.writable) (promised.between ⇒ load.after) load.finish) → GoesOut life load.looks load.front load.again load.rest → OneOrTwo plan load.finish.core load.looks load.front load.again load.rest old new) (sym (plain_core plan options promised.opened.opening plain))
         (fast_lived plan (words_taken options.recheck said) options.patience load.before.record_text promised.between load.after load.finish load.looks load.front load.again load.rest old new made.fits made.patient made.found promised.opened.record_read made.left passes said.going goes) promised.life made.out
 
 -- ---- a life at a machine
@@ -583,18 +588,18 @@ abbrev Lives : PlanValue → Core → List Item → List Item → WireAndRecord 
 Lives plan last looks items old new = (l : LookingLife) × (last_core plan l.life ≡ last) × (l.looks ≡ looks) × (l.life.items ≡ items) × IsLookingLife plan old l new
 
 -- a life without stubs that goes on without the mark behind so many words
-module _ (plan : PlanValue) (v patience : ℕ) (looks items : List Item) (old new : WireAndRecord) (fits : IsPlan plan) (long : patience < 2 ^ 32) (goes : GoesOnFrom plan old.text (record { verified = v; going = false })) (looked : (looks ≡ []) ⊎ HasLooked plan goes.recorded looks) (passes : PassesOver old.wire (looks ++ items) new.wire) where
+module _ (careful : Bool) (plan : PlanValue) (v patience : ℕ) (looks items : List Item) (old new : WireAndRecord) (fits : IsPlan plan) (long : patience < 2 ^ 32) (goes : GoesOnFrom plan old.text (record { verified = v; going = false })) (looked : (looks ≡ []) ⊎ ((manner : Manner) × HasLookedAs manner plan goes.recorded looks)) (passes : PassesOver old.wire (looks ++ items) new.wire) where
   -- its host alone
   host_life : (core : Core) (stop : Stop) (before behind : Devices) (keeper keeper' : Keeper) → HoldsRecord keeper plan v
-      → (host : IsDriven most_turns (driving (begun plan v false patience) core (Some stop)) before behind) → IsKeptBy of_file.calls (turns_give (driving (begun plan v false patience) core (Some stop))) keeper keeper'
-      → WentOutAt stop (dialogue (begun plan v false patience) host.session.heard) host.session.said items → keeper'.text ≡ Some new.text → Lives plan core looks items old new
+      → (host : IsDriven most_turns (driving (begun_by careful plan v false patience) core (Some stop)) before behind) → IsKeptBy of_file.calls (turns_give (driving (begun_by careful plan v false patience) core (Some stop))) keeper keeper'
+      → WentOutAt stop (dialogue (begun_by careful plan v false patience) host.session.heard) host.session.said items → keeper'.text ≡ Some new.text → Lives plan core looks items old new
   host_life core stop before behind keeper keeper' holds host kept out held =
       let sound = says_sound plan old.text goes.recorded goes.says in
-      let front = host_holds plan v patience stop core (session_told_by before) (session_told_by behind) keeper keeper' items fits long (omega (arith, goes.fewer, sound.within)) holds host.session out kept.kept_by in
+      let front = host_holds careful plan v patience stop core (session_told_by before) (session_told_by behind) keeper keeper' items fits long (omega (arith, goes.fewer, sound.within)) holds host.session out kept.kept_by in
       let same : front.text ≡ new.text = same_text front.text new.text (sym front.held ∙ held) in
-      let all = dialogue (begun plan v false patience) host.session.heard in
+      let all = dialogue (begun_by careful plan v false patience) host.session.heard in
       let u = unsent_out (Some stop) all host.session.said items host.said (went_out stop all host.session.said items out) in
-      let life : Life = record { patience = patience; progress = record { verified = v; going = false }; heard = host.session.heard; items = items; unsent = u.0 } in (
+      let life : Life = record { careful = careful; patience = patience; progress = record { verified = v; going = false }; heard = host.session.heard; items = items; unsent = u.0 } in (
         record { looks = looks; life = life },
         sym host.core,
         refl,
@@ -614,20 +619,20 @@ module _ (plan : PlanValue) (v patience : ℕ) (looks items : List Item) (old ne
       )
 
   parts_alone : (stubs : Option Stubs) (seen_again : Option Looks) (core : Core) (end : LoadEnd) (before after : Held Keeper) (again : List Item) → is_some stubs ≡ false → HoldsRecord before.keeper plan v
-      → (parts : ArePartsOver of_file.calls (course_at plan v patience stubs seen_again core end) before after) → PartsGoOut parts [] again items → after.keeper.text ≡ Some new.text → Lives plan core looks items old new
+      → (parts : ArePartsOver of_file.calls (course_by careful plan v patience stubs seen_again core end) before after) → PartsGoOut parts [] again items → after.keeper.text ≡ Some new.text → Lives plan core looks items old new
   parts_alone None None core end before after again none holds parts (nothing, (not_again, out)) is =
       host_life core parts.rest.gone.host.stop (devices parts.rest.seen (of_file.calls.told parts.between.keeper)) (told_by of_file.calls after) parts.between.keeper after.keeper (subst (λ (k : Keeper). HoldsRecord k plan v) (sym parts.stubs_kept) holds)
-      parts.rest.gone.host.driven (kept_out (course_at plan v patience None None core end) parts.rest.gone.host.stop parts.between.keeper after.keeper parts.rest.gone.host.end_is parts.rest.kept) out is
+      parts.rest.gone.host.driven (kept_out (course_by careful plan v patience None None core end) parts.rest.gone.host.stop parts.between.keeper after.keeper parts.rest.gone.host.end_is parts.rest.kept) out is
   parts_alone None (Some seen_again) core end before after again none holds parts (nothing, (not_again, out)) is = absurd (cc parts.rest.gone.looks.0)
   parts_alone (Some stubs) seen_again core end before after again none holds parts went is = absurd (cc none)
 
 -- a life without stubs, once its record was read
-module _ (plan : PlanValue) (v patience : ℕ) (told : Option (List ℕ)) (between after : SurroundingsTold) (finish : Finish) (looks items : List Item) (old new : WireAndRecord) (fits : IsPlan plan) (long : patience < 2 ^ 32) (was : told ≡ Some old.text) (read : Keeps told between.record_text) (is : after.record_text ≡ Some new.text) (passes : PassesOver old.wire (looks ++ items) new.wire) where
+module _ (careful : Bool) (plan : PlanValue) (v patience : ℕ) (told : Option (List ℕ)) (between after : SurroundingsTold) (finish : Finish) (looks items : List Item) (old new : WireAndRecord) (fits : IsPlan plan) (long : patience < 2 ^ 32) (was : told ≡ Some old.text) (read : Keeps told between.record_text) (is : after.record_text ≡ Some new.text) (passes : PassesOver old.wire (looks ++ items) new.wire) where
   -- one whose record is as it was, and that said nothing behind its looks
-  alone_life : (w kept : ℕ) (going : Bool) → kept < 2 ^ 32 → (goes : GoesOnFrom plan old.text (record { verified = w; going = going })) → (looks ≡ []) ⊎ HasLooked plan goes.recorded looks → Keeps between.record_text after.record_text → items ≡ []
-      → Lives plan (begun plan w going kept) looks items old new
+  alone_life : (w kept : ℕ) (going : Bool) → kept < 2 ^ 32 → (goes : GoesOnFrom plan old.text (record { verified = w; going = going })) → (looks ≡ []) ⊎ ((manner : Manner) × HasLookedAs manner plan goes.recorded looks) → Keeps between.record_text after.record_text → items ≡ []
+      → Lives plan (begun_by careful plan w going kept) looks items old new
   alone_life w kept going long goes looked alone out = (
-    record { looks = looks; life = record { patience = kept; progress = record { verified = w; going = going }; heard = []; items = []; unsent = None } },
+    record { looks = looks; life = record { careful = careful; patience = kept; progress = record { verified = w; going = going }; heard = []; items = []; unsent = None } },
     refl,
     refl,
     sym out,
@@ -644,26 +649,26 @@ module _ (plan : PlanValue) (v patience : ℕ) (told : Option (List ℕ)) (betwe
       same : new.text ≡ old.text
       same = kept_text told after.record_text old.text new.text (Keeps-trans told between.record_text after.record_text read alone) was is
 
-  held_life : {fast writable : Bool} (going : Bool) → GoesOnFrom plan old.text (record { verified = v; going = going }) → (held : IsHeldUp (opened_as (begun plan v going patience) fast writable) (between ⇒ after) finish)
+  held_life : {fast writable : Bool} (going : Bool) → GoesOnFrom plan old.text (record { verified = v; going = going }) → (held : IsHeldUp (opened_as (begun_by careful plan v going patience) fast writable) (between ⇒ after) finish)
       → LooksGoOut held.first_looks.looked looks → items ≡ [] → Lives plan finish.core looks items old new
   held_life true goes held looked out = absurd (cc held.first_looks.goes_on)
   held_life false goes held looked out =
       subst (λ (core : Core). Lives plan core looks items old new) (sym held.core_is)
       (alone_life (vouched_for v held.first_looks.looks.finding) (patience - held.first_looks.looks.spent) false (less_patience patience held.first_looks.looks.spent long)
       (goes_behind plan old.text v held.first_looks.looks.finding goes)
-      (inr (of_record plan v patience goes.recorded held.first_looks.looks held.first_looks.line held.first_looks.behind looks long goes.fewer goes.same_mark held.first_looks.looked looked))
+      (inr (manner_of (care_of careful) [], of_record careful plan v patience goes.recorded held.first_looks.looks held.first_looks.line held.first_looks.behind looks long goes.fewer goes.same_mark held.first_looks.looked looked))
       held.first_looks.record_same out)
 
-  driven_life : {writable : Bool} (going : Bool) (again : List Item) → GoesOnFrom plan old.text (record { verified = v; going = going }) → (life : IsBusyLife (IsDrivenOn of_file) (opened_as (begun plan v going patience) false writable) (between ⇒ after) finish)
+  driven_life : {writable : Bool} (going : Bool) (again : List Item) → GoesOnFrom plan old.text (record { verified = v; going = going }) → (life : IsBusyLife (IsDrivenOn of_file) (opened_as (begun_by careful plan v going patience) false writable) (between ⇒ after) finish)
       → LooksGoOut life.first_looks.looked looks → PartsGoOut life.driven.parts [] again items → Lives plan finish.core looks items old new
   driven_life true again goes life looked out = absurd (cc life.first_looks.goes_on)
   driven_life false again goes life looked out =
-      parts_alone plan (vouched_for v life.first_looks.looks.finding) (patience - life.first_looks.looks.spent) looks items old new fits (less_patience patience life.first_looks.looks.spent long)
+      parts_alone careful plan (vouched_for v life.first_looks.looks.finding) (patience - life.first_looks.looks.spent) looks items old new fits (less_patience patience life.first_looks.looks.spent long)
       (goes_behind plan old.text v life.first_looks.looks.finding goes)
-      (inr (of_record plan v patience goes.recorded life.first_looks.looks life.first_looks.line life.first_looks.behind looks long goes.fewer goes.same_mark life.first_looks.looked looked))
+      (inr (manner_of (care_of careful) [], of_record careful plan v patience goes.recorded life.first_looks.looks life.first_looks.line life.first_looks.behind looks long goes.fewer goes.same_mark life.first_looks.looked looked))
       passes finish.stubs finish.again finish.core finish.end (held life.first_looks.behind life.driven.keeper) (held life.driven.line' life.driven.keeper') again life.driven.stubs_asked life.driven.begun_so life.driven.parts out (sym life.driven.left ∙ is)
 
-  lived : {writable : Bool} (going : Bool) (again : List Item) → GoesOnFrom plan old.text (record { verified = v; going = going }) → (life : IsLived (IsDrivenOn of_file) (opened_as (begun plan v going patience) false writable) (between ⇒ after) finish) → GoesOut life looks [] again items
+  lived : {writable : Bool} (going : Bool) (again : List Item) → GoesOnFrom plan old.text (record { verified = v; going = going }) → (life : IsLived (IsDrivenOn of_file) (opened_as (begun_by careful plan v going patience) false writable) (between ⇒ after) finish) → GoesOut life looks [] again items
       → Lives plan finish.core looks items old new
   lived going again goes (inl idle) (no_looks, none, not_again, out) =
       subst (λ (core : Core). Lives plan core looks items old new) (sym idle.over.same) (alone_life v patience going long goes (inl no_looks) idle.left_alone.record_same out)
@@ -698,6 +703,6 @@ loads_are_lives load old new plain made passes = record { life = l.0; core = l.1
 
     l : Lives plan load.finish.core load.looks load.rest old new
     l =
-        subst (λ (core : Core). (life : IsLived (IsDrivenOn of_file) (opened_as core options.fast promised.writable) (promised.between ⇒ load.after) load.finish) → GoesOut life load.looks [] load.again load.rest → Lives plan load.finish.core load.looks load.rest old new) (sym (plain_core plan options promised.opened.opening made.plain))
-        (subst (λ fast. (life : IsLived (IsDrivenOn of_file) (opened_as (begun plan (words_taken options.recheck said) said.going options.patience) fast promised.writable) (promised.between ⇒ load.after) load.finish) → GoesOut life load.looks [] load.again load.rest → Lives plan load.finish.core load.looks load.rest old new) (sym plain.unasked)
-        (lived plan (words_taken options.recheck said) options.patience load.before.record_text promised.between load.after load.finish load.looks load.rest old new made.fits made.patient made.found promised.opened.record_read made.left passes said.going load.again goes)) promised.life out
+        subst (λ (core : Core). (life : IsLived (IsDrivenOn of_file) (opened_as core options.fast promised.writable) (promised.between ⇒ load.after) load.finish) → GoesOut life load.looks [] load.again load.rest → Lives plan load.finish.core load.looks load.rest old new) (sym promised.opened.opening.core_is)
+        (subst (λ fast. (life : IsLived (IsDrivenOn of_file) (opened_as (begun_by options.careful plan (words_taken options.recheck said) said.going options.patience) fast promised.writable) (promised.between ⇒ load.after) load.finish) → GoesOut life load.looks [] load.again load.rest → Lives plan load.finish.core load.looks load.rest old new) (sym plain.unasked)
+        (lived options.careful plan (words_taken options.recheck said) options.patience load.before.record_text promised.between load.after load.finish load.looks load.rest old new made.fits made.patient made.found promised.opened.record_read made.left passes said.going load.again goes)) promised.life out

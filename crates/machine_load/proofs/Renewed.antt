@@ -1,5 +1,5 @@
 -- What a keeper that has begun a record holds behind the parts of a life: a front of the record of what is verified, whatever the record was before.
-use Rattle.std.proofs.Common.{◌≡◌, ◌⊎◌, ℕ, zero, suc, ◌+◌, ◌-◌, ◌^◌, ◌≤◌, ◌<◌, true, false, List, [], ◌∷◌, ◌++◌, length, take, drop, map, Option, Some, Ok, inl, inr, refl, arith, ap, sym, subst, ◌∙◌, append-nil, append_assoc}
+use Rattle.std.proofs.Common.{◌≡◌, ◌⊎◌, ℕ, zero, suc, ◌+◌, ◌-◌, ◌^◌, ◌≤◌, ◌<◌, Bool, true, false, List, [], ◌∷◌, ◌++◌, length, take, drop, map, Option, Some, Ok, inl, inr, refl, arith, ap, sym, subst, ◌∙◌, append-nil, append_assoc}
 use Rattle.std.specs.Prelude.{Contains}
 use Rattle.std.specs.List.{slice_get}
 use Rattle.std.proofs.Math.Seq.{drop-drop}
@@ -8,9 +8,9 @@ use Rattle.tape_image.specs.Plan.{PlanValue, IsPlan}
 use Rattle.tape_image.specs.Word.{WordValue}
 use Rattle.host_core.specs.declared.progress.Progress.{Progress}
 use Rattle.host_core.specs.Console.{go}
-use Rattle.host_core.specs.Core.{Core, begun}
+use Rattle.host_core.specs.Core.{Core, begun_by}
 use Rattle.host_core.specs.Host.{IsHost}
-use Rattle.host_core.proofs.Turns.{begun_kept}
+use Rattle.host_core.proofs.Turns.{begun_by_kept}
 use Rattle.host_devices.specs.declared.item.Item.{Item}
 use Rattle.host_devices.specs.declared.item.Kept.{Kept}
 use Rattle.host_devices.specs.declared.item.Kept.TheVariants.{Word}
@@ -65,11 +65,11 @@ front_of : (plan : PlanValue) (v : ℕ) (core : Core) (text : List ℕ) → v �
 front_of plan v core text more (inl same) = subst (λ t. IsBeginning t (record_text Second plan core.verified core.going)) (sym same) (records_are_fronts.fewer plan v core.verified core.going more)
 front_of plan v core text more (inr front) = front
 
--- what the keeper of the record of the first words holds once a host has gone on behind them
-pub host_holds : (plan : PlanValue) (v patience : ℕ) (stop : Stop) (core : Core) (before after : SessionTold Kept) (keep keep' : Keeper) (items : List Item) → IsPlan plan → patience < 2 ^ 32 → v ≤ length plan.words
-    → HoldsRecord keep plan v → (session : LoadSession most_turns (driving (begun plan v false patience) core (Some stop)) before after) → WentOutAt stop (dialogue (begun plan v false patience) session.heard) session.said items
-    → KeptBy of_file.calls (turns_give (driving (begun plan v false patience) core (Some stop))) keep keep' → HoldsFront plan core items keep'
-host_holds plan v patience stop core before after keep keep' items fits long within holds session out by =
+-- what the keeper of the record of the first words holds once a host, plain or careful, has gone on behind them
+pub host_holds : (careful : Bool) (plan : PlanValue) (v patience : ℕ) (stop : Stop) (core : Core) (before after : SessionTold Kept) (keep keep' : Keeper) (items : List Item) → IsPlan plan → patience < 2 ^ 32 → v ≤ length plan.words
+    → HoldsRecord keep plan v → (session : LoadSession most_turns (driving (begun_by careful plan v false patience) core (Some stop)) before after) → WentOutAt stop (dialogue (begun_by careful plan v false patience) session.heard) session.said items
+    → KeptBy of_file.calls (turns_give (driving (begun_by careful plan v false patience) core (Some stop))) keep keep' → HoldsFront plan core items keep'
+host_holds careful plan v patience stop core before after keep keep' items fits long within holds session out by =
     let kept : HasLeft load =
     keepers_leave load (record { fits = fits; no_mark = refl; holds = holds }) (record { driven = record { patient = long; goes_on = goes; session = session }; out = out }) by in record {
       text = kept.now;
@@ -83,7 +83,7 @@ host_holds plan v patience stop core before after keep keep' items fits long wit
 
     load : KeptLoad
     load = record {
-      run = record { plan = plan; progress = progress; patience = patience; turns = most_turns; core = core; before = before; after = after; items = items };
+      run = record { careful = careful; plan = plan; progress = progress; patience = patience; turns = most_turns; core = core; before = before; after = after; items = items };
       stop = stop;
       text = record_text Second plan v false;
       keep = keep;
@@ -93,11 +93,11 @@ host_holds plan v patience stop core before after keep keep' items fits long wit
     goes : GoesOnFrom plan (record_text Second plan v false) progress
     goes = record { recorded = progress; says = written_says plan v fits within; fewer = omega arith; same_mark = refl }
 
-    host : IsHost (begun plan v false patience)
-    host = begun_kept plan v false patience fits within long (λ set. absurd (cc set))
+    host : IsHost (begun_by careful plan v false patience)
+    host = begun_by_kept careful plan v false patience fits within long (λ set. absurd (cc set))
 
     more : v ≤ core.verified
-    more = subst (λ (c : Core). v ≤ c.verified) (sym (core_is most_turns (driving (begun plan v false patience) core (Some stop)) before after session)) (led_forward (begun plan v false patience) session.heard host).verified
+    more = subst (λ (c : Core). v ≤ c.verified) (sym (core_is most_turns (driving (begun_by careful plan v false patience) core (Some stop)) before after session)) (led_forward (begun_by careful plan v false patience) session.heard host).verified
 
 -- ---- behind the stubs
 

@@ -97,15 +97,18 @@ pub record FiledLoad : Type 0 where
   pub again : List Item
   pub rest : List Item
 
--- it is as `load` promises of a plain host, with one text in the record's file before it and one behind it
+-- it is as `load` promises, with one text in the record's file before it and one behind it
 pub record WasMade (load : FiledLoad) (old new : List ℕ) : Type 0 where
   pub fits : IsPlan load.plan
   pub patient : load.options.patience < 2 ^ 32
-  pub plain : load.options.careful ≡ false
   pub promised : IsLoad (IsDrivenOn of_file) (task load.plan load.options) (load.before ⇒ load.after) load.finish
   pub found : load.before.record_text ≡ Some old
   pub left : load.after.record_text ≡ Some new
   pub out : GoesOut promised.life load.looks load.front load.again load.rest
+
+-- its hosts are plain
+abbrev pub IsPlain : FiledLoad → Type 0
+IsPlain load = load.options.careful ≡ false
 
 -- it brings in no stub
 pub record IsWithoutStubs (load : FiledLoad) : Type 0 where
@@ -152,15 +155,15 @@ pub record CameToALife (load : FiledLoad) (old new : WireAndRecord) : Type 0 whe
   pub rest : life.life.items ≡ load.rest
   pub is_life : IsLookingLife load.plan old life new
 
--- a load whose keeper writes the record's file, with stubs or without, is a life at a station which may look first, or two, from the line and the record that
--- it found to those that it left
+-- a plain load whose keeper writes the record's file, with stubs or without, is a life at a station which may look first, or two, from the line and the
+-- record that it found to those that it left
 abbrev pub LoadsAreFastLives : Type 0
 LoadsAreFastLives =
-    (load : FiledLoad) (old new : LinkAndRecord) → WasMade load old.text new.text →
+    (load : FiledLoad) (old new : LinkAndRecord) → IsPlain load → WasMade load old.text new.text →
     PassesAt stub_program old.link (load.looks ++ (load.front ++ (load.again ++ load.rest))) new.link →
     CameToAFastLife load old new ⊎ CameToTwoFastLives load old new
 
--- one without stubs is a life at a machine, too, of which more is promised
+-- one without stubs, plain or careful, is a life at a machine, of which more is promised
 abbrev pub LoadsAreLives : Type 0
 LoadsAreLives =
     (load : FiledLoad) (old new : WireAndRecord) → IsWithoutStubs load → WasMade load old.text new.text →

@@ -13,15 +13,15 @@ use Rattle.load_record.specs.Reading.{Says}
 use Rattle.load_lives.specs.Lives.{AreTrusted, GoesOnFrom, IsLeft, Life, MayOpen, PassesOver, WireAndRecord, first_core, last_core}
 use Rattle.load_lives.specs.Stops.{WentOut}
 use Rattle.reading_core.specs.Addresses.{AreAddresses, addresses_of}
-use Rattle.reading_core.specs.Reader.{Reader, begun as reader_begun}
+use Rattle.reading_core.specs.Reader.{Manner, Reader, begun_in}
 use Rattle.looking_law.specs.Belief.{dialogue as looks_of}
-use Rattle.looking_law.specs.RecordLook.{HasLooked}
+use Rattle.looking_law.specs.RecordLook.{HasLookedAs}
 use Rattle.looking_law.specs.Splitting.{BeginsByListening}
 use Rattle.looking_engine.specs.Stopping.{LookStop}
 use Rattle.looking_engine.specs.Inquired.{Inquired, inquiry}
 use Rattle.sample_looks.specs.Samples.{AreSamples}
 
--- a life, and what was said before it on its line, where it looked
+-- a life, of a plain host or a careful one, and what was said before it on its line, where it looked
 pub record LookingLife : Type 0 where
   pub looks : List Item
   pub life : Life
@@ -30,7 +30,7 @@ pub record LookingLife : Type 0 where
 pub record IsLookingLife (plan : PlanValue) (old : WireAndRecord) (l : LookingLife) (new : WireAndRecord) : Type 0 where
   pub patient : l.life.patience < 2 ^ 32
   pub goes_on : GoesOnFrom plan old.text l.life.progress
-  pub looked : (l.looks ≡ []) ⊎ HasLooked plan goes_on.recorded l.looks
+  pub looked : (l.looks ≡ []) ⊎ ((manner : Manner) × HasLookedAs manner plan goes_on.recorded l.looks)
   pub stopped : dialogue (first_core plan l.life) l.life.heard ≡ l.life.items ++ said l.life.unsent
   pub line : PassesOver old.wire (l.looks ++ l.life.items) new.wire
   pub left : IsLeft plan l.life.progress (last_core plan l.life) l.life.items old.text new.text
@@ -60,20 +60,21 @@ LooksMayComeFirst =
 
 -- the life of a load that came to no more than its looks
 abbrev pub idle : Progress → Life
-idle progress = record { patience = 0; progress = progress; heard = []; items = []; unsent = None }
+idle progress = record { careful = false; patience = 0; progress = progress; heard = []; items = []; unsent = None }
 
 -- looks with nothing behind them are such a life, which leaves the record alone
 abbrev pub LooksMayStandAlone : Type 0
 LooksMayStandAlone =
-    (plan : PlanValue) (recorded : Progress) (looks : List Item) (old new : WireAndRecord) →
-    Says plan old.text (Ok recorded) → HasLooked plan recorded looks → PassesOver old.wire looks new.wire → new.text ≡ old.text →
+    (plan : PlanValue) (recorded : Progress) (manner : Manner) (looks : List Item) (old new : WireAndRecord) →
+    Says plan old.text (Ok recorded) → HasLookedAs manner plan recorded looks → PassesOver old.wire looks new.wire → new.text ≡ old.text →
     IsLookingLife plan old (record { looks = looks; life = idle recorded }) new
 
--- looks, and then a load on their line: its plan, what its record says, the machine before and behind both, what was said of each, and how many characters
--- were lost
+-- looks, and then a load on their line: its plan, what its record says, how it looked, the machine before and behind both, what was said of each, and how
+-- many characters were lost
 pub record LoadBehindLooks : Type 0 where
   pub plan : PlanValue
   pub recorded : Progress
+  pub manner : Manner
   pub before : Machine
   pub behind : Machine
   pub looks : List Item
@@ -83,7 +84,7 @@ pub record LoadBehindLooks : Type 0 where
 -- the load might have begun without the looks; it begins by listening, and the line is honest
 pub record MightBegin (load : LoadBehindLooks) : Type 0 where
   pub begins : MayBegin (begun load.plan load.recorded.verified false 0) load.before
-  pub looked : HasLooked load.plan load.recorded load.looks
+  pub looked : HasLookedAs load.manner load.plan load.recorded load.looks
   pub listens : BeginsByListening load.items
   pub honest : IsHonest load.before (load.looks ++ load.items) load.lost load.behind
 
@@ -101,17 +102,19 @@ pub record MayFollow (load : LoadBehindLooks) : Type 0 where
 abbrev pub LoadsMayFollow : Type 0
 LoadsMayFollow = (load : LoadBehindLooks) → MightBegin load → MayFollow load
 
--- looks at a record's samples before a load: its plan, what the record says, the samples, how many mishaps the looks survive, and what went out of them
+-- looks at a record's samples before a load: its plan, what the record says, the samples, how it looks, how many mishaps the looks survive, and what went
+-- out of them
 pub record SampleLooks : Type 0 where
   pub plan : PlanValue
   pub recorded : Progress
   pub samples : List WordValue
+  pub manner : Manner
   pub patience : ℕ
   pub items : List Item
 
 -- the host that looks, at its beginning
 abbrev pub looker_at : SampleLooks → Reader
-looker_at looks = reader_begun (addresses_of looks.samples) [] looks.patience
+looker_at looks = begun_in looks.manner (addresses_of looks.samples) [] looks.patience
 
 -- the record has no mark, and these are samples of its words
 pub record AreOfARecord (looks : SampleLooks) : Type 0 where
@@ -132,4 +135,4 @@ pub record WereMade (looks : SampleLooks) : Type 0 where
 
 -- what they said is such a look at words of the record
 abbrev pub SamplesAreOfTheRecord : Type 0
-SamplesAreOfTheRecord = (looks : SampleLooks) → AreOfARecord looks → WereMade looks → HasLooked looks.plan looks.recorded looks.items
+SamplesAreOfTheRecord = (looks : SampleLooks) → AreOfARecord looks → WereMade looks → HasLookedAs looks.manner looks.plan looks.recorded looks.items

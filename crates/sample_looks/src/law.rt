@@ -6,9 +6,9 @@ pub fn loads_may_follow()
     ensures { LoadsMayFollow }
 {}
 
-/// Lives in a row may be trusted, also where each looks first, whatever was under way on the line when
-/// it began to look: of all keys, those of the looks too, `G` is the last. This function does nothing:
-/// its contract is the law.
+/// Lives in a row, plain and careful ones in any order, may be trusted, also where each looks first, in
+/// any manner, whatever was under way on the line when it began to look: of all keys, those of the looks
+/// too, `G` is the last. This function does nothing: its contract is the law.
 pub fn looks_may_come_first()
     ensures { LooksMayComeFirst }
 {}

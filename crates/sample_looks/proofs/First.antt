@@ -41,7 +41,7 @@ use Rattle.reading_core.proofs.Lives.{led_addresses, led_manner}
 use Rattle.reading_core.proofs.Turns.{fresh_kept}
 use Rattle.looking_law.specs.Belief.{IsReadyMachine, dialogue}
 use Rattle.line_world.specs.Scene.{over as inquiring}
-use Rattle.looking_law.specs.RecordLook.{HasLooked}
+use Rattle.looking_law.specs.RecordLook.{HasLookedAtRecord}
 use Rattle.looking_law.specs.Runs.{AreHarmlessBefore, Look, MayBeSuchAHost, Run}
 use Rattle.looking_law.proofs.Believed.{dialogue_mirrored, stopped_with}
 use Rattle.looking_law.proofs.Mirrors.{IsMirrored, as_load, once_kept}
@@ -130,41 +130,41 @@ still_at start (Typing a v n) still = tt
 still_at start (Running p) still = absurd (cc still)
 
 -- from a line at rest
-left_by : (plan : PlanValue) (recorded : Progress) (looks : List Item) (w y : Wire) → IsSound plan recorded → HasLooked plan recorded looks → Rests plan recorded w → Passes (resting w.machine w.up 0) looks y → HasLeft plan recorded w.machine looks y
+left_by : (plan : PlanValue) (recorded : Progress) (looks : List Item) (w y : Wire) → IsSound plan recorded → HasLookedAtRecord plan recorded looks → Rests plan recorded w → Passes (resting w.machine w.up 0) looks y → HasLeft plan recorded w.machine looks y
 left_by plan recorded looks w y sound h r passes =
-    let first : Reader = reader_begun h.addresses [] h.patience in
-    let last : Reader = led first h.heard in
-    let whole = told_passes (dialogue first h.heard) looks (resting w.machine w.up 0) y h.told passes in
+    let first : Reader = reader_begun h.look.addresses [] h.look.patience in
+    let last : Reader = led first h.look.heard in
+    let whole = told_passes (dialogue first h.look.heard) looks (resting w.machine w.up 0) y h.look.told passes in
     let end : Wire = sent y whole.0 in
-    let reads = fresh_kept h.addresses h.patience h.asked h.patient in
-    let ready : IsReadyMachine w.machine = record { console = r.machine; stopped = stopped_with w.machine.mode (subst (λ g. RunsWith g w.machine.mode) h.unmarked r.running) } in
-    let may = may_begin h.addresses h.patience w.machine ready in
-    let k : IsMirrored w.machine.memory (inquiring last end) = dialogue_mirrored first h.heard w.machine w.up end reads may r.few whole.1 in
+    let reads = fresh_kept h.look.addresses h.look.patience h.look.asked h.look.patient in
+    let ready : IsReadyMachine w.machine = record { console = r.machine; stopped = stopped_with w.machine.mode (subst (λ g. RunsWith g w.machine.mode) h.look.unmarked r.running) } in
+    let may = may_begin h.look.addresses h.look.patience w.machine ready in
+    let k : IsMirrored w.machine.memory (inquiring last end) = dialogue_mirrored first h.look.heard w.machine w.up end reads may r.few whole.1 in
     let same : y.machine.memory ≡ w.machine.memory = k.same in
-    let under_way : Lawful (mirrored w.machine.memory y.machine h.addresses) (y.down ++ whole.0) =
-    subst (λ addresses. Lawful (mirrored w.machine.memory y.machine addresses) (y.down ++ whole.0)) (led_addresses first h.heard) (old_key y.machine (as_load w.machine.memory (inquiring last end)).core (y.down ++ whole.0) y.up (record { count = y.lost; hurt = false }) (once_kept w.machine.memory (inquiring last end) k (ap (λ (m : Manner). looks_twice m.care) (led_manner first h.heard)))) in
-    let covers : Covers plan y.machine h.addresses = λ i low.
+    let under_way : Lawful (mirrored w.machine.memory y.machine h.look.addresses) (y.down ++ whole.0) =
+    subst (λ addresses. Lawful (mirrored w.machine.memory y.machine addresses) (y.down ++ whole.0)) (led_addresses first h.look.heard) (old_key y.machine (as_load w.machine.memory (inquiring last end)).core (y.down ++ whole.0) y.up (record { count = y.lost; hurt = false }) (once_kept w.machine.memory (inquiring last end) k (ap (λ (m : Manner). looks_twice m.care) (led_manner first h.look.heard)))) in
+    let covers : Covers plan y.machine h.look.addresses = λ i low.
     let t = h.of_record i 0 low in
-    (t.0, omega (arith, t.1, sound.within), t.2, there_on plan w.machine y.machine t.0 same (r.words t.0 (stands_below recorded.going (length plan.words) recorded.verified t.0 h.unmarked t.1))) in record {
+    (t.0, omega (arith, t.1, sound.within), t.2, there_on plan w.machine y.machine t.0 same (r.words t.0 (stands_below recorded.going (length plan.words) recorded.verified t.0 h.look.unmarked t.1))) in record {
       memory = same;
       rests = record {
         machine = k.books.kept.machine;
         one_way = way_before y.down whole.0 y.up k.books.kept.one_way;
         few = k.books.kept.few;
         words = λ i below. there_on plan w.machine y.machine i same (r.words i below);
-        running = subst (λ g. RunsWith g y.machine.mode) (sym h.unmarked) k.books.kept.running;
+        running = subst (λ g. RunsWith g y.machine.mode) (sym h.look.unmarked) k.books.kept.running;
         at_start = still_at (unwrap_or plan.start 0) y.machine.mode k.books.kept.running;
-        key = subst (λ g. Lawful (record { machine = y.machine; plan = plan; going = g; careful = false }) y.down) (sym h.unmarked)
-            (key_on plan y.machine w.machine.memory h.addresses y.down whole.0 same covers under_way);
+        key = subst (λ g. Lawful (record { machine = y.machine; plan = plan; going = g; careful = false }) y.down) (sym h.look.unmarked)
+            (key_on plan y.machine w.machine.memory h.look.addresses y.down whole.0 same covers under_way);
       };
-      never = looked_never plan recorded looks h;
+      never = looked_never plan recorded looks h.look;
     }
 
 later_rests : (plan : PlanValue) (progress : Progress) (k : ℕ) (y : Wire) → Rests plan progress y → Rests plan progress (later k y)
 later_rests plan progress k y r = record { machine = r.machine; one_way = r.one_way; few = r.few; words = r.words; running = r.running; at_start = r.at_start; key = r.key }
 
 -- from any line on which no key is under way
-left : (plan : PlanValue) (recorded : Progress) (looks : List Item) (w z : Wire) → IsSound plan recorded → HasLooked plan recorded looks → Rests plan recorded w → w.down ≡ [] → Passes w looks z → HasLeft plan recorded w.machine looks z
+left : (plan : PlanValue) (recorded : Progress) (looks : List Item) (w z : Wire) → IsSound plan recorded → HasLookedAtRecord plan recorded looks → Rests plan recorded w → w.down ≡ [] → Passes w looks z → HasLeft plan recorded w.machine looks z
 left plan recorded looks w z sound h r none passes =
     let here : Passes (resting w.machine w.up w.lost) looks z = subst (λ down. Passes (record w { down = down }) looks z) none passes in
     let f = passes_fewer w.lost looks (resting w.machine w.up 0) z (subst (λ n. Passes (resting w.machine w.up n) looks z) (nothing_lost w.lost) here) in
@@ -223,7 +223,7 @@ record Between (plan : PlanValue) (before keys : List ℕ) (looks : List Item) (
   pub stood : Stood plan before (keys ++ keys_of looks) (record { wire = z; text = text })
 
 looked : (plan : PlanValue) (before keys : List ℕ) (between : WireAndRecord) (recorded : Progress) (what : Heard) (more : List Item) (found z : Wire) → IsPlan plan → Stood plan before keys between →
-    Says plan between.text (Ok recorded) → HasLooked plan recorded (Came what ∷ more) → Reopens between.wire found → Passes found (Came what ∷ more) z → Between plan before keys (Came what ∷ more) between.text z
+    Says plan between.text (Ok recorded) → HasLookedAtRecord plan recorded (Came what ∷ more) → Reopens between.wire found → Passes found (Came what ∷ more) z → Between plan before keys (Came what ∷ more) between.text z
 looked plan before keys between recorded what more found z fits s says h reopens passes =
     let looks : List Item = Came what ∷ more in
     let sound : IsSound plan recorded = says_sound plan between.text recorded says in
@@ -235,7 +235,7 @@ looked plan before keys between recorded what more found z fits s says h reopens
     (went plan before keys between (idle recorded) (record { wire = r.rest; text = between.text }) fits s (idle_life plan between recorded found r.rest says reopens r.moves)).stood in
     let rests_there : Rests plan recorded r.rest = subst (λ (p : Progress). Rests plan p r.rest) (says_once plan between.text still.progress recorded still.says says) still.rests in
     let l : HasLeft plan recorded r.rest.machine looks z = left plan recorded looks r.rest z sound h rests_there r.none_down r.passes in
-    let unset : s.progress.going ≡ false = ap (λ (p : Progress). p.going) same ∙ h.unmarked in
+    let unset : s.progress.going ≡ false = ap (λ (p : Progress). p.going) same ∙ h.look.unmarked in
     record {
       stood = record {
         progress = recorded;
@@ -248,7 +248,7 @@ looked plan before keys between recorded what more found z fits s says h reopens
     }
 
 went_behind : (plan : PlanValue) (before keys : List ℕ) (between : WireAndRecord) (what : Heard) (more : List Item) (life : Life) (new : WireAndRecord) → IsPlan plan → Stood plan before keys between →
-    (l : Lives plan between (Came what ∷ more) life new) → HasLooked plan l.recorded (Came what ∷ more) → WentOn plan before keys (record { looks = Came what ∷ more; life = life }) new
+    (l : Lives plan between (Came what ∷ more) life new) → HasLookedAtRecord plan l.recorded (Came what ∷ more) → WentOn plan before keys (record { looks = Came what ∷ more; life = life }) new
 went_behind plan before keys between what more life new fits s l h =
     let looks : List Item = Came what ∷ more in
     let split = passes_split looks life.items l.line.found new.wire l.line.passes in
@@ -267,11 +267,11 @@ went_behind plan before keys between what more life new fits s l h =
           (subst (λ (x : Wire). IsTrusted before (last_core plan life) x.machine.memory ((keys ++ keys_of looks) ++ keys_of life.items) (length (option_to_list life.unsent) + y.lost)) (sym f.1) w.trusted);
     }
 
-began : (plan : PlanValue) (recorded : Progress) (key : ℕ) (more : List Item) → HasLooked plan recorded (Sent key ∷ more) → ⊥
-began plan recorded key more h = told_begins (dialogue (reader_begun h.addresses [] h.patience) h.heard) (Sent key ∷ more) h.told (reading_begins (reader_begun h.addresses [] h.patience) h.heard)
+began : (plan : PlanValue) (recorded : Progress) (key : ℕ) (more : List Item) → HasLookedAtRecord plan recorded (Sent key ∷ more) → ⊥
+began plan recorded key more h = told_begins (dialogue (reader_begun h.look.addresses [] h.look.patience) h.look.heard) (Sent key ∷ more) h.look.told (reading_begins (reader_begun h.look.addresses [] h.look.patience) h.look.heard)
 
 went_on : (plan : PlanValue) (before keys : List ℕ) (between : WireAndRecord) (looks : List Item) (life : Life) (new : WireAndRecord) → IsPlan plan → Stood plan before keys between →
-    (l : Lives plan between looks life new) → (looks ≡ []) ⊎ HasLooked plan l.recorded looks → WentOn plan before keys (record { looks = looks; life = life }) new
+    (l : Lives plan between looks life new) → (looks ≡ []) ⊎ HasLookedAtRecord plan l.recorded looks → WentOn plan before keys (record { looks = looks; life = life }) new
 went_on plan before keys between [] life new fits s l looked = went_plain plan before keys between life new fits s l
 went_on plan before keys between (Sent key ∷ more) life new fits s l (inl none) = absurd (cc none)
 went_on plan before keys between (Sent key ∷ more) life new fits s l (inr h) = absurd (began plan l.recorded key more h)
@@ -338,11 +338,11 @@ pub may_follow : LoadsMayFollow
 may_follow load might =
     let may = might.begins in
     let h = might.looked in
-    let run : Run = Look h.addresses h.patience h.heard in
+    let run : Run = Look h.look.addresses h.look.patience h.look.heard in
     let runs : List Run = run ∷ [] in
     let ready : IsReadyMachine load.before = record { console = may.console; stopped = may.stopped } in
     let f : AreHarmlessBefore load.before runs load.items load.lost load.behind =
-    others_follow load.before load.behind runs load.looks load.items load.lost ready (All-cons MayBeSuchAHost run [] (h.asked, h.patient) (All-nil MayBeSuchAHost)) (load.looks, [], h.told, refl, sym (append-nil load.looks)) might.listens might.honest in
+    others_follow load.before load.behind runs load.looks load.items load.lost ready (All-cons MayBeSuchAHost run [] (h.look.asked, h.look.patient) (All-nil MayBeSuchAHost)) (load.looks, [], h.look.told, refl, sym (append-nil load.looks)) might.listens might.honest in
     record {
       between = f.between;
       lost_before = f.lost_before;

@@ -1,5 +1,5 @@
 -- Looks in front of a load, on its line: lives in a row, of which each may look first.
-use Rattle.std.specs.Prelude.{◌≡◌, ℕ, ◌+◌, ◌^◌, ◌<◌, ◌≤◌, ◌⊎◌, false, List, [], ◌∷◌, ◌++◌, length, None, Ok, option_to_list, ⊤, Option, Some}
+use Rattle.std.specs.Prelude.{◌≡◌, ℕ, ◌+◌, ◌^◌, ◌<◌, ◌≤◌, ◌⊎◌, false, All, List, [], ◌∷◌, ◌++◌, length, None, Ok, option_to_list, ⊤, Option, Some}
 use Rattle.tape_image.specs.Plan.{PlanValue, IsPlan}
 use Rattle.tape_image.specs.Word.{WordValue}
 use Rattle.odt_machine.specs.Machine.{Machine}
@@ -15,7 +15,7 @@ use Rattle.load_lives.specs.Stops.{WentOut}
 use Rattle.reading_core.specs.Addresses.{AreAddresses, addresses_of}
 use Rattle.reading_core.specs.Reader.{Reader, begun as reader_begun}
 use Rattle.looking_law.specs.Belief.{dialogue as looks_of}
-use Rattle.looking_law.specs.RecordLook.{HasLooked}
+use Rattle.looking_law.specs.RecordLook.{HasLooked, HasLookedAtRecord, IsHighest}
 use Rattle.looking_law.specs.Splitting.{BeginsByListening}
 use Rattle.looking_engine.specs.Stopping.{LookStop}
 use Rattle.looking_engine.specs.Inquired.{Inquired, inquiry}
@@ -30,7 +30,7 @@ pub record LookingLife : Type 0 where
 pub record IsLookingLife (plan : PlanValue) (old : WireAndRecord) (l : LookingLife) (new : WireAndRecord) : Type 0 where
   pub patient : l.life.patience < 2 ^ 32
   pub goes_on : GoesOnFrom plan old.text l.life.progress
-  pub looked : (l.looks ≡ []) ⊎ HasLooked plan goes_on.recorded l.looks
+  pub looked : (l.looks ≡ []) ⊎ HasLookedAtRecord plan goes_on.recorded l.looks
   pub stopped : dialogue (first_core plan l.life) l.life.heard ≡ l.life.items ++ said l.life.unsent
   pub line : PassesOver old.wire (l.looks ++ l.life.items) new.wire
   pub left : IsLeft plan l.life.progress (last_core plan l.life) l.life.items old.text new.text
@@ -66,7 +66,7 @@ idle progress = record { patience = 0; progress = progress; heard = []; items = 
 abbrev pub LooksMayStandAlone : Type 0
 LooksMayStandAlone =
     (plan : PlanValue) (recorded : Progress) (looks : List Item) (old new : WireAndRecord) →
-    Says plan old.text (Ok recorded) → HasLooked plan recorded looks → PassesOver old.wire looks new.wire → new.text ≡ old.text →
+    Says plan old.text (Ok recorded) → HasLookedAtRecord plan recorded looks → PassesOver old.wire looks new.wire → new.text ≡ old.text →
     IsLookingLife plan old (record { looks = looks; life = idle recorded }) new
 
 -- looks, and then a load on their line: its plan, what its record says, the machine before and behind both, what was said of each, and how many characters
@@ -83,7 +83,7 @@ pub record LoadBehindLooks : Type 0 where
 -- the load might have begun without the looks; it begins by listening, and the line is honest
 pub record MightBegin (load : LoadBehindLooks) : Type 0 where
   pub begins : MayBegin (begun load.plan load.recorded.verified false 0) load.before
-  pub looked : HasLooked load.plan load.recorded load.looks
+  pub looked : HasLookedAtRecord load.plan load.recorded load.looks
   pub listens : BeginsByListening load.items
   pub honest : IsHonest load.before (load.looks ++ load.items) load.lost load.behind
 
@@ -101,23 +101,29 @@ pub record MayFollow (load : LoadBehindLooks) : Type 0 where
 abbrev pub LoadsMayFollow : Type 0
 LoadsMayFollow = (load : LoadBehindLooks) → MightBegin load → MayFollow load
 
--- looks at a record's samples before a load: its plan, what the record says, the samples, how many mishaps the looks survive, and what went out of them
+-- looks at a record's samples before a load: its plan, what the record says, the samples, the addresses beyond them, how many mishaps the looks survive, and
+-- what went out of them
 pub record SampleLooks : Type 0 where
   pub plan : PlanValue
   pub recorded : Progress
   pub samples : List WordValue
+  pub beyond : List ℕ
   pub patience : ℕ
   pub items : List Item
 
+abbrev pub looked_at : SampleLooks → List ℕ
+looked_at looks = addresses_of looks.samples ++ looks.beyond
+
 -- the host that looks, at its beginning
 abbrev pub looker_at : SampleLooks → Reader
-looker_at looks = reader_begun (addresses_of looks.samples) [] looks.patience
+looker_at looks = reader_begun (looked_at looks) [] looks.patience
 
--- the record has no mark, and these are samples of its words
+-- the record has no mark, and these are samples of its words, beyond which only the plan's highest word is looked at
 pub record AreOfARecord (looks : SampleLooks) : Type 0 where
   pub unmarked : looks.recorded.going ≡ false
   pub samples : AreSamples looks.plan.words looks.recorded.verified looks.samples
-  pub asked : AreAddresses (addresses_of looks.samples)
+  pub beyond : All (IsHighest looks.plan) looks.beyond
+  pub asked : AreAddresses (looked_at looks)
   pub patient : looks.patience < 2 ^ 32
 
 -- they came about as `look_at_samples` promises, and this went out, also where the call that failed sent its key after all
@@ -130,6 +136,8 @@ pub record WereMade (looks : SampleLooks) : Type 0 where
   pub inquired : Inquired turns (inquiry (looker_at looks) last (Some stop)) line line'
   pub out : WentOut (looks_of (looker_at looks) inquired.heard) inquired.said looks.items
 
--- what they said is such a look at words of the record
+-- what they said is such a look, and where there was nothing beyond the samples, one at words of the record alone
 abbrev pub SamplesAreOfTheRecord : Type 0
-SamplesAreOfTheRecord = (looks : SampleLooks) → AreOfARecord looks → WereMade looks → HasLooked looks.plan looks.recorded looks.items
+SamplesAreOfTheRecord =
+    (looks : SampleLooks) → AreOfARecord looks → WereMade looks →
+    HasLooked looks.plan looks.recorded looks.items × (looks.beyond ≡ [] → HasLookedAtRecord looks.plan looks.recorded looks.items)

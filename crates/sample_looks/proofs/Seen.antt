@@ -1,7 +1,7 @@
 -- What looks at samples found is so in memory, where what was said is honest.
 use Rattle.std.proofs.Common.{◌≡◌, ℕ, ◌+◌, ◌<◌, ◌≤◌, ◌++◌, true, List, [], length, get_or, min, take, Option, Some, arith, ap, sym, subst, ◌∙◌}
 use Rattle.std.specs.Prelude.{All}
-use Rattle.std.proofs.lemmas.List.{get_or-map, get_or-take, get_or_append_left, get_or_default, length-append, length-map, length-take}
+use Rattle.std.proofs.lemmas.List.{get_or-map, get_or-take, get_or_append_left, get_or_default, length-append, length-map, length-take, take_all}
 use Rattle.tape_image.specs.Word.{WordValue, Stands}
 use Rattle.odt_machine.specs.Machine.{Machine, is_word, word_at}
 use Rattle.host_core.specs.Core.{no_word, word_nr}
@@ -59,11 +59,15 @@ address_is samples last i (beyond, are) low =
     ∙ get_or-map (λ (w : WordValue). w.address) samples i no_word 0 low)
 
 -- the numbers read at the samples
-abbrev at_samples : List WordValue → Reader → List ℕ
+abbrev pub at_samples : List WordValue → Reader → List ℕ
 at_samples samples last = take (length samples) last.values
 
 few_read : (samples : List WordValue) (last : Reader) → length (at_samples samples last) ≡ min (length samples) (length last.values)
 few_read samples last = length-take (length samples) last.values
+
+-- where nothing else was looked at they are all
+pub only_samples : (samples : List WordValue) (last : Reader) → IsReader last → last.addresses ≡ addresses_of samples → at_samples samples last ≡ last.values
+only_samples samples last kept are = take_all (length samples) last.values (omega (arith, kept.within, ap length are, length-map samples (λ (w : WordValue). w.address)))
 
 -- a word that was read lies in memory, and the number is what memory holds there
 record IsRead (now : List ℕ) (samples : List WordValue) (last : Reader) (i : ℕ) : Type 0 where

@@ -1,7 +1,7 @@
 """What the tests of `ldaodt load --fast` share: images, a machine on which stubs run, and a model of such a load.
 
 The model says each key that is typed over a line that loses nothing, and counts the characters that the console answers. It is
-written from docs/CONSOLE.md and from what a fast load does: it looks for the window, types the stub there and soundings before it,
+written from docs/CONSOLE.md and from what a fast load does: it looks at the highest word, looks for the window, types the stub there and soundings before it,
 starts it, sends the bytes, and again where that broke off, until there are too few words or three stubs in a row verified nothing;
 behind one that verified nothing it sends a byte at a time. The rest is an ordinary load. The stub's words are those of
 stub_listing.py."""
@@ -176,17 +176,31 @@ class Model:
         """How long a new line and a prompt are."""
         return 3 + self.second_return
 
-    def looking_first(self):
-        """Looks before at words that count as verified: at each seventh of the way from the first to the last, or at all."""
+    def looking_first(self, highest=False):
+        """Looks before at words that count as verified: at each seventh of the way from the first to the last, or at all; and at the
+        highest word, where it is asked for and not all count."""
         count = self.verified
-        if count:
+        beyond = self.words[-1:] if highest and count < len(self.words) else []
+        if count or beyond:
             self.says("Z", 1 + self.prompt() + self.echo)
         for place in range(count) if count <= 8 else [it * (count - 1) // 7 for it in range(8)]:
             self.look(self.words[place].address)
             self.says("\r", self.prompt())
             self.believe(self.words[place])
         self.verified *= not self.end
+        for word in beyond:
+            lacking = self.answers(word.address)
+            self.end = self.end or lacking
         return self
+
+    def answers(self, address):
+        """Looks whether memory answers at an address; returns the end where it does not, or none."""
+        if address // 2 >= len(self.memory):
+            self.says(f"{address:06o}/", 8 + self.prompt())
+            return f"NoWord {address:06o}"
+        self.look(address)
+        self.says("\r", self.prompt())
+        return None
 
     def believe(self, word):
         """The first of these words that does not stand is the end."""
@@ -202,9 +216,10 @@ class Model:
         return self
 
     def fast(self):
-        """The same with stubs before."""
+        """The same with stubs before, and in front of all a look at the highest word, behind those at the record's."""
         in_vain = 0
-        while in_vain < MOST_IN_VAIN and not self.why:
+        self.looking_first(highest=True)
+        while in_vain < MOST_IN_VAIN and not self.why and not self.end:
             before = self.verified
             self.why = self.bring_in(bytewise if in_vain else ahead)
             if self.why in (None, NOT_STARTED):

@@ -113,8 +113,9 @@ class Samples(Case):
         return given, line.machine
 
     def test_a_careful_load_goes_on(self):
-        """Whichever look is changed, the first at a word or the second: one mishap, and the load comes to its end."""
-        for number in range(1, 2 * self.COUNT - 1):
+        """Whichever look is changed, the first at a word or the second, also at the highest, which the record has not: one mishap, and
+        the load comes to its end."""
+        for number in range(1, 2 * self.COUNT + 1):
             given, machine = self.goes_on(number, " --careful")
             self.ends(given, 0, f"sent {len(machine.typed)} spent 1 verified {self.COUNT} of {self.COUNT}\nend Loaded\n")
 
@@ -264,7 +265,8 @@ class CarefulLoads(Case):
 
     def test_how_many_characters_pass(self):
         """Counted at the console, in each style, over a line that changes nothing: with `--careful` a whole word that is deposited costs
-        62 characters as without it, or 66, one that stands 50 in place of 25, and half a word that is deposited 87 in place of 62."""
+        62 characters as without it, or 66, one that stands 50 in place of 25, and half a word that is deposited 87 in place of 62; and
+        before the first the highest is looked at, twice."""
         self.put("whole.lda", tape_of([(0o1000, bytes(range(1, 2 * COUNTED + 1)))], 1))
         self.put("half.lda", tape_of([(0o1001 + 2 * number, b"\1") for number in range(COUNTED)], 1))
         stands = {0o1000 + 2 * number: 2 * number + 1 + (2 * number + 2 << 8) for number in range(COUNTED)}
@@ -281,9 +283,11 @@ class CarefulLoads(Case):
         def trial(row):
             (tape, memory, option, keys, answers, looks), style = row
             space, second_return, echo = style & 1, style >> 1 & 1, style >> 2
-            # Behind the key that resynchronises.
+            # Behind a key that resynchronises.
             prompted = 4 + second_return + echo
-            wanted = 1 + COUNTED * keys, prompted + COUNTED * (answers + looks * (space + second_return))
+            each = space + second_return
+            first = (1 + 2 * 8, prompted + 2 * (17 + each)) if option else (0, 0)
+            wanted = first[0] + 1 + COUNTED * keys, first[1] + prompted + COUNTED * (answers + looks * each)
             self.is_so((row, self.passes(tape, memory, style, option)), (row, wanted))
 
         with ThreadPoolExecutor(8) as pool:

@@ -62,8 +62,8 @@ class Served(FastCase):
         self.is_so((peer.machine.typed, peer.connections), (model.keys, 1))
 
     def test_it_goes_on_behind_a_record(self):
-        """Eight of the words that it has are looked at, and the others believed: a stub fills those behind them. Half of the
-        first chunk is among these."""
+        """Eight of the words that it has are looked at, and the tape's highest, and the others believed: a stub fills those behind
+        them. Half of the first chunk is among these."""
         for verified in (1, 300, 300 + CHUNK // 4, 1000 - ONE_STRETCH - LEAST_GAIN):
             self.put("a.record", record_of(words_of(THOUSAND)[:verified]).encode())
             places = {it * (verified - 1) // 7 for it in range(8)}
@@ -72,7 +72,7 @@ class Served(FastCase):
                 memory[START // 2 + place] = words_of(THOUSAND)[place].value
             peer = self.console_at(FastConsole(THOUSAND))
             peer.machine.words.set_all(memory)
-            model = self.model(memory=memory, verified=verified).looking_first().fast()
+            model = self.model(memory=memory, verified=verified).fast()
             self.went_as(model, peer, self.load(peer, "a.lda --fast --record a.record"))
             self.is_so((len(model.stubs), self.recorded()), (1, record_of(words_of(THOUSAND), mark=True)))
             believed = [peer.machine.words[START // 2 + it] for it in range(verified) if it not in places]
@@ -202,14 +202,16 @@ class Images(FastCase):
 
 
 class NotServed(FastCase):
-    """Where no stub serves, the load is an ordinary one, and a person at a terminal is told why."""
+    """Where no stub serves, the load is an ordinary one behind a look at the tape's highest word, and a person at a terminal is told
+    why."""
 
     def is_ordinary(self, image, why):
         """Loads an image without the option and with it, each with standard error in a file and at a terminal."""
         self.put_tape("a.lda", image)
-        model, expected = (Model(words_of(image), [BACKGROUND] * 4096) for _ in range(2))
-        self.is_so((model.fast().keys, model.why), (expected.ordinary().keys, why))
-        for option in ("", " --fast"):
+        fast, ordinary = (Model(words_of(image), [BACKGROUND] * 4096) for _ in range(2))
+        look = f"Z{max(image) & ~1:06o}/\r"
+        self.is_so((fast.fast().keys, fast.why), (look + ordinary.ordinary().keys, why))
+        for option, model in (("", ordinary), (" --fast", fast)):
             peer = self.console_at(FastConsole(image))
             self.went_as(model, peer, self.load(peer, "a.lda" + option))
             (self.assertIn if option else self.assertNotIn)(why, self.told(image, option))
@@ -240,34 +242,23 @@ class NotServed(FastCase):
         self.is_ordinary(image, "no room for the stub in this tape")
 
     def test_memory_that_ends_inside_the_image(self):
-        """The sounding finds that out, and the load ends there, with no word below it typed; without the option it is typed up to
-        memory's end."""
+        """A look at the highest word finds that out, and the load ends there, with nothing typed that stores; without the option it is
+        typed up to memory's end. Memory ends behind 300 words, inside the stub, or before the last word alone."""
         image = image_of(400)
-        # Memory ends behind 300 of them, before the sounding at the last word before the window.
-        words = START // 2 + 300
         self.put_tape("a.lda", image)
-        last = f"{START + 2 * 399:06o}"
-        for option, lacking in (("", START + 2 * 300), (" --fast", START + 2 * (400 - ONE_STRETCH - 1))):
-            with self.subTest(option):
-                peer = self.console_at(FastConsole(image, words=words))
-                model = Model(words_of(image), [BACKGROUND] * words)
-                self.went_as(model.fast() if option else model.ordinary(), peer, self.load(peer, "a.lda" + option))
-                self.is_so(model.end, f"NoWord {lacking:06o}")
-                told = self.told(image, option, words)
-                self.assertIn(f"no word at {lacking:06o}, and the tape goes up to {last}: 'ldaodt probe LINE' says where memory ends\r\n", told)
-                self.assertNotIn("did not serve", told)
-
-    def test_memory_that_ends_inside_the_stub(self):
-        image = image_of(400)
-        words = START // 2 + 400 - ONE_STRETCH + 30
-        self.put_tape("a.lda", image)
-        peer = self.console_at(FastConsole(image, words=words))
-        model = Model(words_of(image), [BACKGROUND] * words).fast()
-        self.went_as(model, peer, self.load(peer))
-        self.is_so((model.end, model.stubs), (f"NoWord {2 * words:06o}", []))
-        # The words of the stub alone were typed, and the sounding.
-        loaded = memory_with(image, 4096)[:words]
-        self.is_so([at for at in range(START // 2, words - 30 - 1) if peer.machine.words[at] == loaded[at]], [])
+        last = START + 2 * 399
+        for there in (300, 400 - ONE_STRETCH + 30, 399):
+            words = START // 2 + there
+            for option, lacking in (("", 2 * words), (" --fast", last)):
+                with self.subTest((there, option)):
+                    peer = self.console_at(FastConsole(image, words=words))
+                    model = Model(words_of(image), [BACKGROUND] * words)
+                    self.went_as(model.fast() if option else model.ordinary(), peer, self.load(peer, "a.lda" + option))
+                    self.is_so((model.end, model.stubs), (f"NoWord {lacking:06o}", []))
+                    told = self.told(image, option, words)
+                    unfit = f"no word at {lacking:06o}, and the tape goes up to {last:06o}: 'ldaodt probe LINE' says where memory ends\r\n"
+                    self.assertIn(unfit, told)
+                    self.assertNotIn("did not serve", told)
 
     def test_a_stub_that_serves_is_not_told_of(self):
         image = image_of(400)

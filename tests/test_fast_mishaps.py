@@ -173,7 +173,7 @@ class Traps(SmallLoads):
             machine.words[address // 2] = value
         peer = self.console_at(machine)
         model = Model(WORDS, list(machine.words), verified=recorded, halting=MOST_IN_VAIN, pushed=pushed_at(stack))
-        model.looking_first().fast()
+        model.fast()
         return model, peer, self.load(peer, "a.lda --fast --record a.record")
 
     def test_a_verified_word_is_pushed_over(self):
@@ -197,10 +197,10 @@ class Traps(SmallLoads):
             self.is_so(self.recorded(), WHOLE)
 
     def test_no_word_is_verified(self):
-        """There is none to look at."""
+        """There is none to look at behind the stubs, and before them the highest alone."""
         model, peer, given = self.trapped(START + 4, recorded=0)
         self.went_as(model, peer, given)
-        self.is_so((model.end, model.keys.count("Z")), ("Started", 2 * MOST_IN_VAIN + 1))
+        self.is_so((model.end, model.keys.count("Z")), ("Started", 1 + 2 * MOST_IN_VAIN + 1))
 
 
 class Losses(SmallLoads):
@@ -250,11 +250,11 @@ class Losses(SmallLoads):
             self.is_so((it.machine.starts, self.recorded(it.record)), ([*stubs, START], WHOLE))
 
     def test_a_console_that_answers_nothing(self):
-        """Two hosts give up, each behind its own mishaps."""
+        """The look at the highest word gives up, and nothing comes behind it."""
         peer = self.console_at(DeafConsole())
         given = self.load(peer, "a.lda --fast --patience 2")
-        self.ends(given, 5, f"sent 6 spent 4 verified 0 of {len(WORDS)}\nend GaveUp\n")
-        self.is_so(peer.machine.typed, "Z" * 6)
+        self.ends(given, 5, f"sent 3 spent 2 verified 0 of {len(WORDS)}\nend GaveUp\n")
+        self.is_so(peer.machine.typed, "Z" * 3)
 
 
 class Kills(SmallLoads):
@@ -322,7 +322,7 @@ class Kills(SmallLoads):
         it.comes_to_its_end()
 
     def test_a_whole_record_and_each_word_looked_at_again(self):
-        """The stub lies in words that the old record has: it is begun anew before the first key."""
+        """The stub lies in words that the old record has: it is begun anew before the first key that may store."""
         def story(_, killed_at):
             it = Load(self, f"{killed_at}")
             self.is_so(it.lives("--fast --no-start").status, 0)
@@ -330,8 +330,8 @@ class Kills(SmallLoads):
             self.is_so(it.machine.starts, [PLACE])
             it.lives("--fast --recheck", killed_at)
             it.comes_to_its_end("--fast" if killed_at % 2 else "")
-        # The sounding stands: 1 + 4 + 25 characters, before the stub's first word.
-        self.each(story, [1, 31, 100, STARTED - 37 - 2, STARTED + 300])
+        # The look at the highest word, and the sounding, which stands: 1 + 4 + 25 characters each, before the stub's first word.
+        self.each(story, [1, 31, 61, 100, STARTED - 37 - 2, STARTED + 300])
 
 
 class Power(SmallLoads):
@@ -395,9 +395,11 @@ class Records(SmallLoads):
             self.put("a.record", b"")
 
     def test_a_disk_that_is_full(self):
-        """No key is typed."""
+        """Nothing is typed but the look at the highest word."""
         peer = self.console_at(FastConsole(IMAGE))
         self.ends(self.load(peer, "a.lda --fast --record a.record", file_size=0), 4, "", fault("cannot write a.record", errno.EFBIG))
+        peer.settle()
+        self.is_so(peer.machine.typed, f"Z{WORDS[-1].address:06o}/\r")
         self.is_so(peer.machine.typed, "")
 
     def test_a_second_load(self):

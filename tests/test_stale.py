@@ -431,6 +431,9 @@ class Fast(FastCase):
 
     RECORDED = 40
 
+    # A key that resynchronises, and eight for each of its samples, and for the highest word.
+    LOOKS = 1 + 9 * 8
+
     def console(self, held):
         machine = FastConsole(IMAGE)
         for word in WORDS[:self.RECORDED]:
@@ -446,11 +449,11 @@ class Fast(FastCase):
         peer = self.console_at(self.console(False))
         before = list(peer.machine.words)
         given = self.load(peer, "a.lda --fast --record a.record")
-        self.ends(given, 5, f"sent 65 spent 0 verified 0 of {len(WORDS)}\nend Stale {WORDS[0].address:06o}\n", STALE)
+        self.ends(given, 5, f"sent {self.LOOKS} spent 0 verified 0 of {len(WORDS)}\nend Stale {WORDS[0].address:06o}\n", STALE)
         self.is_so((list(peer.machine.words) == before, peer.machine.starts, self.recorded()), (True, [], record_of(WORDS[:self.RECORDED])))
 
     def test_a_record_that_it_holds(self):
-        """Behind the looks come stubs and the rest, as of a load that does not look."""
+        """Behind the looks, which store nothing, come stubs and the rest."""
         memory = [0o125252] * 4096
         for word in WORDS[:self.RECORDED]:
             memory[word.address // 2] = word.value
@@ -458,9 +461,8 @@ class Fast(FastCase):
         peer = self.console_at(self.console(True))
         given = self.load(peer, "a.lda --fast --record a.record")
         typed = peer.machine.typed
-        self.is_so(len(typed) - len(model.keys), 65)
-        self.is_so(typed[65:], model.keys)
-        self.assertIsNone(re.search(r"/[0-7]|[^0-7/\rZ]", typed[:65]), repr(typed[:65]))
+        self.is_so(typed, model.keys)
+        self.assertIsNone(re.search(r"/[0-7]|[^0-7/\rZ]", typed[:self.LOOKS]), repr(typed[:self.LOOKS]))
         self.is_so((given.status, given.out.splitlines()[0]), (0, f"sent {len(typed)} spent 0 verified {len(WORDS)} of {len(WORDS)}"))
         self.is_so(list(peer.machine.words), memory_with(IMAGE, 4096))
         self.is_right(peer.machine)

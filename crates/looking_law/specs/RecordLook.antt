@@ -1,5 +1,5 @@
 -- A look at words that a record has.
-use Rattle.std.specs.Prelude.{◌≡◌, ℕ, ◌^◌, ◌<◌, false, All, List, []}
+use Rattle.std.specs.Prelude.{◌≡◌, ℕ, ◌+◌, ◌^◌, ◌<◌, ◌⊎◌, false, All, List, [], length}
 use Rattle.tape_image.specs.Plan.{PlanValue}
 use Rattle.host_core.specs.declared.heard.Heard.{Heard}
 use Rattle.host_core.specs.declared.progress.Progress.{Progress}
@@ -10,13 +10,21 @@ use Rattle.reading_core.specs.Reader.{Manner, begun_in, once}
 use Rattle.looking_law.specs.Belief.{dialogue}
 use Rattle.looking_law.specs.Trying.{IsToldOf}
 
--- what was said by a host that looked, in a manner, at some of the words that a record says to be verified, without a mark: all of it, or all but its
--- last key
+-- the address of one of the plan's words that a record says to be verified
+abbrev pub IsOfRecord : PlanValue → Progress → ℕ → Type 0
+IsOfRecord plan recorded a = (i : ℕ) × (i < recorded.verified) × (a ≡ (word_nr plan.words i).address)
+
+-- that of the plan's last word, which is its highest
+abbrev pub IsHighest : PlanValue → ℕ → Type 0
+IsHighest plan a = (i : ℕ) × (i + 1 ≡ length plan.words) × (a ≡ (word_nr plan.words i).address)
+
+-- what was said by a host that looked, in a manner, at some of the words that a record says to be verified, without a mark, and perhaps at the plan's
+-- highest: all of it, or all but its last key
 pub record HasLookedAs (manner : Manner) (plan : PlanValue) (recorded : Progress) (looks : List Item) : Type 0 where
   pub unmarked : recorded.going ≡ false
   pub addresses : List ℕ
   pub asked : AreAddresses addresses
-  pub of_record : All (λ a. (i : ℕ) × (i < recorded.verified) × (a ≡ (word_nr plan.words i).address)) addresses
+  pub of_plan : All (λ a. IsOfRecord plan recorded a ⊎ IsHighest plan a) addresses
   pub patience : ℕ
   pub patient : patience < 2 ^ 32
   pub heard : List Heard

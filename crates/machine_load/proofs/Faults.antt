@@ -1,5 +1,5 @@
 -- Reports that fail, and the loads that they are of.
-use Rattle.std.proofs.Common.{◌≡◌, ℕ, Bool, true, List, Option, None, Result, Ok, Err, IfErr, IfOk, IsErrAnd, [], ◌∷◌, ◌∙◌, inr, inl, refl, sym, subst, ap}
+use Rattle.std.proofs.Common.{◌≡◌, ◌++◌, ℕ, Bool, true, List, Option, None, Result, Ok, Err, IfErr, IfOk, IsErrAnd, [], ◌∷◌, ◌∙◌, inr, inl, refl, sym, subst, ap}
 use Rattle.std.proofs.KnownBytes.{Keeps-refl}
 use Rattle.host_devices.specs.Devices.{LineTold}
 use Rattle.machine_load.specs.Step.{Connected, begin_step}
@@ -7,18 +7,19 @@ use Rattle.host_devices.specs.Told.{Gains}
 use Rattle.host_devices.proofs.Told.{gains_join, gains_none}
 use Rattle.machine_load.specs.declared.looks.Looks.{Looks}
 use Rattle.machine_load.specs.GivenBack.{GivesLooked}
-use Rattle.machine_load.specs.Looks.{AreLooks, AreLooksAt, IsSampled, behind_looks, ended_by, unfinished_at, vouched_for}
-use Rattle.reading_core.specs.Reader.{Reader}
+use Rattle.machine_load.specs.Looks.{AreLooks, AreLooksAt, IsSampled, behind_looks, ended_by, highest_of, unfinished_at, vouched_for}
+use Rattle.reading_core.specs.Reader.{Reader, begun_in}
 use Rattle.reading_core.specs.declared.phase.End.TheVariants.{Complete, GaveUp, NoWord}
 use Rattle.looking_engine.specs.Stopping.{LookStop}
 use Rattle.looking_engine.specs.declared.stop.Stop.TheVariants.{Ended, LineFailed, TurnsOver}
 use Rattle.sample_looks.specs.declared.finding.Finding.{Finding}
 use Rattle.sample_looks.specs.declared.finding.Finding.TheVariants.{AllStand, Stale, Unfinished}
 use Rattle.sample_looks.specs.Finding.{IsFound}
+use Rattle.sample_looks.specs.Samples.{BeginWith}
 use Rattle.tape_image.specs.Word.{WordValue}
 use Rattle.host_core.specs.Core.{Core}
 use Rattle.machine_load.specs.Load.{HowItGoesOn, SurroundingsTold, Asks, IsOpened, KeepsRecord}
-use Rattle.machine_load.specs.Asked.{LoadTask, ◌⇒◌}
+use Rattle.machine_load.specs.Asked.{LoadTask, Opened, opened_as, ◌⇒◌}
 use Rattle.machine_load.specs.Called.{IsAskedBefore}
 use Rattle.machine_load.specs.Driving.{KeeperTells, IsDrivenOn}
 use Rattle.machine_load.specs.RecordDisk.{DiskAsked, IsNotBegunOn, begun_text}
@@ -51,22 +52,22 @@ asked_unopened plan before after other call asked asked' fails same = absurd fai
 
 -- an opened life comes to no beginning, before anything is reported
 pub of_beginning : (GoesSo : HowItGoesOn) (task : LoadTask) (before between after : SurroundingsTold) (lines lines' : Option (List LineTold)) (out : Option (List ℕ)) (first : Core) (may_begin : Bool)
-    (fault : LoadFault) → IsOpened task (before ⇒ between) first may_begin → IsBeginningFault may_begin first (gone between lines ⇒ gone after lines') fault
+    (fault : LoadFault) → IsOpened task (before ⇒ between) first may_begin → IsBeginningFault (opened_as first task.options.fast may_begin) (gone between lines ⇒ gone after lines') fault
     → IsLoadFault GoesSo task (record { around = before; lines = lines; out = out } ⇒ record { around = after; lines = lines'; out = out }) fault
 of_beginning GoesSo task before between after lines lines' out first may_begin WriteOutput opened fails = absurd fails
 of_beginning GoesSo task before between after lines lines' out first may_begin other opened fails =
     inr (record { first = first; may_begin = may_begin; between = between; opened = opened; is_so = fails; nothing_reported = Keeps-refl out })
 
 -- a life that has looked, and whose record is not begun
-pub behind_looks_fault : (first : Core) (before between after : SurroundingsTold) (lines lines' : Option (List LineTold)) (why : RecordFault) (writable : Bool) → IsUnbegun why → writable ≡ true
-    → Asks before between (Connected ∷ []) → Asks between after (begin_step {A = Unit {0}} (Err why) ∷ []) → GivesLooked first lines lines'
-    → DiskAsked before.disk after.disk (IsNotBegunOn (begun_text first.plan first.verified))
-    → IsBeginningFault writable first (gone before lines ⇒ gone after lines') (fault_of_record why)
-behind_looks_fault first before between after lines lines' why.Write writable is may connected fails given disk =
+pub behind_looks_fault : (life : Opened) (before between after : SurroundingsTold) (lines lines' : Option (List LineTold)) (why : RecordFault) → IsUnbegun why → life.writable ≡ true
+    → Asks before between (Connected ∷ []) → Asks between after (begin_step {A = Unit {0}} (Err why) ∷ []) → GivesLooked life lines lines'
+    → DiskAsked before.disk after.disk (IsNotBegunOn (begun_text life.first.plan life.first.verified))
+    → IsBeginningFault life (gone before lines ⇒ gone after lines') (fault_of_record why)
+behind_looks_fault life before between after lines lines' why.Write is may connected fails given disk =
     inr (may, record { asked = gains_join _ _ _ _ _ connected fails; not_begun_there = disk; looked = given })
-behind_looks_fault first before between after lines lines' why.Memory writable is may connected fails given disk =
+behind_looks_fault life before between after lines lines' why.Memory is may connected fails given disk =
     inr (may, record { asked = gains_join _ _ _ _ _ connected fails; not_begun_there = disk; looked = given })
-behind_looks_fault first before between after lines lines' other writable is may connected fails given disk = absurd is
+behind_looks_fault life before between after lines lines' other is may connected fails given disk = absurd is
 
 -- the text with which the record of a life is begun behind looks that found that all words stand
 pub same_text : (first behind : Core) (looks : Looks) → behind ≡ behind_looks first looks → looks.finding ≡ AllStand → begun_text behind.plan behind.verified ≡ begun_text first.plan first.verified
@@ -75,14 +76,22 @@ same_text first behind looks is stand =
 
 -- ---- looks
 
--- samples of a life's words were looked at
-pub looked_first : (first : Core) (samples shown : List WordValue) (reader : Reader) (looks : Looks) (before after : LineTold) → IsSampled first samples reader → shown ≡ samples → AreLooksAt shown reader.manner reader.patience looks (before ⇒ after) → AreLooks first looks before after
-looked_first first samples shown reader looks before after sampled same looked = record {
+-- samples of a life's words were looked at, and the highest where it is asked for
+pub looked_first : (first : Core) (asked : Bool) (samples shown : List WordValue) (reader : Reader) (looks : Looks) (before after : LineTold) → IsSampled first asked samples reader → shown ≡ samples → AreLooksAt shown reader.addresses reader.manner reader.patience looks (before ⇒ after)
+    → AreLooks first asked looks before after
+looked_first first asked samples shown reader looks before after sampled same looked = record {
   samples = samples;
   of_record = sampled.of_record;
-  asked = sampled.asked;
-  looked = subst (λ (r : Reader). AreLooksAt samples r.manner r.patience looks (before ⇒ after)) sampled.begins (subst (λ list. AreLooksAt list reader.manner reader.patience looks (before ⇒ after)) same looked);
+  rise = sampled.rise;
+  looked = subst (λ (r : Reader). AreLooksAt samples r.addresses r.manner r.patience looks (before ⇒ after)) sampled.begins (subst (λ list. AreLooksAt list reader.addresses reader.manner reader.patience looks (before ⇒ after)) same looked);
 }
+
+-- the host that is to look there, at its beginning, with the samples in front
+pub begins_looking : (first : Core) (asked : Bool) (samples shown : List WordValue) (reader : Reader) → IsSampled first asked samples reader → shown ≡ samples → (reader ≡ begun_in reader.manner reader.addresses [] reader.patience) × BeginWith shown reader.addresses
+begins_looking first asked samples shown reader sampled same = (
+  subst (λ (r : Reader). r ≡ begun_in r.manner r.addresses [] r.patience) (sym sampled.begins) refl,
+  subst (λ list. BeginWith list reader.addresses) (sym same) (highest_of first asked, ap (λ (r : Reader). r.addresses) sampled.begins),
+)
 
 whole : (stop : LookStop) → unfinished_at stop ≡ None → stop ≡ Ended Complete
 whole (Ended Complete) free = refl

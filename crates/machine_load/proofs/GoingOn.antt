@@ -20,7 +20,7 @@ use Rattle.machine_load.proofs.Driving.{free_behind, held_behind}
 pub unseen : (due : Bool) (behind : Core) (here : Devices) → due ≡ false → LooksAgain due behind None here here
 unseen due behind here is = subst (λ b. LooksAgain b behind None here here) (sym is) (refl, refl)
 
-pub seen : (due : Bool) (behind : Core) (looks : Looks) (before after : LineTold) (kept : Option (List Kept)) → due ≡ true → AreLooks behind looks before after
+pub seen : (due : Bool) (behind : Core) (looks : Looks) (before after : LineTold) (kept : Option (List Kept)) → due ≡ true → AreLooks behind false looks before after
     → LooksAgain due behind (Some looks) (devices before kept) (devices after kept)
 seen due behind looks before after kept is looked =
     subst (λ b. LooksAgain b behind (Some looks) (devices before kept) (devices after kept)) (sym is) (record { looks = looks; again_is = refl; looked = looked; kept_same = refl })

@@ -3,6 +3,7 @@ pub mod Driving
 mod Faults
 mod Fronts
 mod GoingOn
+mod Highest
 mod Lives
 mod Loads
 pub mod OnDisk

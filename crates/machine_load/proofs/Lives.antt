@@ -1,5 +1,5 @@
 -- A load is a life.
-use Rattle.std.proofs.Common.{◌≡◌, ◌≤◌, ◌<◌, ◌^◌, ◌+◌, ◌-◌, ◌⊎◌, ℕ, Bool, true, false, not, ◌&&◌, if◌then◌else◌, List, [], ◌∷◌, ◌++◌, length, Option, Some, None, Ok, refl, sym, subst, ap, ◌∙◌, inl, inr, arith, append-nil, append_assoc}
+use Rattle.std.proofs.Common.{◌≡◌, ◌≤◌, ◌<◌, ◌^◌, ◌+◌, ◌-◌, ◌⊎◌, ℕ, Bool, true, false, not, ◌&&◌, ◌||◌, if◌then◌else◌, List, [], ◌∷◌, ◌++◌, length, Option, Some, None, Ok, refl, sym, subst, ap, ◌∙◌, inl, inr, arith, append-nil, append_assoc}
 use Rattle.std.specs.Prelude.{Contains, ◌==◌, is_none, is_some, option_to_list}
 use Rattle.std.specs.Io.KnownBytes.{Keeps}
 use Rattle.std.proofs.KnownBytes.{Keeps-trans}
@@ -56,12 +56,13 @@ use Rattle.machine_load.specs.Asked.{opened_as, task, ◌⇒◌}
 use Rattle.machine_load.specs.Driving.{IsDrivenOn}
 use Rattle.machine_load.specs.Lives.{AgainGoesOut, CameToAFastLife, CameToTwoFastLives, FiledLoad, GoesOut, HostGoesOut, LooksGoOut, PartsGoOut, StubsGoOut, LoadsAreFastLives, LoadsAreLives, of_file, with_losses}
 use Rattle.machine_load.specs.Load.{SurroundingsTold, Finish, IsBusyLife, IsLoad, IsOpening, IsHeldUp, IsIdleLife, IsLived, words_taken}
-use Rattle.machine_load.specs.Looks.{AreLooks, behind_looks, care_of, held_up_by, vouched_for}
+use Rattle.machine_load.specs.Looks.{AreLooks, behind_looks, care_of, held_up_by, highest_of, vouched_for}
 use Rattle.reading_core.specs.Reader.{Manner, manner_of}
 use Rattle.machine_load.specs.Parts.{AreBrought, AreKept, ArePartsOver, Course, Held, IsDrivenUnless, LooksAgain, Unless, held, held_back, host_of, stop_of, stubs_of, told_by, turns_of, typist_for}
 use Rattle.load_engine.specs.Driven.{IsDriven, turns_give}
 use Rattle.machine_load.specs.Stubs.{hindrance_of}
 use Rattle.machine_load.proofs.Faults.{all_stand}
+use Rattle.machine_load.proofs.Highest.{is_highest}
 use Rattle.machine_load.proofs.Renewed.{EachKept, HoldsFront, host_holds, stubs_front, stubs_held, written_says}
 
 -- a load that is not careful begins with a plain host
@@ -128,21 +129,26 @@ goes_behind plan text v finding goes = record {
   same_mark = goes.same_mark;
 }
 
+-- no more words count than the plan has
+none_over : (plan : PlanValue) (v : ℕ) (text : List ℕ) (going : Bool) → GoesOnFrom plan text (record { verified = v; going = going }) → v ≤ length plan.words
+none_over plan v text going goes = let sound = says_sound plan text goes.recorded goes.says in omega (arith, goes.fewer, sound.within)
+
 less_patience : (patience spent : ℕ) → patience < 2 ^ 32 → patience - spent < 2 ^ 32
 less_patience patience spent long = omega (arith, long)
 
--- the looks of a life are at words that its record says
-of_record : (careful : Bool) (plan : PlanValue) (v patience : ℕ) (recorded : Progress) (looks : Looks) (before after : LineTold) (items : List Item) → patience < 2 ^ 32 → v ≤ recorded.verified → false ≡ recorded.going
-    → (l : AreLooks (begun_by careful plan v false patience) looks before after) → LooksGoOut l items → HasLookedAs (manner_of (care_of careful) []) plan recorded items
-of_record careful plan v patience recorded looks before after items long fewer same l out =
-    let sampled : SampleLooks = record { plan = plan; recorded = record { verified = v; going = false }; samples = l.samples; manner = manner_of (care_of careful) []; patience = patience; items = items } in
+-- the looks of a life are at words that its record says, and at the plan's highest where that is asked for
+of_record : (careful : Bool) (plan : PlanValue) (asked : Bool) (v patience : ℕ) (recorded : Progress) (looks : Looks) (before after : LineTold) (items : List Item) → patience < 2 ^ 32 → v ≤ recorded.verified → v ≤ length plan.words → false ≡ recorded.going
+    → (l : AreLooks (begun_by careful plan v false patience) asked looks before after) → LooksGoOut l items → HasLookedAs (manner_of (care_of careful) []) plan recorded items
+of_record careful plan asked v patience recorded looks before after items long fewer within same l out =
+    let first : Core = begun_by careful plan v false patience in
+    let sampled : SampleLooks = record { plan = plan; recorded = record { verified = v; going = false }; samples = l.samples; beyond = highest_of first asked; manner = manner_of (care_of careful) []; patience = patience; items = items } in
     let looked : HasLookedAs (manner_of (care_of careful) []) plan sampled.recorded items =
-    are_of_the_record sampled (record { unmarked = refl; samples = l.of_record; asked = l.asked; patient = long })
+    are_of_the_record sampled (record { unmarked = refl; samples = l.of_record; beyond = is_highest first asked within; asked = l.rise; patient = long })
     (record { turns = most_turns; stop = looks.stop; last = l.looked.reader; line = before.said; line' = after.said; inquired = l.looked.inquired.turns.session; out = out }) in record {
       unmarked = sym same;
       addresses = looked.addresses;
       asked = looked.asked;
-      of_record = λ k d low. let one = looked.of_record k d low in (one.0, omega (arith, one.1, fewer), one.2);
+      of_plan = λ k d low. elim (looked.of_plan k d low) [ inl one ↦ inl (one.0, omega (arith, one.1, fewer), one.2) | inr highest ↦ inr highest ];
       patience = looked.patience;
       patient = looked.patient;
       heard = looked.heard;
@@ -344,11 +350,11 @@ module _ (plan : PlanValue) (v w patience : ℕ) (again rest : List Item) (old n
   abbrev goes : GoesOnFrom plan old.text progress
   goes = record { recorded = progress; says = subst (λ text. Says plan text (Ok progress)) (sym recorded) (written_says plan w fits within); fewer = omega arith; same_mark = refl }
 
-  looked_again : (looks : Looks) (before seen : LineTold) → (l : AreLooks (begun plan w false patience) looks before seen) → LooksGoOut l again → HasLooked plan progress again
-  looked_again looks before seen l out = of_record false plan w patience progress looks before seen again long (omega arith) refl l out
+  looked_again : (looks : Looks) (before seen : LineTold) → (l : AreLooks (begun plan w false patience) false looks before seen) → LooksGoOut l again → HasLooked plan progress again
+  looked_again looks before seen l out = of_record false plan false w patience progress looks before seen again long (omega arith) within refl l out
 
   second_life : (stubs : Stubs) (looks : Looks) (held : Option LoadEnd) (core : Core) (end : LoadEnd) (before seen after : Devices) (keeping keeper' : Keeper) → w ≡ stubs.tally.verified → held_up_by looks ≡ held → HoldsRecord keeping plan w
-      → (l : AreLooks (begun plan w false patience) looks before.line seen.line) → LooksGoOut l again → (host : IsDrivenUnless held (course_at plan v patience (Some stubs) (Some looks) core end) seen after)
+      → (l : AreLooks (begun plan w false patience) false looks before.line seen.line) → LooksGoOut l again → (host : IsDrivenUnless held (course_at plan v patience (Some stubs) (Some looks) core end) seen after)
       → Unless held (IsKeptBy of_file.calls (turns_give (turns_of (course_at plan v patience (Some stubs) (Some looks) core end))) keeping keeper') (λ why. keeper' ≡ keeping)
       → HostGoesOut held (course_at plan v patience (Some stubs) (Some looks) core end) seen after host rest → keeper'.text ≡ Some new.text → FastLives plan core again [] rest old new
   second_life stubs looks (Some why) core end before seen after keeping keeper' here is_held holds l went host kept out is =
@@ -362,7 +368,7 @@ module _ (plan : PlanValue) (v w patience : ℕ) (again rest : List Item) (old n
       (omega (arith, within, vouched_below w looks.finding)) still session out' by) is
     where
       still : HoldsRecord keeping plan (vouched_for w looks.finding)
-      still = subst (λ finding. HoldsRecord keeping plan (vouched_for w finding)) (sym (all_stand l.samples l.looked.reader.values looks.stop looks.finding l.looked.found free)) holds
+      still = subst (λ finding. HoldsRecord keeping plan (vouched_for w finding)) (sym (all_stand l.samples _ looks.stop looks.finding l.looked.found free)) holds
 
       same_host : behind_looks (begun plan stubs.tally.verified false patience) looks ≡ (begun plan (vouched_for w looks.finding) false (patience - looks.spent))
       same_host = ap (λ n. behind_looks (begun plan n false patience) looks) (sym here)
@@ -442,8 +448,8 @@ module _ (plan : PlanValue) (v patience : ℕ) (looks front again rest : List It
       let w : ℕ = stubs.tally.verified in
       let middle : LinkAndRecord = record { link = parted_there.between; text = record_text Second plan w false } in
       let same : see.looks ≡ seen_again = sym (is_some seen_again see.looks see.again_is) in
-      let seen_so : (l : AreLooks (begun plan w false patience) seen_again between.line seen.line) × LooksGoOut l again =
-      subst (λ (s : Looks). (l : AreLooks (begun plan w false patience) s between.line seen.line) × LooksGoOut l again) same (see.looked, out_again) in
+      let seen_so : (l : AreLooks (begun plan w false patience) false seen_again between.line seen.line) × LooksGoOut l again =
+      subst (λ (s : Looks). (l : AreLooks (begun plan w false patience) false s between.line seen.line) × LooksGoOut l again) same (see.looked, out_again) in
       inr (record {
         between = middle;
         core = begun plan w false patience;
@@ -470,7 +476,7 @@ module _ (plan : PlanValue) (v patience : ℕ) (looks front again rest : List It
 
   -- no more words than the plan has
   fewer_than_all : v ≤ length plan.words
-  fewer_than_all = let sound = says_sound plan old.text goes.recorded goes.says in omega (arith, goes.fewer, sound.within)
+  fewer_than_all = none_over plan v old.text false goes
 
   -- the parts of a life
   parts_lived : (stubs : Option Stubs) (seen_again : Option Looks) (core : Core) (end : LoadEnd) (before after : Held Keeper) → HoldsRecord before.keeper plan v → (parts : ArePartsOver of_file.calls (course_at plan v patience stubs seen_again core end) before after)
@@ -510,22 +516,22 @@ module _ (plan : PlanValue) (v patience : ℕ) (told : Option (List ℕ)) (betwe
   -- one that its looks hold up
   held_fast : {fast writable : Bool} (going : Bool) → GoesOnFrom plan old.text (record { verified = v; going = going }) → (held : IsHeldUp (opened_as (begun plan v going patience) fast writable) (between ⇒ after) finish)
       → LooksGoOut held.first_looks.looked looks → front ≡ [] → again ≡ [] → rest ≡ [] → Came finish.core
-  held_fast true goes held out no_front not_again no_rest = absurd (cc held.first_looks.goes_on)
-  held_fast false goes held out no_front not_again no_rest =
+  held_fast {fast} true goes held out no_front not_again no_rest = absurd (cc held.first_looks.goes_on)
+  held_fast {fast} false goes held out no_front not_again no_rest =
       subst Came (sym held.core_is)
       (left_alone (vouched_for v held.first_looks.looks.finding) (patience - held.first_looks.looks.spent) false (less_patience patience held.first_looks.looks.spent long)
       (goes_behind plan old.text v held.first_looks.looks.finding goes)
-      (inr (of_record false plan v patience goes.recorded held.first_looks.looks held.first_looks.line held.first_looks.behind looks long goes.fewer goes.same_mark held.first_looks.looked out))
+      (inr (of_record false plan (fast || false) v patience goes.recorded held.first_looks.looks held.first_looks.line held.first_looks.behind looks long goes.fewer (none_over plan v old.text false goes) goes.same_mark held.first_looks.looked out))
       held.first_looks.record_same no_front not_again no_rest)
 
   -- one that is driven
   driven_fast : {fast writable : Bool} (going : Bool) → GoesOnFrom plan old.text (record { verified = v; going = going }) → (life : IsBusyLife (IsDrivenOn of_file) (opened_as (begun plan v going patience) fast writable) (between ⇒ after) finish)
       → LooksGoOut life.first_looks.looked looks → PartsGoOut life.driven.parts front again rest → Came finish.core
-  driven_fast true goes life looked out = absurd (cc life.first_looks.goes_on)
-  driven_fast false goes life looked out =
+  driven_fast {fast} true goes life looked out = absurd (cc life.first_looks.goes_on)
+  driven_fast {fast} false goes life looked out =
       parts_lived plan (vouched_for v life.first_looks.looks.finding) (patience - life.first_looks.looks.spent) looks front again rest old new fits (less_patience patience life.first_looks.looks.spent long)
       (goes_behind plan old.text v life.first_looks.looks.finding goes)
-      (inr (of_record false plan v patience goes.recorded life.first_looks.looks life.first_looks.line life.first_looks.behind looks long goes.fewer goes.same_mark life.first_looks.looked looked))
+      (inr (of_record false plan (fast || false) v patience goes.recorded life.first_looks.looks life.first_looks.line life.first_looks.behind looks long goes.fewer (none_over plan v old.text false goes) goes.same_mark life.first_looks.looked looked))
       passes finish.stubs finish.again finish.core finish.end (held life.first_looks.behind life.driven.keeper) (held life.driven.line' life.driven.keeper') life.driven.begun_so life.driven.parts out (sym life.driven.left ∙ is)
 
   fast_lived : {fast writable : Bool} (going : Bool) → GoesOnFrom plan old.text (record { verified = v; going = going }) → (life : IsLived (IsDrivenOn of_file) (opened_as (begun plan v going patience) fast writable) (between ⇒ after) finish) → GoesOut life looks front again rest
@@ -651,12 +657,12 @@ module _ (careful : Bool) (plan : PlanValue) (v patience : ℕ) (told : Option (
 
   held_life : {fast writable : Bool} (going : Bool) → GoesOnFrom plan old.text (record { verified = v; going = going }) → (held : IsHeldUp (opened_as (begun_by careful plan v going patience) fast writable) (between ⇒ after) finish)
       → LooksGoOut held.first_looks.looked looks → items ≡ [] → Lives plan finish.core looks items old new
-  held_life true goes held looked out = absurd (cc held.first_looks.goes_on)
-  held_life false goes held looked out =
+  held_life {fast} true goes held looked out = absurd (cc held.first_looks.goes_on)
+  held_life {fast} false goes held looked out =
       subst (λ (core : Core). Lives plan core looks items old new) (sym held.core_is)
       (alone_life (vouched_for v held.first_looks.looks.finding) (patience - held.first_looks.looks.spent) false (less_patience patience held.first_looks.looks.spent long)
       (goes_behind plan old.text v held.first_looks.looks.finding goes)
-      (inr (manner_of (care_of careful) [], of_record careful plan v patience goes.recorded held.first_looks.looks held.first_looks.line held.first_looks.behind looks long goes.fewer goes.same_mark held.first_looks.looked looked))
+      (inr (manner_of (care_of careful) [], of_record careful plan (fast || careful) v patience goes.recorded held.first_looks.looks held.first_looks.line held.first_looks.behind looks long goes.fewer (none_over plan v old.text false goes) goes.same_mark held.first_looks.looked looked))
       held.first_looks.record_same out)
 
   driven_life : {writable : Bool} (going : Bool) (again : List Item) → GoesOnFrom plan old.text (record { verified = v; going = going }) → (life : IsBusyLife (IsDrivenOn of_file) (opened_as (begun_by careful plan v going patience) false writable) (between ⇒ after) finish)
@@ -665,7 +671,7 @@ module _ (careful : Bool) (plan : PlanValue) (v patience : ℕ) (told : Option (
   driven_life false again goes life looked out =
       parts_alone careful plan (vouched_for v life.first_looks.looks.finding) (patience - life.first_looks.looks.spent) looks items old new fits (less_patience patience life.first_looks.looks.spent long)
       (goes_behind plan old.text v life.first_looks.looks.finding goes)
-      (inr (manner_of (care_of careful) [], of_record careful plan v patience goes.recorded life.first_looks.looks life.first_looks.line life.first_looks.behind looks long goes.fewer goes.same_mark life.first_looks.looked looked))
+      (inr (manner_of (care_of careful) [], of_record careful plan (false || careful) v patience goes.recorded life.first_looks.looks life.first_looks.line life.first_looks.behind looks long goes.fewer (none_over plan v old.text false goes) goes.same_mark life.first_looks.looked looked))
       passes finish.stubs finish.again finish.core finish.end (held life.first_looks.behind life.driven.keeper) (held life.driven.line' life.driven.keeper') again life.driven.stubs_asked life.driven.begun_so life.driven.parts out (sym life.driven.left ∙ is)
 
   lived : {writable : Bool} (going : Bool) (again : List Item) → GoesOnFrom plan old.text (record { verified = v; going = going }) → (life : IsLived (IsDrivenOn of_file) (opened_as (begun_by careful plan v going patience) false writable) (between ⇒ after) finish) → GoesOut life looks [] again items

@@ -36,9 +36,9 @@ of_file = record {
 }
 
 -- what went out of the looks: what the line tells, or all, where the call that failed sent its key after all
-abbrev pub LooksGoOut : {first : Core} {looks : Looks} {before after : LineTold} → AreLooks first looks before after → List Item → Type 0
-LooksGoOut {first} {looks} {before} {after} l items =
-    WentOut (looks_of (looker_of first l.samples) l.looked.inquired.turns.session.heard)
+abbrev pub LooksGoOut : {first : Core} {asked : Bool} {looks : Looks} {before after : LineTold} → AreLooks first asked looks before after → List Item → Type 0
+LooksGoOut {first} {asked} {looks} {before} {after} l items =
+    WentOut (looks_of (looker_of first asked l.samples) l.looked.inquired.turns.session.heard)
     l.looked.inquired.turns.session.said items
 
 -- what went out of what the stubs said: what the line tells, and perhaps some of the keys that a call failed to send

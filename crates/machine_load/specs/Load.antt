@@ -22,7 +22,7 @@ use Rattle.machine_load.specs.declared.load_end.LoadEnd.{LoadEnd}
 use Rattle.machine_load.specs.declared.load_end.LoadEnd.TheVariants.{Driven}
 use Rattle.machine_load.specs.declared.looks.Looks.{Looks}
 use Rattle.machine_load.specs.LoadReport.{load_report}
-use Rattle.machine_load.specs.Looks.{AreLooks, behind_looks, held_up_by}
+use Rattle.machine_load.specs.Looks.{AreLooks, behind_looks, asks_for_highest, held_up_by}
 use Rattle.machine_load.specs.Parts.{AreParts, Course}
 use Rattle.machine_load.specs.Stubs.{counting}
 use Rattle.machine_load.specs.declared.stubs.Stubs.{Stubs}
@@ -125,7 +125,7 @@ pub record IsIdleLife (life : Opened) (around : Change SurroundingsTold) (finish
   pub no_line : finish.line ≡ None
 
 -- a life that is not over, and whose record may be begun: a connection is made, and on the new line, on which nothing was said, words that the record
--- has are looked at, before anything is done to it
+-- has are looked at, and the tape's highest by a careful life or a fast one, before anything is done to it
 pub record HasLookedFirst (life : Opened) (around : Change SurroundingsTold) (looked_so : Option Looks) : Type 0 where
   pub may_write : life.writable ≡ true
   pub goes_on : ended life.first.phase ≡ None
@@ -137,10 +137,10 @@ pub record HasLookedFirst (life : Opened) (around : Change SurroundingsTold) (lo
   pub looks : Looks
   pub looks_are : looked_so ≡ Some looks
   pub behind : LineTold
-  pub looked : AreLooks life.first looks line behind
+  pub looked : AreLooks life.first (asks_for_highest life) looks line behind
 
--- its looks do not let it go on: one of the words does not stand, or they stopped before each was read. Nothing is done behind them, and the record is
--- as it was
+-- its looks do not let it go on: one of the samples does not stand, or they stopped before each word was read. Nothing is done behind them, and the record
+-- is as it was
 pub record IsHeldUp (life : Opened) (around : Change SurroundingsTold) (finish : Finish) : Type 0 where
   pub first_looks : HasLookedFirst life around finish.looks
   pub held_up : held_up_by first_looks.looks ≡ Some finish.end

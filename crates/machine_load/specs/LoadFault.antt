@@ -7,7 +7,7 @@ use Rattle.load_record.specs.declared.reader.RecordError.{RecordError}
 use Rattle.load_record.specs.Reading.{Says}
 use Rattle.load_record.specs.declared.reader.RecordError.TheVariants.{NotARecord}
 use Rattle.host_devices.specs.Devices.{LineTold}
-use Rattle.machine_load.specs.Asked.{Change, LoadTask, ◌⇒◌}
+use Rattle.machine_load.specs.Asked.{Change, LoadTask, Opened, opened_as, ◌⇒◌}
 use Rattle.machine_load.specs.GivenBack.{GivesLooked}
 use Rattle.host_core.specs.Core.{Core}
 use Rattle.machine_load.specs.Load.{HowItGoesOn, SurroundingsTold, Setting, Asks, KeepsRecord, IsReportCutShort, IsOpened}
@@ -70,20 +70,20 @@ pub record IsUnconnected (done : Change Gone) (steps : List LoadStep) : Type 0 w
 
 -- or there was a connection, a line was given back on which nothing was said but the looks, and the record was not begun with the words that count as
 -- verified: the last step says why
-pub record IsLeftUnbegun (first : Core) (done : Change Gone) (why : LoadStep) : Type 0 where
+pub record IsLeftUnbegun (life : Opened) (done : Change Gone) (why : LoadStep) : Type 0 where
   pub asked : Asks done.before.around done.after.around (Connected ∷ why ∷ [])
-  pub not_begun_there : DiskAsked done.before.around.disk done.after.around.disk (IsNotBegunOn (begun_text first.plan first.verified))
-  pub looked : GivesLooked first done.before.lines done.after.lines
+  pub not_begun_there : DiskAsked done.before.around.disk done.after.around.disk (IsNotBegunOn (begun_text life.first.plan life.first.verified))
+  pub looked : GivesLooked life done.before.lines done.after.lines
 
 -- how an opened life comes to no beginning: one whose record may not be begun fails before there is a connection, and so does one for whose looks
 -- there is no memory
-abbrev pub IsBeginningFault : Bool → Core → Change Gone → LoadFault → Type 0
-IsBeginningFault writable first done Connect = (writable ≡ true) × IsUnconnected done (NotConnected ∷ [])
-IsBeginningFault writable first done WriteRecord =
-    ((writable ≡ false) × IsUnconnected done []) ⊎ ((writable ≡ true) × IsLeftUnbegun first done NotBegun)
-IsBeginningFault writable first done Memory =
-    ((writable ≡ true) × IsUnconnected done []) ⊎ ((writable ≡ true) × IsLeftUnbegun first done OutOfMemory)
-IsBeginningFault writable first done other = ⊥
+abbrev pub IsBeginningFault : Opened → Change Gone → LoadFault → Type 0
+IsBeginningFault life done Connect = (life.writable ≡ true) × IsUnconnected done (NotConnected ∷ [])
+IsBeginningFault life done WriteRecord =
+    ((life.writable ≡ false) × IsUnconnected done []) ⊎ ((life.writable ≡ true) × IsLeftUnbegun life done NotBegun)
+IsBeginningFault life done Memory =
+    ((life.writable ≡ true) × IsUnconnected done []) ⊎ ((life.writable ≡ true) × IsLeftUnbegun life done OutOfMemory)
+IsBeginningFault life done other = ⊥
 
 -- a life was opened, whose record may be begun or may not, and so it came to no beginning, with nothing reported
 pub record StopsOpened (task : LoadTask) (setting : Change Setting) (why : LoadFault) : Type 0 where
@@ -91,7 +91,7 @@ pub record StopsOpened (task : LoadTask) (setting : Change Setting) (why : LoadF
   pub may_begin : Bool
   pub between : SurroundingsTold
   pub opened : IsOpened task (setting.before.around ⇒ between) first may_begin
-  pub is_so : IsBeginningFault may_begin first (gone between setting.before.lines ⇒ gone setting.after.around setting.after.lines) why
+  pub is_so : IsBeginningFault (opened_as first task.options.fast may_begin) (gone between setting.before.lines ⇒ gone setting.after.around setting.after.lines) why
   pub nothing_reported : Keeps setting.before.out setting.after.out
 
 -- no life was opened, with nothing said and nothing reported, and with the record as it was

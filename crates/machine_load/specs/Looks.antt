@@ -1,10 +1,10 @@
 -- The looks of a load: at words that its record has, before it is believed, and again behind a stub that was in vain.
-use Rattle.std.specs.Prelude.{◌≡◌, ℕ, ◌-◌, ◌≤◌, Bool, false, if◌then◌else◌, List, [], length, Option, Some, None, vec_capacity}
+use Rattle.std.specs.Prelude.{◌≡◌, ℕ, ◌-◌, ◌≤◌, ◌==◌, ◌&&◌, ◌||◌, not, Bool, false, if◌then◌else◌, List, [], ◌∷◌, ◌++◌, length, take, Option, Some, None, vec_capacity}
 use Rattle.host_devices.specs.Devices.{LineTold}
 use Rattle.host_core.specs.declared.phase.End.TheVariants as host
-use Rattle.host_core.specs.Core.{Core, begun_by}
+use Rattle.host_core.specs.Core.{Core, begun_by, word_nr}
 use Rattle.host_devices.specs.Turns.{most_turns}
-use Rattle.machine_load.specs.Asked.{Change, ◌⇒◌}
+use Rattle.machine_load.specs.Asked.{Change, Opened, ◌⇒◌}
 use Rattle.engine.specs.declared.stop.Stop.TheVariants as drive
 use Rattle.machine_load.specs.declared.load_end.LoadEnd.{LoadEnd}
 use Rattle.machine_load.specs.declared.load_end.LoadEnd.TheVariants as load_end
@@ -62,45 +62,58 @@ behind_any_looks first (Some looks) = behind_looks first looks
 abbrev pub care_of : (careful : Bool) → Care
 care_of careful = if careful then Twice else Once
 
--- the host of a life that looks at samples, with the life's care and its patience
-abbrev pub looker_of : Core → List WordValue → Reader
-looker_of first samples = begun_in (manner_of (care_of first.careful) []) (addresses_of samples) [] first.patience
+-- whether a life's first looks visit the tape's highest word, too: where its host is careful, or stubs are asked for
+abbrev pub asks_for_highest : Opened → Bool
+asks_for_highest life = life.fast || life.first.careful
 
--- where looks begin that may take no memory: there is room for the most samples, for their addresses, and for what is read there
+-- the address of the plan's last word, which is its highest, where it is asked for and is no sample anyway: not all words count as verified
+abbrev pub highest_of : Core → (asked : Bool) → List ℕ
+highest_of first asked =
+    if asked && not (first.verified == length first.plan.words) then (word_nr first.plan.words (length first.plan.words - 1)).address ∷ [] else []
+
+-- what a life looks at: samples, and behind them the tape's highest word, where it is asked for
+abbrev pub looked_at : Core → (asked : Bool) → List WordValue → List ℕ
+looked_at first asked samples = addresses_of samples ++ highest_of first asked
+
+-- the host of a life that looks there, with the life's care and its patience
+abbrev pub looker_of : Core → (asked : Bool) → List WordValue → Reader
+looker_of first asked samples = begun_in (manner_of (care_of first.careful) []) (looked_at first asked samples) [] first.patience
+
+-- where looks begin that may take no memory: there is room for the most samples, for one address more, and for what is read there
 pub record IsRoom (room : LooksRoom) : Type 0 where
   pub no_sample : room.samples.items ≡ []
   pub samples : 8 ≤ vec_capacity room.samples
   pub no_address : room.addresses.items ≡ []
-  pub addresses : 8 ≤ vec_capacity room.addresses
+  pub addresses : 9 ≤ vec_capacity room.addresses
   pub no_number : room.numbers.items ≡ []
-  pub numbers : 8 ≤ vec_capacity room.numbers
+  pub numbers : 9 ≤ vec_capacity room.numbers
 
--- samples of the words that count as verified in a life, and the host that is to look at them
-pub record IsSampled (first : Core) (samples : List WordValue) (reader : Reader) : Type 0 where
+-- samples of the words that count as verified in a life, and the host that is to look at them, and at the highest where it is asked for
+pub record IsSampled (first : Core) (asked : Bool) (samples : List WordValue) (reader : Reader) : Type 0 where
   pub of_record : AreSamples first.plan.words first.verified samples
-  pub asked : AreAddresses (addresses_of samples)
-  pub begins : reader ≡ looker_of first samples
+  pub rise : AreAddresses (looked_at first asked samples)
+  pub begins : reader ≡ looker_of first asked samples
 
 -- so few characters that a sum has room for them
 abbrev pub AreFewLooks : Looks → Type 0
 AreFewLooks looks = looks.sent ≤ 73014902784
 
--- a host of this manner and patience has looked at words: what was heard and said; what it read says what it found, and over an honest line that is so in
--- memory, which is what it was
-pub record AreLooksAt (samples : List WordValue) (manner : Manner) (patience : ℕ) (looks : Looks) (line : Change LineTold) : Type 0 where
+-- a host of this manner and patience has looked at addresses, those of samples in front: what was heard and said; what it read at the samples says what it
+-- found, and over an honest line that is so in memory, which is what it was
+pub record AreLooksAt (samples : List WordValue) (addresses : List ℕ) (manner : Manner) (patience : ℕ) (looks : Looks) (line : Change LineTold) : Type 0 where
   pub reader : Reader
-  pub inquired : IsInquired most_turns (inquiry (begun_in manner (addresses_of samples) [] patience) reader (Some looks.stop)) line.before line.after
-  pub found : IsFound samples reader.values looks.stop looks.finding
-  pub honest : IsSoOver samples looks.finding line.before.said line.after.said
+  pub inquired : IsInquired most_turns (inquiry (begun_in manner addresses [] patience) reader (Some looks.stop)) line.before line.after
+  pub found : IsFound samples (take (length samples) reader.values) looks.stop looks.finding
+  pub honest : IsSoOver samples addresses looks.finding line.before.said line.after.said
   pub sent_is : looks.sent ≡ reader.sent
   pub spent_is : looks.spent ≡ reader.spent
   pub paid : looks.spent ≤ patience
-  pub bound : looks.sent ≤ life_bound manner.care (length samples) patience
+  pub bound : looks.sent ≤ life_bound manner.care (length addresses) patience
   pub few : AreFewLooks looks
 
--- a life has looked at samples of the words that count as verified in it, with its own care and patience
-pub record AreLooks (first : Core) (looks : Looks) (before after : LineTold) : Type 0 where
+-- a life has looked at samples of the words that count as verified in it, and at the tape's highest word where it is asked for, with its own care and patience
+pub record AreLooks (first : Core) (asked : Bool) (looks : Looks) (before after : LineTold) : Type 0 where
   pub samples : List WordValue
   pub of_record : AreSamples first.plan.words first.verified samples
-  pub asked : AreAddresses (addresses_of samples)
-  pub looked : AreLooksAt samples (manner_of (care_of first.careful) []) first.patience looks (before ⇒ after)
+  pub rise : AreAddresses (looked_at first asked samples)
+  pub looked : AreLooksAt samples (looked_at first asked samples) (manner_of (care_of first.careful) []) first.patience looks (before ⇒ after)

@@ -47,7 +47,7 @@ AreKept {K} calls (Some stubs) keeper keeper' = StubsAreKeptBy calls (stubs_give
 pub record HasLookedAgain (behind : Core) (again : Option Looks) (before after : Devices) : Type 0 where
   pub looks : Looks
   pub again_is : again ≡ Some looks
-  pub looked : AreLooks behind looks before.line after.line
+  pub looked : AreLooks behind false looks before.line after.line
   pub kept_same : after.kept ≡ before.kept
 
 -- it did, or nothing was said and nothing kept

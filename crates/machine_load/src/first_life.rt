@@ -1,5 +1,5 @@
 //! A life as it begins.
-ghost use Rattle.std.specs.Prelude.{◌≡◌, ◌≤◌, length, None, IfSome};
+ghost use Rattle.std.specs.Prelude.{◌≡◌, ◌≤◌, ◌||◌, length, None, IfSome};
 ghost use Rattle.host_core.specs.Core.{begun_by, ended};
 ghost use Rattle.host_core.specs.Opening.{refusal_of};
 ghost use Rattle.machine_load.specs.Looks.{behind_looks, care_of};
@@ -96,6 +96,13 @@ impl FirstLife {
         } else {
             Care::Once
         }
+    }
+
+    /// Whether its first looks visit the tape's highest word, too: it is careful, or its load is fast.
+    pub(crate) fn asks_for_highest(&self, fast: bool) -> bool
+        ensures { result ≡ fast || self.now.careful }
+    {
+        fast || self.careful
     }
 
     /// The end of a life that is over before it begins: the start was typed before, or nothing is left to

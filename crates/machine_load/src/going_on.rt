@@ -57,7 +57,7 @@ pub(crate) fn go_on<L: Line, K: Keep, O: Onlooker>(
     }
 }
 
-// The life behind its looks, where words are looked at again behind its stubs.
+// The life behind its looks, where words are looked at again behind its stubs: samples alone.
 fn look_again<L: Line>(
     life: FirstLife,
     stubs: Option<Stubs>,
@@ -73,7 +73,7 @@ fn look_again<L: Line>(
     if !looks_again(stubs) {
         return (life, None);
     }
-    let looks = look(&life, room, line);
+    let looks = look(&life, false, room, line);
     (life.behind(looks), Some(looks))
 }
 

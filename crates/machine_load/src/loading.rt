@@ -1,5 +1,5 @@
 //! The load itself.
-ghost use Rattle.std.specs.Prelude.{◌≡◌, Bool, None, Ok, Err, IfOk, IfErr, IfSome, OnOk, option_map};
+ghost use Rattle.std.specs.Prelude.{◌≡◌, None, Ok, Err, IfOk, IfErr, IfSome, OnOk, option_map};
 ghost use Rattle.std.specs.Io.KnownBytes.{Keeps};
 ghost use Rattle.host_core.specs.Opening.{refusal_of};
 ghost use Rattle.load_record.specs.Reading.{Says};
@@ -22,7 +22,6 @@ use crate::fault::LoadFault;
 use crate::first_life::FirstLife;
 use crate::going_on::go_on;
 use crate::lived::Lived;
-use crate::load_end::LoadEnd;
 use crate::looks::{LooksRoom, look};
 use crate::outcome::Outcome;
 use crate::report::load_report;
@@ -31,7 +30,6 @@ use crate::surroundings::Surroundings;
 use byte_io::write_and_flush;
 use host_core::Progress;
 use host_devices::Onlooker;
-use load_engine::Stop;
 use load_record::{RecordError, read_record};
 use record_file::holds_no_record;
 use request_values::LoadOptions;
@@ -46,9 +44,10 @@ use tape_image::Plan;
 /// Where each word is to be looked at again, no word counts as verified; a typed start does.
 ///
 /// Else a connection is made, and samples of the words that count as verified are looked at, as
-/// `look_at_samples` of the crate `sample_looks` has it. Where one does not stand the load ends as `Stale`, and
-/// no word counts; where the looks stop before each was read, it ends as `Unfinished`. Nothing is done behind
-/// them then, and the record is as it was.
+/// `look_at_samples` of the crate `sample_looks` has it; by a careful load, or a fast one, behind them the tape's highest
+/// word, too, of which only an answer is asked. Where a sample does not stand the load ends as `Stale`, and
+/// no word counts; where the looks stop before each word was read, as with a tape that does not fit, it ends as
+/// `Unfinished`. Nothing is done behind them then, and the record is as it was.
 ///
 /// Else the record is written anew with the words that count as verified. Then, where the load is to be fast,
 /// stubs take words, as `bring_in` of the crate `stub_engine` has it. Where a device fails with them, turns are over, or
@@ -86,7 +85,7 @@ pub fn load<S: Surroundings, W: Write, O: Onlooker>(
         (scene S.Surroundings W.Write around.old out.old ⇒ scene S.Surroundings W.Write around.new out.new)) }
 {
     let (first, writable) = first_life(alloc, plan, options, around)?;
-    let begun = match begin(alloc, first, writable, around, onlooker)? {
+    let begun = match begin(alloc, first, options.fast, writable, around, onlooker)? {
         Beginning::Over(lived) => return report(lived, around, out),
         Beginning::Begun(begun) => begun,
     };
@@ -172,32 +171,26 @@ fn taken(said: Progress, recheck: bool) -> Progress
 }
 
 // The beginning of a life, once it has opened. One that is not over wants a record that may be written, and a
-// connection, over which it looks at words of its record before that is begun anew. An onlooker is told of it, but of
-// no look.
+// connection, over which it looks at words of its record, and at the tape's highest where it is careful or fast, before
+// that is begun anew. An onlooker is told of it, but of no look.
 fn begin<S: Surroundings, O: Onlooker>(
     alloc: Global,
     first: FirstLife,
+    fast: bool,
     writable: bool,
     around: &mut S,
     onlooker: &O,
 ) -> Result<Beginning<S::Line, S::Keeper>, LoadFault>
-    ensures begun { IfOk result (λ beginning. (fast : Bool) → IsBeginning (tells_of S.Surroundings S.Line.Line S.Keeper.Keep)
-        (opened_as first fast writable) (around_of S.Surroundings around.old ⇒ around_of S.Surroundings around.new) beginning) }
+    ensures begun { IfOk result (IsBeginning (tells_of S.Surroundings S.Line.Line S.Keeper.Keep)
+        (opened_as first fast writable) (around_of S.Surroundings around.old ⇒ around_of S.Surroundings around.new)) }
     ensures few { IfOk result SendsFew }
-    ensures fault { IfErr result (IsBeginningFault writable first (gone_of S.Surroundings around.old ⇒ gone_of S.Surroundings around.new)) }
+    ensures fault { IfErr result (IsBeginningFault (opened_as first fast writable) (gone_of S.Surroundings around.old ⇒ gone_of S.Surroundings around.new)) }
     ensures asked { IfOk result (λ beginning. Gains (S.asked around.old) (S.asked around.new) (asked_to_begin (S.call around.old) beginning)) }
     ensures asked_in_vain { IfErr result (IsAskedBefore (S.call around.old) (S.asked around.old) (S.asked around.new)) }
     ensures lines { OnOk result (S.lines around.new ≡ S.lines around.old) }
 {
     if let Some(end) = first.end() {
-        return Ok(Beginning::Over(Lived {
-            core: first.host(),
-            end: LoadEnd::Driven(Stop::Ended(end)),
-            looks: None,
-            stubs: None,
-            again: None,
-            line: None,
-        }));
+        return Ok(Beginning::Over(Lived::at_once(first, end)));
     }
     if !writable {
         return Err(LoadFault::WriteRecord);
@@ -206,7 +199,8 @@ fn begin<S: Surroundings, O: Onlooker>(
     let room_behind = LooksRoom::new(alloc)?;
     let mut line = around.connect()?;
     onlooker.begins(first.verified(), first.plan().words().len() as u32);
-    let looks = look(&first, room, &mut line);
+    let highest = first.asks_for_highest(fast);
+    let looks = look(&first, highest, room, &mut line);
     let first = first.behind(looks);
     if let Some(end) = looks.hindrance() {
         onlooker.ends();

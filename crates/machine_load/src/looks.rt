@@ -1,11 +1,12 @@
-//! The looks of a load: at words that its record has, before it is believed, and again behind a stub that was in vain.
+//! The looks of a load: at words that its record has, before it is believed, and again behind a stub that was in vain; and
+//! at the tape's highest word, before a careful load or a fast one.
 ghost use Rattle.std.specs.Prelude.{◌≡◌, ◌≤◌, [], length, vec_capacity, IfOk};
 ghost use Rattle.host_devices.specs.Devices.{line_told};
 ghost use Rattle.machine_load.specs.Asked.{◌⇒◌};
-ghost use Rattle.machine_load.specs.Looks.{AreLooks, AreLooksAt, IsRoom, IsSampled, held_up_by, unfinished_at};
+ghost use Rattle.machine_load.specs.Looks.{AreLooks, AreLooksAt, IsRoom, IsSampled, held_up_by, looked_at, unfinished_at};
 ghost use Rattle.reading_core.specs.Addresses.{AreAddresses, addresses_of};
 ghost use Rattle.reading_core.specs.Reader.{begun_in};
-ghost use Rattle.sample_looks.specs.Samples.{AreSamples};
+ghost use Rattle.sample_looks.specs.Samples.{AreSamples, BeginWith};
 
 use crate::first_life::FirstLife;
 use crate::load_end::LoadEnd;
@@ -69,21 +70,22 @@ pub(crate) struct LooksRoom {
 }
 
 impl LooksRoom {
-    /// Room for the most samples. The one error is want of memory.
+    /// Room for the most samples, and for one address more. The one error is want of memory.
     pub(crate) fn new(alloc: Global) -> Result<LooksRoom, AllocError>
         ensures { IfOk result IsRoom }
     {
         Ok(LooksRoom {
             samples: Vec::with_capacity(alloc, MOST_SAMPLES)?,
-            addresses: Vec::with_capacity(alloc, MOST_SAMPLES)?,
-            numbers: Vec::with_capacity(alloc, MOST_SAMPLES)?,
+            addresses: Vec::with_capacity(alloc, MOST_SAMPLES + 1)?,
+            numbers: Vec::with_capacity(alloc, MOST_SAMPLES + 1)?,
         })
     }
 
-    // Samples of the words that count as verified in a life, and the host that is to look at them.
-    fn sampled(self, life: &FirstLife) -> (Vec<Word>, ReadingCore)
+    // Samples of the words that count as verified in a life, and the host that is to look at them, and at the highest word
+    // where it is asked for.
+    fn sampled(self, life: &FirstLife, highest: bool) -> (Vec<Word>, ReadingCore)
         requires { IsRoom self }
-        ensures { IsSampled life.now result.0.items result.1 }
+        ensures { IsSampled life.now highest result.0.items result.1 }
     {
         let LooksRoom {
             samples,
@@ -92,6 +94,7 @@ impl LooksRoom {
         } = self;
         let samples = samples_in(samples, life.plan(), life.verified() as usize);
         let addresses = addresses_in(addresses, &samples);
+        let addresses = with_highest(addresses, &samples, life, highest);
         let reader = ReadingCore::in_room(addresses, numbers, life.patience());
         (samples, reader.with_care(life.care()))
     }
@@ -119,8 +122,10 @@ fn samples_in(room: Vec<Word>, plan: &Plan, count: usize) -> Vec<Word>
 // The addresses of these words, in room that was made before.
 fn addresses_in(room: Vec<u16>, samples: &[Word]) -> Vec<u16>
     requires empty { room.items ≡ [] }
-    requires ample { length samples.now ≤ vec_capacity room }
-    ensures { result.items ≡ addresses_of samples.now }
+    requires few { length samples.now ≤ 8 }
+    requires ample { 9 ≤ vec_capacity room }
+    ensures items { result.items ≡ addresses_of samples.now }
+    ensures room { 9 ≤ vec_capacity result }
 {
     let mut addresses = room;
     for sample in samples {
@@ -129,20 +134,52 @@ fn addresses_in(room: Vec<u16>, samples: &[Word]) -> Vec<u16>
     addresses
 }
 
-/// Looks at samples of the words that count as verified in a life, over a line, and changes none. Nobody looks on:
-/// what is done is no word of the load.
-pub(crate) fn look<L: Line>(life: &FirstLife, room: LooksRoom, line: &mut L) -> Looks
-    requires { IsRoom room }
-    ensures { AreLooks life.now result (line_told L.Line line.old) (line_told L.Line line.new) }
+// The addresses of samples, and behind them that of the plan's last word, where it is asked for and not all words count as
+// verified: of more the last is a sample.
+fn with_highest(
+    addresses: Vec<u16>,
+    samples: &[Word],
+    life: &FirstLife,
+    asked: bool,
+) -> Vec<u16>
+    requires samples { AreSamples life.now.plan.words life.now.verified samples.now }
+    requires rise { AreAddresses (addresses_of samples.now) }
+    requires there { addresses.items ≡ addresses_of samples.now }
+    requires few { length samples.now ≤ 8 }
+    requires ample { 9 ≤ vec_capacity addresses }
+    ensures there { result.items ≡ looked_at life.now asked samples.now }
+    ensures rise { AreAddresses (looked_at life.now asked samples.now) }
+    ensures few { length result.items ≤ 9 }
 {
-    let (samples, reader) = room.sampled(life);
+    let mut addresses = addresses;
+    let words = life.plan().words();
+    let all = life.verified() as usize == words.len();
+    if asked && !all {
+        let _ = addresses.push(words[words.len() - 1].address());
+    }
+    addresses
+}
+
+/// Looks at samples of the words that count as verified in a life, over a line, and changes none; and at the tape's highest
+/// word, where it is asked for: there memory has to answer. Nobody looks on: what is done is no word of the load.
+pub(crate) fn look<L: Line>(
+    life: &FirstLife,
+    highest: bool,
+    room: LooksRoom,
+    line: &mut L,
+) -> Looks
+    requires { IsRoom room }
+    ensures { AreLooks life.now highest result (line_told L.Line line.old) (line_told L.Line line.new) }
+{
+    let (samples, reader) = room.sampled(life, highest);
     look_at(&samples, reader, line)
 }
 
-// Looks at words.
+// Looks at words, those of samples in front.
 fn look_at<L: Line>(samples: &[Word], reader: ReadingCore, line: &mut L) -> Looks
-    requires { reader ≡ begun_in reader.manner (addresses_of samples.now) [] reader.patience }
-    ensures { AreLooksAt samples.now reader.manner reader.patience result (line_told L.Line line.old ⇒ line_told L.Line line.new) }
+    requires begun { reader ≡ begun_in reader.manner reader.addresses [] reader.patience }
+    requires asked { BeginWith samples.now reader.addresses }
+    ensures { AreLooksAt samples.now reader.addresses reader.manner reader.patience result (line_told L.Line line.old ⇒ line_told L.Line line.new) }
 {
     let looked = look_at_samples(reader, samples, line, &Unwatched);
     Looks {

@@ -1,5 +1,5 @@
 -- Looks and a reading behind them, over one honest line.
-use Rattle.std.proofs.Common.{◌≡◌, ℕ, ◌-◌, ◌^◌, ◌<◌, List, [], ◌∷◌, ◌++◌, length, get_or, Option, None, Some, refl, ap, sym, subst, ◌∙◌, inl, inr}
+use Rattle.std.proofs.Common.{◌≡◌, ℕ, ◌-◌, ◌^◌, ◌<◌, List, [], ◌∷◌, ◌++◌, length, get_or, Option, None, Some, refl, ap, sym, subst, ◌∙◌, inl, inr, append-nil}
 use Rattle.odt_machine.specs.Machine.{Machine, word_at}
 use Rattle.tape_image.specs.Word.{WordValue}
 use Rattle.host_core.specs.declared.heard.Heard.{Heard}
@@ -25,11 +25,11 @@ use Rattle.looking_engine.specs.Session.{IsSaid}
 use Rattle.looking_engine.specs.Stopping.{LookStop}
 use Rattle.looking_engine.specs.declared.stop.Stop.TheVariants.{Ended, LineFailed, TurnsOver}
 use Rattle.looking_engine.proofs.Beliefs.{inquired_believable}
-use Rattle.sample_looks.specs.Finding.{IsSoIn}
+use Rattle.sample_looks.specs.Finding.{IsFound, IsSoIn}
 use Rattle.sample_looks.specs.Looked.{IsSeen}
 use Rattle.sample_looks.specs.declared.finding.Finding.TheVariants.{AllStand}
 use Rattle.sample_looks.specs.declared.looking.Looked.{Looked}
-use Rattle.sample_looks.proofs.Seen.{so_over}
+use Rattle.sample_looks.proofs.Seen.{only_samples, so_over}
 use Rattle.request_values.specs.Change.{Change}
 use Rattle.machine_look.specs.Behind.{AreLookedAt, IsAsFound, WhereHonest, all_stood, begun_at}
 use Rattle.machine_look.specs.declared.saving.SaveOptions.{SaveOptions}
@@ -57,8 +57,9 @@ looks_hold samples options looked said are long s kept machine now lost ready ho
     let same : looks.addresses ≡ first.addresses = ap (λ (r : Reader). r.addresses) s.inquired.host ∙ led_addresses first s.inquired.heard in
     let over : IsBelievableOver (inquiry first looks (Some stop)) (Some []) (Some s.inquired.said) =
     inquired_believable most_turns (Some stop) first looks (Some []) (Some s.inquired.said) reads (alone (Some stop) first looks (Some []) (Some said) s.inquired) in
-    let seen : IsSeen samples looked.finding machine now =
-    so_over samples first looks stop looked.finding (Some []) (Some s.inquired.said) refl kept same s.end s.found over s.inquired.said ([], refl, refl) machine now lost ready honest in
+    let seen : IsSeen samples first.addresses looked.finding machine now =
+    so_over samples first looks stop looked.finding (Some []) (Some s.inquired.said) refl ([], sym (append-nil (addresses_of samples))) kept same s.end
+    (subst (λ numbers. IsFound samples numbers stop looked.finding) (sym (only_samples samples looks kept same)) s.found) over s.inquired.said ([], refl, refl) machine now lost ready honest in
     (seen.memory, seen.so)
 
 -- what was read behind looks that came to their end is what memory holds, and that is what it was

@@ -1,5 +1,6 @@
 -- What looks and a reading behind them come to.
-use Rattle.std.proofs.Common.{◌≡◌, ℕ, ◌-◌, ◌^◌, ◌<◌, ◌≤◌, List, [], ◌++◌, length, Option, Some, arith, ap, sym, subst, ◌∙◌}
+use Rattle.std.proofs.Common.{◌≡◌, ℕ, ◌-◌, ◌^◌, ◌<◌, ◌≤◌, List, [], ◌++◌, length, take, Option, Some, arith, ap, refl, sym, subst, ◌∙◌, append-nil}
+use Rattle.std.proofs.lemmas.List.{length-map}
 use Rattle.tape_image.specs.Word.{WordValue}
 use Rattle.console_lines.specs.Console.{ConsoleTold}
 use Rattle.console_lines.specs.Dialling.{asked_once}
@@ -9,12 +10,15 @@ use Rattle.host_devices.specs.declared.item.Item.{Item}
 use Rattle.reading_core.specs.Addresses.{AreAddresses, IsRange, addresses_of}
 use Rattle.reading_core.specs.Bound.{life_bound}
 use Rattle.reading_core.specs.Invariant.{IsReader}
-use Rattle.reading_core.specs.Reader.{Reader, ended, manner_of}
+use Rattle.reading_core.specs.Reader.{Reader, begun_in, ended, manner_of}
 use Rattle.reading_core.specs.declared.phase.End.TheVariants.{Complete}
 use Rattle.looking_engine.specs.Stopping.{LookStop, TellsEnd}
 use Rattle.looking_engine.specs.Inquired.{Inquired, inquiry}
 use Rattle.looking_engine.specs.declared.stop.Stop.TheVariants.{Ended}
 use Rattle.sample_looks.specs.Finding.{IsFound}
+use Rattle.sample_looks.specs.Samples.{BeginWith}
+use Rattle.sample_looks.specs.declared.finding.Finding.{Finding}
+use Rattle.sample_looks.proofs.Seen.{only_samples}
 use Rattle.sample_looks.specs.declared.finding.Finding.TheVariants.{AllStand}
 use Rattle.sample_looks.specs.declared.looking.Looked.{Looked}
 use Rattle.request_values.specs.Change.{Change, ◌⇒◌}
@@ -26,14 +30,31 @@ use Rattle.machine_look.proofs.BehindLooks.{IsReadBehind, looks_hold, reading_ho
 use Rattle.machine_look.proofs.Looks.{alone, behind}
 use Rattle.machine_look.proofs.SavedMemory.{memory_behind}
 
+-- what was found at samples, by what was read there: nothing else was looked at
+pub found_there : (samples shown : List WordValue) (options : SaveOptions) (first last : Reader) (stop : LookStop) (finding : Finding) → first ≡ begun_at options samples → shown ≡ samples → last.addresses ≡ first.addresses → IsReader last
+    → IsFound shown (take (length shown) last.values) stop finding → IsFound samples last.values stop finding
+found_there samples shown options first last stop finding is same addresses kept found =
+    subst (λ numbers. IsFound samples numbers stop finding) (only_samples samples last kept (addresses ∙ ap (λ (r : Reader). r.addresses) is))
+    (subst (λ (list : List WordValue). IsFound list (take (length list) last.values) stop finding) same found)
+
+-- the host that looks at them, at its beginning
+pub begins_looking : (samples shown : List WordValue) (options : SaveOptions) (first : Reader) → first ≡ begun_at options samples → shown ≡ samples
+    → (first ≡ begun_in first.manner first.addresses [] first.patience) × BeginWith shown first.addresses
+begins_looking samples shown options first is same = (
+  subst (λ (r : Reader). r ≡ begun_in r.manner r.addresses [] r.patience) (sym is) refl,
+  subst (λ list. BeginWith list first.addresses) (sym same) ([], ap (λ (r : Reader). r.addresses) is ∙ sym (append-nil (addresses_of samples))),
+)
+
 pub are_looked_at : (samples : List WordValue) (options : SaveOptions) (first : Reader) (looked : Looked) (line line' : Option (List Item)) → first ≡ begun_at options samples
     → (s : Inquired most_turns (inquiry first looked.reader (Some looked.stop)) line line') → TellsEnd looked.stop (ended looked.reader.phase) → IsFound samples looked.reader.values looked.stop looked.finding
-    → looked.reader.sent ≤ life_bound first.manner.care (length samples) first.patience → looked.reader.patience ≡ first.patience → IsReader looked.reader → AreLookedAt samples options looked s.said
+    → looked.reader.sent ≤ life_bound first.manner.care (length first.addresses) first.patience → looked.reader.patience ≡ first.patience → IsReader looked.reader → AreLookedAt samples options looked s.said
 are_looked_at samples options first looked line line' is s end found bound same kept = record {
   inquired = subst (λ (r : Reader). Inquired most_turns (inquiry r looked.reader (Some looked.stop)) (Some []) (Some s.said)) is (alone (Some looked.stop) first looked.reader line line' s);
   end = end;
   found = found;
-  bound = subst (λ (r : Reader). looked.reader.sent ≤ life_bound r.manner.care (length samples) r.patience) is bound;
+  bound =
+      subst (λ n. looked.reader.sent ≤ life_bound options.care n options.patience) (length-map samples (λ (w : WordValue). w.address))
+      (subst (λ (r : Reader). looked.reader.sent ≤ life_bound r.manner.care (length r.addresses) r.patience) is bound);
   paid = let whose : first.patience ≡ options.patience = ap (λ (r : Reader). r.patience) is in let few = kept.patient in omega (arith, few, same, whose);
 }
 

@@ -1,18 +1,22 @@
 -- Samples are words of the record, and what was said of them is a look.
-use Rattle.std.proofs.Common.{◌≡◌, ℕ, zero, suc, ◌+◌, ◌-◌, ◌<◌, ◌≤◌, List, length, map, get_or, Some, inl, inr, arith, ap, sym, subst, ◌∙◌}
+use Rattle.std.proofs.Common.{◌≡◌, ℕ, zero, suc, ◌+◌, ◌-◌, ◌<◌, ◌≤◌, ◌++◌, ◌⊎◌, List, [], length, map, get_or, Some, inl, inr, arith, ap, sym, subst, ◌∙◌, append-nil}
 use Rattle.std.specs.Prelude.{All}
 use Rattle.std.proofs.lemmas.List.{get_or-map, length-map}
+use Rattle.std.proofs.lemmas.List.Elements.{All-append}
 use Rattle.tape_image.specs.Word.{WordValue}
 use Rattle.host_core.specs.Core.{no_word, word_nr}
 use Rattle.host_devices.specs.declared.item.Item.{Item}
 use Rattle.reading_core.specs.Addresses.{addresses_of}
+use Rattle.looking_law.specs.RecordLook.{IsHighest, IsOfRecord}
 use Rattle.looking_law.specs.Trying.{IsToldOf}
 use Rattle.load_lives.specs.Stops.{WentOut}
 use Rattle.looking_engine.specs.Session.{IsSaid}
 use Rattle.looking_engine.specs.Stopping.{LookStop}
 use Rattle.looking_engine.specs.declared.stop.Stop.TheVariants.{Ended, LineFailed, TurnsOver}
-use Rattle.sample_looks.specs.LooksFirst.{SamplesAreOfTheRecord}
+use Rattle.sample_looks.specs.LooksFirst.{AreOfARecord, SampleLooks, SamplesAreOfTheRecord, WereMade, looked_at}
 use Rattle.sample_looks.specs.Samples.{AreSamples, AreSpread}
+use Rattle.tape_image.specs.Plan.{PlanValue}
+use Rattle.host_core.specs.declared.progress.Progress.{Progress}
 
 -- ---- places
 
@@ -40,10 +44,6 @@ below count places k s low =
 
 -- ---- words
 
--- the address is that of one of the first words
-abbrev OneOf : List WordValue → ℕ → ℕ → Type 0
-OneOf words count a = (i : ℕ) × (i < count) × (a ≡ (word_nr words i).address)
-
 at_place : (words : List WordValue) (places : List ℕ) (k d : ℕ) → k < length places → get_or (addresses_of (map (word_nr words) places)) k d ≡ (word_nr words (get_or places k 0)).address
 at_place words places k d low =
     get_or-map (λ (w : WordValue). w.address) (map (word_nr words) places) k no_word d (subst (λ n. k < n) (sym (length-map places (word_nr words))) low)
@@ -52,13 +52,13 @@ at_place words places k d low =
 count_is : (words : List WordValue) (places : List ℕ) → length (addresses_of (map (word_nr words) places)) ≡ length places
 count_is words places = length-map (map (word_nr words) places) (λ (w : WordValue). w.address) ∙ length-map places (word_nr words)
 
-of_record : (words : List WordValue) (count : ℕ) (samples : List WordValue) → AreSamples words count samples → All (OneOf words count) (addresses_of samples)
-of_record words count samples (places, spread, are) = subst (λ list. All (OneOf words count) (addresses_of list)) (sym are) each
+pub of_record : (plan : PlanValue) (recorded : Progress) (samples : List WordValue) → AreSamples plan.words recorded.verified samples → All (IsOfRecord plan recorded) (addresses_of samples)
+of_record plan recorded samples (places, spread, are) = subst (λ list. All (IsOfRecord plan recorded) (addresses_of list)) (sym are) each
   where
-    each : All (OneOf words count) (addresses_of (map (word_nr words) places))
+    each : All (IsOfRecord plan recorded) (addresses_of (map (word_nr plan.words) places))
     each k d low =
-        let there : k < length places = subst (λ n. k < n) (count_is words places) low in
-        (get_or places k 0, below count places k spread there, at_place words places k d there)
+        let there : k < length places = subst (λ n. k < n) (count_is plan.words places) low in
+        (get_or places k 0, below recorded.verified places k spread there, at_place plan.words places k d there)
 
 -- ---- what was said
 
@@ -75,9 +75,11 @@ went_told all said looks (inr is) told = inl is
 pub are_of_the_record : SamplesAreOfTheRecord
 are_of_the_record looks are were = record {
   unmarked = are.unmarked;
-  addresses = addresses_of looks.samples;
+  addresses = looked_at looks;
   asked = are.asked;
-  of_record = of_record looks.plan.words looks.recorded.verified looks.samples are.samples;
+  of_plan =
+      All-append (λ a. IsOfRecord looks.plan looks.recorded a ⊎ IsHighest looks.plan a) (addresses_of looks.samples) looks.beyond
+      (λ k d low. inl (of_record looks.plan looks.recorded looks.samples are.samples k d low)) (λ k d low. inr (are.beyond k d low));
   patience = looks.patience;
   patient = are.patient;
   heard = were.inquired.heard;

@@ -1,5 +1,5 @@
 -- Looks in front of a load, on its line: lives in a row, of which each may look first.
-use Rattle.std.specs.Prelude.{◌≡◌, ℕ, ◌+◌, ◌^◌, ◌<◌, ◌≤◌, ◌⊎◌, false, List, [], ◌∷◌, ◌++◌, length, None, Ok, option_to_list, ⊤, Option, Some}
+use Rattle.std.specs.Prelude.{◌≡◌, ℕ, ◌+◌, ◌^◌, ◌<◌, ◌≤◌, ◌⊎◌, false, All, List, [], ◌∷◌, ◌++◌, length, None, Ok, option_to_list, ⊤, Option, Some}
 use Rattle.tape_image.specs.Plan.{PlanValue, IsPlan}
 use Rattle.tape_image.specs.Word.{WordValue}
 use Rattle.odt_machine.specs.Machine.{Machine}
@@ -15,7 +15,7 @@ use Rattle.load_lives.specs.Stops.{WentOut}
 use Rattle.reading_core.specs.Addresses.{AreAddresses, addresses_of}
 use Rattle.reading_core.specs.Reader.{Manner, Reader, begun_in}
 use Rattle.looking_law.specs.Belief.{dialogue as looks_of}
-use Rattle.looking_law.specs.RecordLook.{HasLookedAs}
+use Rattle.looking_law.specs.RecordLook.{HasLookedAs, IsHighest}
 use Rattle.looking_law.specs.Splitting.{BeginsByListening}
 use Rattle.looking_engine.specs.Stopping.{LookStop}
 use Rattle.looking_engine.specs.Inquired.{Inquired, inquiry}
@@ -102,25 +102,30 @@ pub record MayFollow (load : LoadBehindLooks) : Type 0 where
 abbrev pub LoadsMayFollow : Type 0
 LoadsMayFollow = (load : LoadBehindLooks) → MightBegin load → MayFollow load
 
--- looks at a record's samples before a load: its plan, what the record says, the samples, how it looks, how many mishaps the looks survive, and what went
--- out of them
+-- looks at a record's samples before a load: its plan, what the record says, the samples, the addresses beyond them, how it looks, how many mishaps the
+-- looks survive, and what went out of them
 pub record SampleLooks : Type 0 where
   pub plan : PlanValue
   pub recorded : Progress
   pub samples : List WordValue
+  pub beyond : List ℕ
   pub manner : Manner
   pub patience : ℕ
   pub items : List Item
 
+abbrev pub looked_at : SampleLooks → List ℕ
+looked_at looks = addresses_of looks.samples ++ looks.beyond
+
 -- the host that looks, at its beginning
 abbrev pub looker_at : SampleLooks → Reader
-looker_at looks = begun_in looks.manner (addresses_of looks.samples) [] looks.patience
+looker_at looks = begun_in looks.manner (looked_at looks) [] looks.patience
 
--- the record has no mark, and these are samples of its words
+-- the record has no mark, and these are samples of its words, beyond which only the plan's highest word is looked at
 pub record AreOfARecord (looks : SampleLooks) : Type 0 where
   pub unmarked : looks.recorded.going ≡ false
   pub samples : AreSamples looks.plan.words looks.recorded.verified looks.samples
-  pub asked : AreAddresses (addresses_of looks.samples)
+  pub beyond : All (IsHighest looks.plan) looks.beyond
+  pub asked : AreAddresses (looked_at looks)
   pub patient : looks.patience < 2 ^ 32
 
 -- they came about as `look_at_samples` promises, and this went out, also where the call that failed sent its key after all
@@ -133,6 +138,6 @@ pub record WereMade (looks : SampleLooks) : Type 0 where
   pub inquired : Inquired turns (inquiry (looker_at looks) last (Some stop)) line line'
   pub out : WentOut (looks_of (looker_at looks) inquired.heard) inquired.said looks.items
 
--- what they said is such a look at words of the record
+-- what they said is such a look
 abbrev pub SamplesAreOfTheRecord : Type 0
 SamplesAreOfTheRecord = (looks : SampleLooks) → AreOfARecord looks → WereMade looks → HasLookedAs looks.manner looks.plan looks.recorded looks.items

@@ -41,7 +41,7 @@ returns-in_err-lived-clause-err g c =
     c.from_residual-in_err-lived.ensures.1
     (of_beginning (IsDrivenOn keeper) asked _ (around_of g.S.Surroundings c.first_life.new.around) _ _ _ _ _
     _ c.in_err-lived.field-0.0 c.in_ok-first.ensures.opened
-    (subst (λ lines. IsBeginningFault c.in_ok-first.writable c.in_ok-first.first (gone (around_of g.S.Surroundings c.first_life.new.around) lines ⇒ gone_of g.S.Surroundings c.begin.new.around) c.in_err-lived.field-0.0)
+    (subst (λ lines. IsBeginningFault (opened_as c.in_ok-first.first c.args.options.fast c.in_ok-first.writable) (gone (around_of g.S.Surroundings c.first_life.new.around) lines ⇒ gone_of g.S.Surroundings c.begin.new.around) c.in_err-lived.field-0.0)
     c.first_life.ensures.lines c.in_err-lived.ensures.fault)))
     (search rules)
 
@@ -65,7 +65,7 @@ returns-in-Over g c =
       call = c.first_life.ensures.call;
     })
     c.in-Over.lived
-    (subst (IsBeginning tells life (opened.setting.around ⇒ between.setting.around)) c.in-Over.is (c.in_ok-lived.ensures.begun c.args.options.fast))
+    (subst (IsBeginning tells life (opened.setting.around ⇒ between.setting.around)) c.in-Over.is (c.in_ok-lived.ensures.begun))
     c.in_ok-lived.ensures.lines
     (subst (λ beginning. Gains opened.asked between.asked (asked_to_begin opened.call beginning)) c.in-Over.is c.in_ok-lived.ensures.asked) in
     record {
@@ -78,7 +78,7 @@ go_on-gone-requires-clause-room g c =
     let is : IsBeginning (tells_of g.S.Surroundings g.S.Line.Line g.S.Keeper.Keep) (opened_as c.in_ok-first.first c.args.options.fast c.in_ok-first.writable)
     (around_of g.S.Surroundings c.first_life.new.around ⇒ around_of g.S.Surroundings c.begin.new.around) (Begun c.in-Begun.begun) =
     subst (IsBeginning (tells_of g.S.Surroundings g.S.Line.Line g.S.Keeper.Keep) (opened_as c.in_ok-first.first c.args.options.fast c.in_ok-first.writable)
-    (around_of g.S.Surroundings c.first_life.new.around ⇒ around_of g.S.Surroundings c.begin.new.around)) c.in-Begun.is (c.in_ok-lived.ensures.begun c.args.options.fast) in
+    (around_of g.S.Surroundings c.first_life.new.around ⇒ around_of g.S.Surroundings c.begin.new.around)) c.in-Begun.is (c.in_ok-lived.ensures.begun) in
     is.room_is
 
 pub returns : goal.returns
@@ -100,7 +100,7 @@ returns g c =
       call = c.first_life.ensures.call;
     })
     c.in-Begun.begun begun stubs c.go_on-gone.result c.go_on-gone.new.line c.go_on-gone.new.keeper
-    (subst (IsBeginning tells life (opened.setting.around ⇒ begun.setting.around)) c.in-Begun.is (c.in_ok-lived.ensures.begun c.args.options.fast))
+    (subst (IsBeginning tells life (opened.setting.around ⇒ begun.setting.around)) c.in-Begun.is (c.in_ok-lived.ensures.begun))
     c.bring_stubs-stubs.ensures.asked
     (record {
       between = held (line_told g.S.Line.Line c.bring_stubs-stubs.new.line) c.bring_stubs-stubs.new.keeper;

@@ -15,6 +15,7 @@ loop-sample-preserved c = record {
         length-map (take c.loop-sample.sample-index c.args.samples.now) (λ (w : WordValue). w.address),
         length-take c.loop-sample.sample-index c.args.samples.now,
         c.loop-sample.invariant.room,
+        c.requires.few,
         c.loop-sample-test.true,
       ))) c.push.ensures.items
       ∙ (ap (λ (addresses : List ℕ). addresses ++ c.address.result ∷ []) c.loop-sample.invariant.so_far
@@ -23,5 +24,5 @@ loop-sample-preserved c = record {
   room = omega (arith, c.loop-sample.invariant.room, c.push.ensures.capacity);
 }
 
-pub returns : goal.returns
-returns c = c.loop-sample.invariant.so_far ∙ ap addresses_of (take_all c.loop-sample.sample-index c.args.samples.now c.loop-sample-test.false)
+pub returns-clause-items : goal.returns-clause-items
+returns-clause-items c = c.loop-sample.invariant.so_far ∙ ap addresses_of (take_all c.loop-sample.sample-index c.args.samples.now c.loop-sample-test.false)

@@ -1,7 +1,5 @@
 use Rattle.std.proofs.Common.{◌≡◌, ◌∙◌, ℕ, ◌+◌, ◌*◌, ◌≤◌, ◌-◌, ◌++◌, [], List, length, Some, refl, subst, sym, ap, arith}
 use Rattle.std.specs.Prelude.{IfSome}
-use Rattle.tape_image.specs.Word.{WordValue}
-use Rattle.reading_core.specs.Bound.{life_bound}
 use Rattle.console_lines.specs.Dialling.{asked_once}
 use Rattle.host_devices.specs.Devices.{line_told}
 use Rattle.host_devices.specs.Failures.{CountsFault}
@@ -24,9 +22,17 @@ use Rattle.tape_shelf.specs.ShelfTold.{AreDone}
 use Rattle.machine_look.specs.Adding.{AddsAll}
 use Rattle.machine_look.specs.Behind.{IsRead, Saving, addresses_behind, begun_behind}
 use Rattle.machine_look.specs.Save.{save_at}
-use Rattle.machine_look.proofs.Courses.{are_looked_at, held_up, is_read}
+use Rattle.machine_look.proofs.Courses.{are_looked_at, begins_looking, found_there, held_up, is_read}
 use Rattle.machine_look.proofs.Looks.{given_back}
 use Rattle.machine_look.proofs.reading_blocks.read_over.Goals as goal
+
+pub look_at_samples-looked-requires-clause-begun : goal.look_at_samples-looked-requires-clause-begun
+look_at_samples-looked-requires-clause-begun g c =
+    (begins_looking c.args.hosts.samples.items _ c.args.options c.args.hosts.looker c.requires.hosts.looker c.deref.ensures.value).0
+
+pub look_at_samples-looked-requires-clause-asked : goal.look_at_samples-looked-requires-clause-asked
+look_at_samples-looked-requires-clause-asked g c =
+    (begins_looking c.args.hosts.samples.items _ c.args.options c.args.hosts.looker c.requires.hosts.looker c.deref.ensures.value).1
 
 pub returns-then-not-all_stand-clause-course : goal.returns-then-not-all_stand-clause-course
 returns-then-not-all_stand-clause-course g c =
@@ -39,8 +45,8 @@ returns-then-not-all_stand-clause-course g c =
     let whose = ap (λ (r : Reader). r.patience) hosts.looker in (
       held_up saving _ looked.result samples inquired.turns.session.said hosts.of_found
           (are_looked_at samples c.args.options c.args.hosts.looker looked.result (told c.in_ok-line.line).said (told looked.new.line).said hosts.looker inquired.turns.session inquired.turns.end
-          (subst (λ (list : List WordValue). IsFound list looked.result.reader.values looked.result.stop looked.result.finding) c.deref.ensures.value looked.ensures.found)
-          (subst (λ (list : List WordValue). looked.result.reader.sent ≤ life_bound c.args.hosts.looker.manner.care (length list) c.args.hosts.looker.patience) c.deref.ensures.value looked.ensures.bound)
+          (found_there samples _ c.args.options c.args.hosts.looker looked.result.reader looked.result.stop looked.result.finding hosts.looker c.deref.ensures.value inquired.same_addresses inquired.kept looked.ensures.found)
+          looked.ensures.bound
           inquired.same_patience inquired.kept)
           inquired.kept (let long = hosts.looks.long in omega (arith, long, whose)) (λ all. absurd (cc (c.all_stand.ensures.1 all, c.if-not-all_stand.true)))
           (subst (λ asked. Gains (g.R.Reach.asked c.args.console.now) asked (asked_once (g.R.Reach.call c.args.console.now))) (sym c.let_go.ensures.asked) c.in_ok-line.ensures.asked)
@@ -74,10 +80,10 @@ returns-in-Some-clause-course g c =
     let line' = (told read.new.line).said in
     let whose = ap (λ (r : Reader). r.patience) hosts.looker in
     let all : looked.result.finding ≡ AllStand = c.all_stand.ensures.0 c.if-not-all_stand.false in
-    let seen = subst (λ (list : List WordValue). IsFound list looked.result.reader.values looked.result.stop looked.result.finding) c.deref.ensures.value looked.ensures.found in
+    let seen = found_there samples _ options c.args.hosts.looker looked.result.reader looked.result.stop looked.result.finding hosts.looker c.deref.ensures.value inquired.same_addresses inquired.kept looked.ensures.found in
     let stop_is : looked.result.stop ≡ Ended Complete = (subst (λ f. IsFound samples looked.result.reader.values looked.result.stop f) all seen).0 in
     let s = are_looked_at samples options c.args.hosts.looker looked.result line mid hosts.looker inquired.turns.session inquired.turns.end seen
-    (subst (λ (list : List WordValue). looked.result.reader.sent ≤ life_bound c.args.hosts.looker.manner.care (length list) c.args.hosts.looker.patience) c.deref.ensures.value looked.ensures.bound) inquired.same_patience inquired.kept in
+    looked.ensures.bound inquired.same_patience inquired.kept in
     let manner : Manner = manner_of options.care [] in
     let begins : c.with_care-core.result ≡ begun_behind saving looked.result.reader =
     c.with_care-core.ensures.begun
@@ -123,10 +129,10 @@ returns-clause-fault g c =
     let line' = (told read.new.line).said in
     let whose = ap (λ (r : Reader). r.patience) hosts.looker in
     let all : looked.result.finding ≡ AllStand = c.all_stand.ensures.0 c.if-not-all_stand.false in
-    let seen = subst (λ (list : List WordValue). IsFound list looked.result.reader.values looked.result.stop looked.result.finding) c.deref.ensures.value looked.ensures.found in
+    let seen = found_there samples _ options c.args.hosts.looker looked.result.reader looked.result.stop looked.result.finding hosts.looker c.deref.ensures.value inquired.same_addresses inquired.kept looked.ensures.found in
     let stop_is : looked.result.stop ≡ Ended Complete = (subst (λ f. IsFound samples looked.result.reader.values looked.result.stop f) all seen).0 in
     let s = are_looked_at samples options c.args.hosts.looker looked.result line mid hosts.looker inquired.turns.session inquired.turns.end seen
-    (subst (λ (list : List WordValue). looked.result.reader.sent ≤ life_bound c.args.hosts.looker.manner.care (length list) c.args.hosts.looker.patience) c.deref.ensures.value looked.ensures.bound) inquired.same_patience inquired.kept in
+    looked.ensures.bound inquired.same_patience inquired.kept in
     let manner : Manner = manner_of options.care [] in
     let begins : c.with_care-core.result ≡ begun_behind saving looked.result.reader =
     c.with_care-core.ensures.begun

@@ -10,6 +10,7 @@ use Rattle.request_values.specs.declared.request.PrintRequest.TheVariants.{Check
 use Rattle.request_values.specs.declared.request.Rehearsal.{Rehearsal}
 use Rattle.tape_commands.specs.Printing.{AreNamesOf}
 use Rattle.tape_commands.specs.declared.printing.InputNames.TheVariants.{Tapes, Scripted}
+use Rattle.ldaodt.specs.Names.{IsOut, NamesTold}
 use Rattle.ldaodt.specs.Misplaced.{IsAmong, IsOfPlace, NameAt, inputs_at, tapes_at}
 
 among_left : (name : NameAt) (xs ys : List NameAt) → IsAmong name xs → IsAmong name (xs ++ ys)
@@ -39,6 +40,12 @@ pub either : (found first other : Option Failure) (xs ys : List NameAt) → foun
     → IfSome found (IsOfPlace (xs ++ ys))
 either found (Some failure) other xs ys is one two = subst (λ f. IfSome f (IsOfPlace (xs ++ ys))) (sym is) (before_more failure xs ys one)
 either found None other xs ys is one two = subst (λ f. IfSome f (IsOfPlace (xs ++ ys))) (sym is) (some_behind other xs ys two)
+
+-- either of them is said of a name that is out of place
+pub either_out : (told : NamesTold) (found first other : Option Failure) → found ≡ option_or first other → IfSome first (IsOut told) → IfSome other (IsOut told)
+    → IfSome found (IsOut told)
+either_out told found (Some failure) other is one two = subst (λ f. IfSome f (IsOut told)) (sym is) one
+either_out told found None other is one two = subst (λ f. IfSome f (IsOut told)) (sym is) two
 
 -- one of the tapes
 tape_at : (names : List (Bor (List ℕ))) (i : ℕ) (d : Bor (List ℕ)) → i < length names → IsAmong (get_or names i d, place.Tape) (tapes_at names)

@@ -1,12 +1,14 @@
 -- What becomes of the words of a command line (this project's own).
-use Rattle.std.specs.Prelude.{◌≡◌, ◌⊎◌, ℕ, Bool, true, false, List}
+use Rattle.std.specs.Prelude.{◌≡◌, ◌⊎◌, ℕ, Bool, true, false, List, Option}
 use Rattle.std.specs.Borrow.{Bor}
 use Rattle.requests.specs.Attempt.{IsAttempted}
 use Rattle.requests.specs.Moment.{Moment}
 use Rattle.request_values.specs.Change.{◌⇒◌}
+use Rattle.request_values.specs.declared.request.MachineRequest.{MachineRequest}
 use Rattle.request_values.specs.declared.request.Request.{Request}
 use Rattle.request_values.specs.declared.request.Request.TheVariants.{Tape, Machine}
 use Rattle.endings.specs.Failure.{IsPrinted}
+use Rattle.endings.specs.FaultOutput.{StandardError}
 use Rattle.endings.specs.Held.{Held}
 use Rattle.endings.specs.declared.failure.Failure.TheVariants.{Misplaced}
 use Rattle.endings.specs.declared.place.Place.{Place}
@@ -18,48 +20,62 @@ use Rattle.command_line.specs.Explanation.{IsExplained}
 use Rattle.command_line.specs.Help.{IsAnswerTo}
 use Rattle.command_line.specs.Wanted.{IsAskedBy}
 use Rattle.ldaodt.specs.Misplaced.{IsAmong, names_at}
+use Rattle.ldaodt.specs.Names.{IsOutAt, NamesTold}
 use Rattle.run_log.specs.LogLine.{IsLogged}
-use Rattle.run_log.specs.Report.{Noted}
+use Rattle.run_log.specs.Report.{AreNotesSince, Noted}
 
 -- nothing was asked of the system, and standard error tells of a name of the request that can't be what its place asks for
-pub record IsMisplaced (request : Request) (before after : Moment) (ended : Status) : Type 0 where
+pub record IsMisplaced (names : NamesTold) (request : Request) (before after : Moment) (ended : Status) : Type 0 where
   pub name : Bor (List ℕ)
   pub place : Place
   pub own : IsAmong (name, place) (names_at request)
+  pub out : IsOutAt names place name.now
   pub told : IsPrinted before.held.err after.held.err (Misplaced name place)
   pub quiet : after ≡ record before { held = record before.held { err = after.held.err } }
   pub status_is : ended ≡ BadCommandLine
 
 -- a request was attempted, or a name of it is out of place
-abbrev pub IsTried : Request → Moment → Moment → Status → Type 0
-IsTried request before after ended = IsAttempted request (before ⇒ after) ended ⊎ IsMisplaced request before after ended
+abbrev pub IsTried : NamesTold → Request → Moment → Moment → Status → Type 0
+IsTried names request before after ended = IsAttempted request (before ⇒ after) ended ⊎ IsMisplaced names request before after ended
 
--- standard error has the line of a run at a machine that ended so, with some report and number of changed characters, and nothing else is another
--- than before; of any other run nothing is said
-abbrev pub IsRunLogged : Request → Status → Held → Held → Type 0
-IsRunLogged (Machine request) ended held held' =
-    (held' ≡ record held { err = held'.err })
-    × ((report : Noted) × (changed : ℕ) × IsLogged (record { request = request; status = ended; report = report; changed = changed }) held.err held'.err)
-IsRunLogged (Tape request) ended held held' = held' ≡ held
+-- the line of a run at a machine that ended so, with what is noted of all that was written to standard output since it held this, and some number of
+-- changed characters
+abbrev pub IsLineOf : MachineRequest → Option (List ℕ) → Status → Held → StandardError → Type 0
+IsLineOf request first ended held err' =
+    (report : Noted) × (changed : ℕ) × AreNotesSince first held.out report
+    × IsLogged (record { request = request; status = ended; report = report; changed = changed }) held.err err'
+
+-- standard error has that line, and nothing else is another than before; of any other run nothing is said
+abbrev pub IsRunLogged : Request → Option (List ℕ) → Status → Held → Held → Type 0
+IsRunLogged (Machine request) first ended held held' = (held' ≡ record held { err = held'.err }) × IsLineOf request first ended held held'.err
+IsRunLogged (Tape request) first ended held held' = held' ≡ held
 
 -- the same, where it is wanted
-abbrev pub is_logged_if : Bool → Request → Status → Held → Held → Type 0
-is_logged_if true request ended held held' = IsRunLogged request ended held held'
-is_logged_if false request ended held held' = held' ≡ held
+abbrev pub is_logged_if : Bool → Request → Option (List ℕ) → Status → Held → Held → Type 0
+is_logged_if true request first ended held held' = IsRunLogged request first ended held held'
+is_logged_if false request first ended held held' = held' ≡ held
 
-abbrev pub IsLoggedIf : Wanted → Status → Held → Held → Type 0
-IsLoggedIf wanted ended held held' = is_logged_if wanted.log wanted.request ended held held'
+abbrev pub IsLoggedIf : Option (List ℕ) → Wanted → Status → Held → Held → Type 0
+IsLoggedIf first wanted ended held held' = is_logged_if wanted.log wanted.request first ended held held'
+
+-- what names lead to, and what standard output held at first, each as far as it is told
+pub record Around : Type 0 where
+  pub names : NamesTold
+  pub held : Option (List ℕ)
+
+abbrev pub around : NamesTold → Option (List ℕ) → Around
+around names held = record { names = names; held = held }
 
 -- what the words ask for was tried; then the run may have had its line in a log
-pub record IsDone (words : List (List ℕ)) (before after : Moment) (ended : Status) : Type 0 where
+pub record IsDone (around : Around) (words : List (List ℕ)) (before after : Moment) (ended : Status) : Type 0 where
   pub wanted : Wanted
   pub asked : IsAskedBy words wanted
   pub between : Held
-  pub tried : IsTried wanted.request before (record after { held = between }) ended
-  pub logged : IsLoggedIf wanted ended between after.held
+  pub tried : IsTried around.names wanted.request before (record after { held = between }) ended
+  pub logged : IsLoggedIf around.held wanted ended between after.held
 
 -- what the words ask for was tried; or the words were explained, by help only where they ask for it, and nothing was asked of the system
-abbrev pub IsAnswered : List (List ℕ) → Moment → Moment → Status → Type 0
-IsAnswered words before after ended =
-    IsDone words before after ended
+abbrev pub IsAnswered : Around → List (List ℕ) → Moment → Moment → Status → Type 0
+IsAnswered around words before after ended =
+    IsDone around words before after ended
     ⊎ ((answer : NoRequest) × IsAnswerTo words answer × IsExplained answer before.held after.held ended × (after.asked ≡ before.asked))

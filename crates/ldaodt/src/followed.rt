@@ -1,5 +1,6 @@
 //! Tapes that a file has more behind, which nobody is told of else.
 
+use crate::names::Names;
 use byte_io::read_up_to;
 use input_files::is_input;
 use request_values::{MachineRequest, PrintRequest, Request, TapeRequest};
@@ -14,8 +15,8 @@ const LOOKED_AT: usize = 1_048_576;
 
 /// Tells whoever waits at a terminal what stands behind the tapes of a request, each in its file. Only plain files are
 /// read for that; what can't be is left to whoever takes the tapes.
-pub(crate) fn say_followed<T: Print>(
-    rt: &HostRuntime,
+pub(crate) fn say_followed<N: Names, T: Print>(
+    rt: &N,
     alloc: Global,
     terminal: &T,
     request: &Request<'_>,
@@ -50,7 +51,7 @@ fn printed_tapes<'a, 'b>(request: &'b PrintRequest<'a>) -> Option<&'b [&'a str]>
 }
 
 // The same of one file.
-fn say_followed_in<T: Print>(rt: &HostRuntime, alloc: Global, terminal: &T, name: &str) {
+fn say_followed_in<N: Names, T: Print>(rt: &N, alloc: Global, terminal: &T, name: &str) {
     let Ok(metadata) = fs::metadata(rt, name) else {
         return;
     };

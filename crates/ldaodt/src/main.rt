@@ -4,6 +4,7 @@
 
 mod followed;
 mod misplaced;
+mod names;
 mod program;
 
 use command_line::words_of;
@@ -13,6 +14,7 @@ use run_log::NotedOutput;
 use std::fs;
 use std::fs::File;
 use std::io::{Eprint, IsTerminal};
+use std::marker::Brand;
 use std::os::fd::{AsRawFd, IntoRawFd, RawFd};
 use std::process::ExitCode;
 use witness::{WatchedFile, Witness};
@@ -26,7 +28,7 @@ fn main(rt: HostRuntime) -> ExitCode {
     let is_typed = input.is_terminal();
     let mut streams = Streams {
         input: WatchedFile::new(input, &witness),
-        out: NotedOutput::new(PipedOutput::new(rt.stdout())),
+        out: NotedOutput::<_, Brand>::new(PipedOutput::new(rt.stdout())),
         err: rt.stderr(),
     };
     let words = match words_of(&rt) {

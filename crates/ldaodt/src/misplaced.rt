@@ -1,28 +1,28 @@
 //! Names that stand in each other's places on the command line, as a tape where the line belongs: what a device
 //! sends would be waited for, and nobody told.
-ghost use Rattle.std.specs.Prelude.{◌≡◌, [], ◌∷◌, None, IfSome};
+ghost use Rattle.std.specs.Prelude.{◌≡◌, [], ◌∷◌, None, IfSome, true, false};
+ghost use Rattle.std.specs.Bool.{OnTrue};
 ghost use Rattle.request_values.specs.declared.request.Request.{Request};
 ghost use Rattle.request_values.specs.declared.request.PrintRequest.{PrintRequest};
 ghost use Rattle.request_values.specs.declared.request.TapeRequest.{TapeRequest};
 ghost use Rattle.endings.specs.declared.place.Place.{Place};
 ghost use Rattle.ldaodt.specs.Misplaced.{IsAmong, IsOfPlace, inputs_at, names_at, record_at, tapes_at};
+ghost use Rattle.ldaodt.specs.Names.{IsOut, IsOutAs, is_line};
 
+use crate::names::Names;
 use console_lines::is_path;
 use endings::{Failure, Place};
 use input_files::is_input;
 use request_values::{MachineRequest, PrintRequest, Request, TapeRequest};
-use std::fs;
-use std::fs::File;
-use std::io::IsTerminal;
-use std::os::unix::fs::FileTypeExt;
 use tape_commands::{InputNames, names_of};
 
 /// The first name of a request that can't be what its place asks for. Nothing is read for that.
 ///
 /// What is not there, or can't be opened, is left to whoever opens it; so is a line that is a character device,
 /// which to open twice may do something.
-pub(crate) fn misplaced<'a>(rt: &HostRuntime, request: &Request<'a>) -> Option<Failure<'a>>
+pub(crate) fn misplaced<'a, N: Names>(rt: &N, request: &Request<'a>) -> Option<Failure<'a>>
     ensures misplaced { IfSome result (IsOfPlace (names_at request.now)) }
+    ensures out { IfSome result (IsOut (N.told rt.now)) }
     ensures checked { request.now ≡ Request.Tape (TapeRequest.Print PrintRequest.CheckInput) → result ≡ None }
 {
     if let Some((line, place)) = line_of(request)
@@ -46,6 +46,7 @@ pub(crate) fn misplaced<'a>(rt: &HostRuntime, request: &Request<'a>) -> Option<F
 // The line of a request at a real machine, and whose it is.
 fn line_of<'a>(request: &Request<'a>) -> Option<(&'a str, Place)>
     ensures own { IfSome result (λ line. IsAmong line (names_at request.now)) }
+    ensures line { IfSome result (λ line. is_line line.1 ≡ true) }
     ensures checked { request.now ≡ Request.Tape (TapeRequest.Print PrintRequest.CheckInput) → result ≡ None }
 {
     match request {
@@ -65,19 +66,16 @@ fn line_of<'a>(request: &Request<'a>) -> Option<(&'a str, Place)>
 }
 
 // Whether a line is the path of something that is there and no device.
-fn is_no_device(rt: &HostRuntime, line: &str) -> bool {
-    if !is_path(line) {
-        return false;
-    }
-    match fs::metadata(rt, line) {
-        Ok(metadata) => !metadata.file_type().is_char_device(),
-        Err(_) => false,
-    }
+fn is_no_device<N: Names>(rt: &N, line: &str) -> bool
+    ensures { OnTrue result (IsOutAs (N.told rt.now) true line.now) }
+{
+    is_path(line) && rt.is_no_device(line)
 }
 
 // The first of some tapes that is a terminal. Standard input may be one.
-fn terminal_among<'a>(rt: &HostRuntime, tapes: &[&'a str]) -> Option<Failure<'a>>
-    ensures { IfSome result (IsOfPlace (tapes_at tapes.now)) }
+fn terminal_among<'a, N: Names>(rt: &N, tapes: &[&'a str]) -> Option<Failure<'a>>
+    ensures misplaced { IfSome result (IsOfPlace (tapes_at tapes.now)) }
+    ensures out { IfSome result (IsOut (N.told rt.now)) }
 {
     if is_input(tapes) {
         return None;
@@ -91,8 +89,9 @@ fn terminal_among<'a>(rt: &HostRuntime, tapes: &[&'a str]) -> Option<Failure<'a>
 }
 
 // The first name of a request that only prints which is a terminal's.
-fn terminal_as_input<'a>(rt: &HostRuntime, request: &PrintRequest<'a>) -> Option<Failure<'a>>
+fn terminal_as_input<'a, N: Names>(rt: &N, request: &PrintRequest<'a>) -> Option<Failure<'a>>
     ensures misplaced { IfSome result (IsOfPlace (inputs_at request.now)) }
+    ensures out { IfSome result (IsOut (N.told rt.now)) }
     ensures checked { request.now ≡ PrintRequest.CheckInput → result ≡ None }
 {
     match names_of(request) {
@@ -107,8 +106,9 @@ fn terminal_as_input<'a>(rt: &HostRuntime, request: &PrintRequest<'a>) -> Option
 }
 
 // That octal words have a terminal's name. Standard input may be one.
-fn terminal_as_words<'a>(rt: &HostRuntime, words: &'a str) -> Option<Failure<'a>>
-    ensures { IfSome result (IsOfPlace ((words.entry, Place.Words) ∷ [])) }
+fn terminal_as_words<'a, N: Names>(rt: &N, words: &'a str) -> Option<Failure<'a>>
+    ensures misplaced { IfSome result (IsOfPlace ((words.entry, Place.Words) ∷ [])) }
+    ensures out { IfSome result (IsOut (N.told rt.now)) }
 {
     if is_input(&[words]) {
         return None;
@@ -117,8 +117,9 @@ fn terminal_as_words<'a>(rt: &HostRuntime, words: &'a str) -> Option<Failure<'a>
 }
 
 // That a record, where there is to be one, has a terminal's name.
-fn terminal_as_record<'a>(rt: &HostRuntime, record: Option<&'a str>) -> Option<Failure<'a>>
-    ensures { IfSome result (IsOfPlace (record_at record.entry)) }
+fn terminal_as_record<'a, N: Names>(rt: &N, record: Option<&'a str>) -> Option<Failure<'a>>
+    ensures misplaced { IfSome result (IsOfPlace (record_at record.entry)) }
+    ensures out { IfSome result (IsOut (N.told rt.now)) }
 {
     match record {
         Some(name) => terminal(rt, name, Place::Record),
@@ -126,15 +127,11 @@ fn terminal_as_record<'a>(rt: &HostRuntime, record: Option<&'a str>) -> Option<F
     }
 }
 
-// That a name is a terminal, where it is one. Only a character device is opened: to open a pipe does something.
-fn terminal<'a>(rt: &HostRuntime, name: &'a str, place: Place) -> Option<Failure<'a>>
-    ensures { IfSome result (IsOfPlace ((name.entry, place) ∷ [])) }
+// That a name is a terminal, where it is one.
+fn terminal<'a, N: Names>(rt: &N, name: &'a str, place: Place) -> Option<Failure<'a>>
+    ensures misplaced { IfSome result (IsOfPlace ((name.entry, place) ∷ [])) }
+    ensures out { is_line place ≡ false → IfSome result (IsOut (N.told rt.now)) }
 {
-    let metadata = fs::metadata(rt, name).ok()?;
-    if !metadata.file_type().is_char_device() {
-        return None;
-    }
-    let file = fs::open(rt, name).ok()?;
-    file.is_terminal()
+    rt.is_terminal(name)
         .then_some(Failure::Misplaced(name, place))
 }

@@ -10,15 +10,16 @@ ghost use Rattle.endings.specs.declared.status.Status.{Status};
 ghost use Rattle.endings.specs.Status.{status_code};
 ghost use Rattle.requests.specs.Moment.{moment};
 ghost use Rattle.requests.specs.Attempt.{IsAttempted};
-ghost use Rattle.ldaodt.specs.Answer.{IsAnswered, IsLoggedIf};
+ghost use Rattle.ldaodt.specs.Answer.{IsAnswered, IsLoggedIf, around};
 
 use crate::followed::say_followed;
 use crate::misplaced::misplaced;
+use crate::names::Names;
 use command_line::{Wanted, explain, parse};
 use endings::{FaultOutput, Output, Status, Streams, print_failure};
 use request_values::Request;
 use requests::{Kinds, System, attempt};
-use run_log::{NotedOutput, Run, log_run};
+use run_log::{FirstHeld, NotedOutput, Run, log_run};
 use std::alloc::Global;
 use std::io::{Print, Read};
 use witness::Witness;
@@ -30,12 +31,20 @@ use witness::Witness;
 /// standard error, a fault as one line, and behind it the system's reason, as the witness has it, and that a machine's
 /// line changed characters. What can't be written there is not told, nor that nobody reads any more what only prints. A load or a look shows on the terminal, where
 /// there is one, how far it is. A run at a machine has the line of a log behind all else, where the words ask for one.
-pub(crate) fn program<K: Kinds, R: Read, W: Output, E: FaultOutput, T: Print>(
-    rt: &HostRuntime,
+pub(crate) fn program<
+    N: Names,
+    K: Kinds,
+    R: Read,
+    W: Output,
+    E: FaultOutput,
+    T: Print,
+    F: FirstHeld,
+>(
+    rt: &N,
     system: System<K>,
     alloc: Global,
     words: &[String],
-    streams: &mut Streams<R, NotedOutput<W>, E>,
+    streams: &mut Streams<R, NotedOutput<W, F>, E>,
     terminal: Option<&T>,
     witness: &Witness,
 ) -> (System<K>, u8)
@@ -46,7 +55,8 @@ pub(crate) fn program<K: Kinds, R: Read, W: Output, E: FaultOutput, T: Print>(
         × (result.1 ≡ status_code status) }
     // Whatever the words are, what they ask for is tried, and told to a log where that is wanted, or they are explained.
     ensures answered { (status : Status)
-        × IsAnswered (map string_bytes words.now) (moment K.Disk.holds system streams.old) (moment K.Disk.holds result.0 streams.new) status
+        × IsAnswered (around (N.told rt.now) F.held) (map string_bytes words.now)
+        (moment K.Disk.holds system streams.old) (moment K.Disk.holds result.0 streams.new) status
         × (result.1 ≡ status_code status) }
 {
     match parse(alloc, words) {
@@ -74,15 +84,15 @@ pub(crate) fn program<K: Kinds, R: Read, W: Output, E: FaultOutput, T: Print>(
 
 // Says the line of a run that ended with this status, and whose line changed so many characters, where one at a machine
 // is to be in a log.
-fn log_if_wanted<K: Kinds, R: Read, W: Output, E: FaultOutput>(
+fn log_if_wanted<K: Kinds, R: Read, W: Output, E: FaultOutput, F: FirstHeld>(
     alloc: Global,
     system: &System<K>,
     wanted: &Wanted<'_>,
     status: Status,
     changed: u32,
-    streams: &mut Streams<R, NotedOutput<W>, E>,
+    streams: &mut Streams<R, NotedOutput<W, F>, E>,
 )
-    ensures { IsLoggedIf wanted.now status streams.old streams.new }
+    ensures { IsLoggedIf F.held wanted.now status streams.old streams.new }
 {
     if !wanted.log {
         return;

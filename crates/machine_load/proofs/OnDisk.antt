@@ -7,7 +7,7 @@ use Rattle.record_file.specs.Beginning.{IsBegun, IsNotBegun}
 use Rattle.record_file.specs.Closing.{Remains}
 use Rattle.host_devices.specs.Told.{HasAsked}
 use Rattle.record_file.specs.DiskStep.{DiskStep}
-use Rattle.record_file.specs.Known.{IsUntouched, Known}
+use Rattle.record_file.specs.Known.{IsNoDevice, IsUntouched, Known}
 use Rattle.record_file.specs.Reading.{IsRead, IsReadOf, IsNotRead, found_in}
 use Rattle.record_file.specs.declared.old_record.OldRecord.{OldRecord}
 use Rattle.record_file.specs.declared.record_fault.RecordFault.{RecordFault}
@@ -25,10 +25,10 @@ pub read_answered : {H : Type 0} (known_of : H → Known) (held held' : Option H
     → before.known ≡ option_map known_of held → after.known ≡ option_map known_of held' → after.name ≡ before.name
     → IfOk result (λ old. HasAsked before.asked after.asked (IsRead before.name (found_in old) before.known after.known))
     → IfOk result (λ old. held ≡ None → IsSome held' → IsReadOf before.holds old.text.items)
-    → OnOk result (held ≡ None → IsUntouched after.asked after.known)
+    → OnOk result (held ≡ None → IsNoDevice before.holds after.known) → OnOk result (held ≡ None → IsUntouched after.asked after.known)
     → IfErr result (λ _. HasAsked before.asked after.asked (IsNotRead before.name)) → OnErr result (after.known ≡ before.known)
     → IsReadAnswered (Some before) (Some after) result
-read_answered known_of held held' before after (Ok old) is is' name asked text untouched failed kept = (
+read_answered known_of held held' before after (Ok old) is is' name asked text plain untouched failed kept = (
   name,
   (
     asked.0,
@@ -36,11 +36,12 @@ read_answered known_of held held' before after (Ok old) is is' name asked text u
     record {
       read = asked.2;
       text = λ none some. text (none_mapped known_of held (sym is ∙ none)) (some_mapped known_of held' (subst IsSome is' some));
+      plain = λ none. plain (none_mapped known_of held (sym is ∙ none));
       untouched = λ none. untouched (none_mapped known_of held (sym is ∙ none));
     },
   ),
 )
-read_answered known_of held held' before after (Err fault) is is' name asked text untouched failed kept = (name, (failed.0, failed.1, (failed.2, kept)))
+read_answered known_of held held' before after (Err fault) is is' name asked text plain untouched failed kept = (name, (failed.0, failed.1, (failed.2, kept)))
 
 begun_of : (text name : List ℕ) (known known' : FileKnown) (a b : Option (List DiskStep))
     → MatchOption known ⊥ (λ file. HasAsked a b (IsBegun name file text)) → Remains known' → HasAsked a b (IsBegunOf text name known known')

@@ -7,7 +7,7 @@ use Rattle.load_record.specs.RecordText.{record_text}
 use Rattle.load_record.specs.declared.version.Version.TheVariants.{Second}
 use Rattle.tape_image.specs.Plan.{PlanValue}
 use Rattle.record_file.specs.DiskStep.{DiskStep}
-use Rattle.record_file.specs.Known.{IsUntouched, Known}
+use Rattle.record_file.specs.Known.{IsNoDevice, IsUntouched, Known}
 use Rattle.record_file.specs.Reading.{OldText, IsRead, IsReadOf, IsNotRead, found_in}
 use Rattle.record_file.specs.declared.old_record.OldRecord.{OldRecord}
 use Rattle.record_file.specs.declared.old_record.Writable.{Writable}
@@ -39,10 +39,11 @@ begun_text plan count = record_text Second plan count false
 abbrev pub old_text : List ℕ → Writable → OldText
 old_text text how = record { text = text; writable = how }
 
--- a record was read, and this was found: what the file holds that is held from then on; and to that nothing was written
+-- a record was read, and this was found: what the file holds that is held from then on, which is no device; and to that nothing was written
 pub record IsReadOn (found : OldText) (disk disk' : RecordDisk) (steps : List DiskStep) : Type 0 where
   pub read : IsRead disk.name found disk.known disk'.known steps
   pub text : disk.known ≡ None → IsSome disk'.known → IsReadOf disk.holds found.text
+  pub plain : disk.known ≡ None → IsNoDevice disk.holds disk'.known
   pub untouched : disk.known ≡ None → IsUntouched disk'.asked disk'.known
 
 -- a record was not read, and of its file is known what was known before

@@ -1,5 +1,6 @@
 //! Where the record of a load is: in a file, or in memory alone.
-ghost use Rattle.std.specs.Prelude.{ℕ, IfErr, IfOk, ⊤, Option, Some, None, option_map};
+ghost use Rattle.std.specs.Prelude.{ℕ, List, [], IfErr, IfOk, ⊤, Option, Some, None, option_map};
+ghost use Rattle.tape_values.specs.Told.{IsAsTold};
 ghost use Rattle.machine_load.specs.RecordDisk.{RecordDisk, IsReadAnswered, IsBeginAnswered, begun_text};
 ghost use Rattle.record_file.specs.DiskRecord.{HasBegun};
 ghost use Rattle.record_file.specs.RecordFault.{IsUnbegun, IsUnread};
@@ -19,12 +20,16 @@ pub trait Records {
     /// What a keeper is that was begun with so many words of a plan, where the type says it.
     ghost begins: { Self.Keeper → PlanValue → ℕ → Type 0 } = { λ _ _ _. ⊤ };
 
+    /// What earlier lives left, where the type says it without a disk.
+    ghost left: { Self → Option (List ℕ) } = { λ _. None };
+
     /// The disk on which the record is, with what was asked of it; None where it is on none, or the type doesn't say.
     ghost disk: { Self → Option RecordDisk } = { λ _. None };
 
     /// The record of earlier lives, which from there on is held. It is changed in nothing.
     fn read(&mut self, alloc: Global) -> Result<OldRecord, RecordFault>
         ensures fault { IfErr result IsUnread }
+        ensures left { IfOk result (λ old. IsAsTold (left self.old) old.text.items) }
         ensures disk { IsReadAnswered (disk self.old) (disk self.new) result };
 
     /// Writes the record anew, with the first verified words of the plan, and keeps it from there on.
@@ -71,6 +76,8 @@ pub struct InMemory;
 
 impl Records for InMemory {
     type Keeper = MemoryKeep;
+
+    ghost left = { λ _. Some [] };
 
     fn read(&mut self, alloc: Global) -> Result<OldRecord, RecordFault> {
         Ok(OldRecord {

@@ -19,14 +19,14 @@ use Rattle.tape_shelf.proofs.Added.{done_join, done_one}
 
 -- ---- how a save fails
 
-pub not_begun : (options : SaveOptions) (before after : SaveTold) (fault : ShelfFault) (steps : List ShelfStep) → TakesUpNothing options.range fault steps → HasDone steps before.shelf after.shelf
+pub not_begun : (options : SaveOptions) (before after : SaveTold) (fault : ShelfFault) (steps : List ShelfStep) → TakesUpNothing options.range before.shelf.left fault steps → HasDone steps before.shelf after.shelf
     → after.asked ≡ before.asked → after.lines ≡ before.lines → Keeps before.out after.out → IsSaveFault options before after (fault_of_shelf fault)
 not_begun options before after fault steps refusal done unasked unlined same = by fault refusal
   where
-    so : (why : ShelfFault) → TakesUpNothing options.range why steps → IsSaveNotBegun why options before after
+    so : (why : ShelfFault) → TakesUpNothing options.range before.shelf.left why steps → IsSaveNotBegun why options before after
     so why refusal = record { steps = steps; refusal = refusal; refused = done; not_asked = unasked; no_line = unlined; nothing_reported = same }
 
-    by : (why : ShelfFault) → TakesUpNothing options.range why steps → IsSaveFault options before after (fault_of_shelf why)
+    by : (why : ShelfFault) → TakesUpNothing options.range before.shelf.left why steps → IsSaveFault options before after (fault_of_shelf why)
     by why.IsThere refusal = inl (so why.IsThere refusal)
     by why.PartIsThere refusal = so why.PartIsThere refusal
     by why.NotOfSave refusal = so why.NotOfSave refusal

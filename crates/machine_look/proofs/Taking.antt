@@ -3,8 +3,8 @@ use Rattle.std.proofs.Common.{◌≡◌, ℕ, List, [], ◌∷◌, Option, Some,
 use Rattle.std.specs.Io.KnownBytes.{Keeps}
 use Rattle.request_values.specs.declared.range.AddressRange.{AddressRange}
 use Rattle.tape_shelf.specs.declared.shelf.ShelfFault.{ShelfFault}
-use Rattle.tape_shelf.specs.declared.shelf.ShelfFault.TheVariants.{PartIsThere}
-use Rattle.tape_shelf.specs.FoundPart.{AreFoundInPart, FillBlocks}
+use Rattle.tape_shelf.specs.declared.shelf.ShelfFault.TheVariants.{IsThere, PartIsThere, NotOfSave, Write, Memory}
+use Rattle.tape_shelf.specs.FoundPart.{AreFoundInPart, FillBlocks, IsPartOf, IsRefusedPart}
 use Rattle.machine_look.specs.LookFault.{NoPart, NoRoom, TakesUpNothing}
 use Rattle.machine_look.specs.Save.{BehindPart, InNewRoom, TakesUp}
 use Rattle.tape_shelf.specs.SavedTape.{room_for}
@@ -26,13 +26,23 @@ took_part (Ok v) items range opened a b c there kept fill found done =
     (NotReserved (room_for range) PartIsThere ∷ Resume (items v) ∷ [], BehindPart (items v) fill (of_kept a.left b.left (λ text. AreFoundInPart range text (items v)) kept found), done.0, done.1, (b, there done.0, (c, done.2, refl)))
 took_part (Err fault) items range opened a b c there kept fill found done = tt
 
+-- what was kept is refused for what is so of it
+refused_before : (a b : Option (List ℕ)) (range : AddressRange) (fault : ShelfFault) → Keeps a b → IsRefusedPart range b fault → IsRefusedPart range a fault
+refused_before a b range NotOfSave keeps is = of_kept a b (λ text. IsPartOf range text → ⊥) keeps is
+refused_before a b range IsThere keeps is = tt
+refused_before a b range PartIsThere keeps is = tt
+refused_before a b range Write keeps is = tt
+refused_before a b range Memory keeps is = tt
+
 pub took_no_part : {V : Type 0} (range : AddressRange) (a b c : ShelfTold) (result : Result V ShelfFault) → ((folder : List ℕ) → IsDone folder (NotReserved (room_for range) PartIsThere) a b)
-    → IfErr result (λ fault. (folder : List ℕ) → IsDone folder (NotResumed fault) b c) → IfErr result (λ fault. (steps : List ShelfStep) × TakesUpNothing range fault steps × HasDone steps a c)
-took_no_part range a b c (Ok v) there failed = tt
-took_no_part range a b c (Err fault) there failed = (NotReserved (room_for range) PartIsThere ∷ NotResumed fault ∷ [], NoPart, ([], (b, there [], (c, failed [], refl))))
+    → Keeps a.left b.left → IfErr result (IsRefusedPart range b.left) → IfErr result (λ fault. (folder : List ℕ) → IsDone folder (NotResumed fault) b c)
+    → IfErr result (λ fault. (steps : List ShelfStep) × TakesUpNothing range a.left fault steps × HasDone steps a c)
+took_no_part range a b c (Ok v) there kept refused failed = tt
+took_no_part range a b c (Err fault) there kept refused failed =
+    (NotReserved (room_for range) PartIsThere ∷ NotResumed fault ∷ [], NoPart (refused_before a.left b.left range fault kept refused), ([], (b, there [], (c, failed [], refl))))
 
 pub took_no_room : (range : AddressRange) (fault : ShelfFault) (a b : ShelfTold) → ((folder : List ℕ) → IsDone folder (NotReserved (room_for range) fault) a b)
-    → (steps : List ShelfStep) × TakesUpNothing range fault steps × HasDone steps a b
+    → (steps : List ShelfStep) × TakesUpNothing range a.left fault steps × HasDone steps a b
 took_no_room range fault a b failed = (NotReserved (room_for range) fault ∷ [], NoRoom, ([], (b, failed [], refl)))
 
 pub took_room : (range : AddressRange) (found : List ℕ) (size : ℕ) (opened : List ℕ → Type 0) (a b : ShelfTold) → found ≡ [] → size ≡ room_for range → (folder : List ℕ) × opened folder × IsDone folder (Reserve size) a b

@@ -1,5 +1,5 @@
 -- How a look comes to nothing, and what was done before (this project's own).
-use Rattle.std.specs.Prelude.{◌≡◌, ◌⊎◌, ℕ, ◌<◌, List, [], ◌∷◌, ◌++◌, None}
+use Rattle.std.specs.Prelude.{◌≡◌, ◌⊎◌, ℕ, ◌<◌, List, [], ◌∷◌, ◌++◌, None, Option}
 use Rattle.std.specs.Io.KnownBytes.{Keeps}
 use Rattle.tape_image.specs.Plan.{PlanValue}
 use Rattle.tape_image.specs.Word.{WordValue}
@@ -15,6 +15,7 @@ use Rattle.tape_shelf.specs.declared.shelf.ShelfFault.TheVariants as shelf_fault
 use Rattle.console_lines.specs.Console.{ConsoleTold}
 use Rattle.machine_look.specs.Behind.{IsRead, Saving}
 use Rattle.machine_look.specs.Save.{IsUnadded, IsUnput, IsSavedUnreported, SaveAt, SaveTold, TakesUp}
+use Rattle.tape_shelf.specs.FoundPart.{IsRefusedPart}
 use Rattle.tape_shelf.specs.SavedSteps.{full, not_all_added}
 use Rattle.tape_shelf.specs.SavedTape.{room_for}
 use Rattle.tape_shelf.specs.Shelf.{ShelfStep, NotReserved, NotResumed, NotPut}
@@ -46,15 +47,15 @@ IsVerifyFault plan options console Memory =
     (console.after.asked ≡ console.before.asked) × (console.after.lines ≡ console.before.lines) × Keeps console.before.out console.after.out
 IsVerifyFault plan options console other = IsCompareFault plan.words (verifier plan options) console other
 
--- the shelf could not be taken up: there is no room, or what an earlier save left can't be gone on with
-pub data TakesUpNothing (range : AddressRange) (fault : ShelfFault) : List ShelfStep → Type 0 where
-  NoRoom : TakesUpNothing range fault (NotReserved (room_for range) fault ∷ [])
-  NoPart : TakesUpNothing range fault (NotReserved (room_for range) shelf_fault.PartIsThere ∷ NotResumed fault ∷ [])
+-- the shelf could not be taken up: there is no room, or what an earlier save left, this text, can't be gone on with
+pub data TakesUpNothing (range : AddressRange) (left : Option (List ℕ)) (fault : ShelfFault) : List ShelfStep → Type 0 where
+  NoRoom : TakesUpNothing range left fault (NotReserved (room_for range) fault ∷ [])
+  NoPart : IsRefusedPart range left fault → TakesUpNothing range left fault (NotReserved (room_for range) shelf_fault.PartIsThere ∷ NotResumed fault ∷ [])
 
 -- so it was, and nothing else was done
 pub record IsSaveNotBegun (fault : ShelfFault) (options : SaveOptions) (before after : SaveTold) : Type 0 where
   pub steps : List ShelfStep
-  pub refusal : TakesUpNothing options.range fault steps
+  pub refusal : TakesUpNothing options.range before.shelf.left fault steps
   pub refused : HasDone steps before.shelf after.shelf
   pub not_asked : after.asked ≡ before.asked
   pub no_line : after.lines ≡ before.lines

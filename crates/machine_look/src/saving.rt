@@ -94,7 +94,7 @@ fn take_up<S: Shelf>(
     ensures found { IfOk result (λ found. FillBlocks range found.items) }
     ensures taken { IfOk result (λ found. (taking : List ShelfStep) × TakesUp range (S.told shelf.old).left found.items taking
         × (folder : List ℕ) × S.is_opened_as shelf.new folder × AreDone folder taking (S.told shelf.old) (S.told shelf.new)) }
-    ensures failed { IfErr result (λ fault. (steps : List ShelfStep) × TakesUpNothing range fault steps × HasDone steps (S.told shelf.old) (S.told shelf.new)) }
+    ensures failed { IfErr result (λ fault. (steps : List ShelfStep) × TakesUpNothing range (S.told shelf.old).left fault steps × HasDone steps (S.told shelf.old) (S.told shelf.new)) }
 {
     match shelf.reserve(alloc, tape_room(range)) {
         Ok(()) => Ok(Vec::new(alloc)),

@@ -1,10 +1,10 @@
 -- Rows of the tables of what is asked, by what came of a call.
-use Rattle.std.proofs.Common.{◌≡◌, ℕ, ◌+◌, ◌<◌, ◌≤◌, ◌⊎◌, inl, inr, ◌∙◌, sym, ap, subst, refl, List, [], ◌∷◌, ◌++◌, length, append_assoc, Bool, true, false, Option, Some, None, Result, Ok, Err}
+use Rattle.std.proofs.Common.{◌≡◌, ℕ, ◌+◌, ◌<◌, ◌≤◌, ◌⊎◌, inl, inr, ◌∙◌, sym, ap, subst, refl, List, [], ◌∷◌, ◌++◌, length, Bool, true, false, Option, Some, None, Result, Ok, Err}
 use Rattle.record_file.specs.Beginning.{new_name, Course, NotReplaced, GivenUp, Replaced, course, IsBeside, Whole, Unsynced, NotRenamed, Stopped, IsFileCut, CutAndSynced, NotCut, IsLetGo, Goes, LeadsElsewhere, Stays, StaysBehindLink, IsMadeReady, ReadyDevice, ReadyFile, IsAllWritten, IsWrittenOver, Device as OverDevice, PlainFile as OverFile, IsPlaceSynced, FolderOpened, FolderShut, Replaces}
 use Rattle.record_file.specs.Course.{renamed, was_made}
 use Rattle.host_devices.proofs.Told.{tells_join}
 use Rattle.host_devices.specs.Told.{HasAsked, Tells}
-use Rattle.record_file.specs.DiskStep.{DiskStep, DiskRequest, LedTo, Look, LookAtName, FindSoleFile, Open, Hold, Link, Rename, Remove, SyncFolder, Cut, SyncFile, Did, Failed, step_by, answered, IsNameSeen, Seen, Unseen, IsLookAtName, SeenThere, UnseenThere, AreAside, HasFailed, LeaveAllBut, held_behind}
+use Rattle.record_file.specs.DiskStep.{DiskStep, LedTo, Look, LookAtName, FindSoleFile, Open, Hold, Link, Rename, Remove, SyncFolder, Cut, SyncFile, Did, Failed, step_by, answered, IsNameSeen, Seen, Unseen, IsLookAtName, SeenThere, UnseenThere, AreAside, HasFailed, LeaveAllBut, held_behind}
 use Rattle.record_file.specs.Folder.{IsFolderOf}
 use Rattle.record_file.specs.Holding.{hold_steps, IsHeld, PlainFile, Device, Unknown, InUse, Moved as HeldMoved, DeviceMoved, IsFound, IsMade, Linked, Appeared, LeadsNowhere, IsOpened, Found, Strange, IsTry, Taken as TakenIn, NotHeld, AreVain, OneMore, IsHeldAtLast, IsNotHeld}
 use Rattle.record_file.specs.declared.disk.Access.TheVariants.{ReadOnly, New, Created}

@@ -1,5 +1,5 @@
 -- What is known of the file of a record that is held.
-use Rattle.std.specs.Prelude.{◌≡◌, ℕ, List, [], Bool, Option, Some, IfSome, OnSome}
+use Rattle.std.specs.Prelude.{◌≡◌, ℕ, List, [], Bool, false, Option, Some, IfSome, IsSome, OnSome}
 use Rattle.record_file.specs.DiskStep.{DiskStep}
 use Rattle.record_file.specs.declared.held_file.HeldFile.{HeldFile}
 use Rattle.record_file.specs.declared.made.Made.{Made}
@@ -19,3 +19,7 @@ known_of written held = record { made = held.made; device = held.device; written
 -- nothing was written to it, where its disk tells what was asked
 abbrev pub IsUntouched : Option (List DiskStep) → Option Known → Type 0
 IsUntouched asked file = IfSome file (λ known. OnSome asked (known.written ≡ Some []))
+
+-- it counts as no device, where its disk tells what it holds
+abbrev pub IsNoDevice : Option (List ℕ) → Option Known → Type 0
+IsNoDevice holds file = IsSome holds → IfSome file (λ known. known.device ≡ false)

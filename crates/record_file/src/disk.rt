@@ -70,7 +70,7 @@ pub trait Disk {
     /// Whether a file was opened under a name, and nothing was done with it since.
     ghost is_opened_as: { Self.File → List ℕ → Type 0 } = { λ _ _. ⊤ };
 
-    /// What the file that a name leads to holds, as far as the type tells.
+    /// What the plain file that a name leads to holds, as far as the type tells.
     ghost holds: { Self → List ℕ → Option (List ℕ) } = { λ _ _. None };
 
     /// What a name leads to.

@@ -1,5 +1,6 @@
 //! An open file of a disk: what a record and the tape of a save do with it, and nothing else.
-ghost use Rattle.std.specs.Prelude.{◌≡◌, [], ℕ, List, Option, None, Some, IfOk, OnOk};
+ghost use Rattle.std.specs.Prelude.{◌≡◌, [], ℕ, List, Option, None, Some, IfOk, IsSome, OnOk};
+ghost use Rattle.std.specs.Fs.{IsFile, file_type};
 ghost use Rattle.std.specs.Io.{ReadsAtMost};
 ghost use Rattle.std.specs.Io.KnownBytes.{ReadConsumes};
 ghost use Rattle.byte_io.specs.Input.{IsTaken};
@@ -19,11 +20,12 @@ pub trait DiskFile: SyncWrite + Drop {
     /// All that was written to it, wherever; None where the type doesn't tell.
     ghost written: { Self → Option (List ℕ) } = { λ _. None };
 
-    /// What is left to be read of it; None where the type doesn't tell.
+    /// What is left to be read of it, which is told of plain files alone; None where the type doesn't tell.
     ghost unread: { Self → Option (List ℕ) } = { λ _. None };
 
     /// What file it is.
-    fn metadata(&self) -> io::Result<Metadata>;
+    fn metadata(&self) -> io::Result<Metadata>
+        ensures plain { IfOk result (λ metadata. IsSome (unread self.now) → IsFile (file_type metadata)) };
 
     /// Reads the next bytes, no more than there is room for; none where it is at its end.
     fn read_next(&mut self, buf: &mut [u8]) -> io::Result<usize>

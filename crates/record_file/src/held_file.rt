@@ -1,5 +1,5 @@
 //! The file of a record, which one load at a time holds.
-ghost use Rattle.std.specs.Prelude.{◌≡◌, OnErr, ◌∷◌, [], IfErr, IfOk, IfSome, OnSome, None, Some, option_map, true, false};
+ghost use Rattle.std.specs.Prelude.{◌≡◌, OnErr, ◌∷◌, [], IfErr, IfOk, IfSome, IsSome, OnSome, None, Some, option_map, true, false};
 ghost use Rattle.std.specs.Io.KnownBytes.{Keeps};
 ghost use Rattle.std.specs.Bool.{OnTrue};
 ghost use Rattle.record_file.specs.Beginning.{IsLetGo};
@@ -134,6 +134,7 @@ pub(crate) fn hold<D: Disk>(
 ) -> Result<Option<HeldFile<D::File>>, RecordFault>
     ensures fault { IfErr result IsUnread }
     ensures text { IfOk result (λ found. IfSome found (λ held. Keeps (D.holds disk.old name.now) (D.File.unread held.file))) }
+    ensures plain { IfOk result (λ found. IsSome (D.holds disk.old name.now) → IfSome found (λ held. held.device ≡ false)) }
     ensures untouched { IfOk result (λ found. IfSome found (λ held. OnSome (D.asked disk.new) (D.File.written held.file ≡ Some []))) }
     ensures asked { IfOk result (λ found. HasAsked (D.asked disk.old) (D.asked disk.new) (IsHolding name.now (option_map kind_of found))) }
     ensures failed { IfErr result (λ _. HasAsked (D.asked disk.old) (D.asked disk.new) (IsNotHeld name.now)) }
@@ -152,6 +153,7 @@ pub(crate) fn hold<D: Disk>(
 fn try_hold<D: Disk>(disk: &mut D, name: &str) -> Result<Try<D::File>, RecordFault>
     ensures fault { IfErr result IsUnread }
     ensures text { IfOk result (OnHeld (λ file. Keeps (D.holds disk.old name.now) (D.File.unread file))) }
+    ensures plain { IfOk result (λ outcome. IsSome (D.holds disk.old name.now) → IfSome (device_of outcome) (λ device. device ≡ false)) }
     ensures untouched { IfOk result (OnHeld (λ file. OnSome (D.asked disk.new) (D.File.written file ≡ Some []))) }
     ensures kept { HoldStill (D.holds disk.old) (D.holds disk.new) }
     ensures asked { IfOk result (λ outcome. HasAsked (D.asked disk.old) (D.asked disk.new) (IsTry name.now (tried outcome))) }
@@ -176,6 +178,7 @@ fn hold_opened<D: Disk>(
     ensures fault { IfErr result IsUnread }
     ensures made { IfOk result (IsMadeSo opened.made) }
     ensures same { IfOk result (OnHeld (λ file. file ≡ opened.file)) }
+    ensures plain { IfOk result (λ outcome. IsSome (D.File.unread opened.file) → IfSome (device_of outcome) (λ device. device ≡ false)) }
     ensures kept { HoldStill (D.holds disk.old) (D.holds disk.new) }
     ensures asked { IfOk result (λ outcome. HasAsked (D.asked disk.old) (D.asked disk.new) (IsHeld name.now (device_of outcome))) }
     ensures failed { IfErr result (λ _. HasAsked (D.asked disk.old) (D.asked disk.new) (IsHeld name.now None)) }
@@ -184,7 +187,8 @@ fn hold_opened<D: Disk>(
         Ok(metadata) if can_be_read(&metadata) => metadata,
         _ => return Err(RecordFault::Read),
     };
-    let device = metadata.file_type().is_char_device();
+    // What can be read to its end and is no plain file is one.
+    let device = !metadata.is_file();
     if !is_free(disk, name, &opened.file, device) {
         return Err(RecordFault::InUse);
     }

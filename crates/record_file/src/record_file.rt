@@ -1,6 +1,6 @@
 //! The record's file over a whole load.
 ghost use Rattle.std.specs.Prelude.{◌≡◌, None, false, IfErr, IfOk, IsSome, OnErr, OnOk, MatchOption, option_map};
-ghost use Rattle.record_file.specs.Known.{IsUntouched, known_of};
+ghost use Rattle.record_file.specs.Known.{IsNoDevice, IsUntouched, known_of};
 ghost use Rattle.record_file.specs.Beginning.{IsBegun, IsNotBegun};
 ghost use Rattle.record_file.specs.Closing.{IsRecordClosed, Remains};
 ghost use Rattle.record_file.specs.DiskRecord.{HasBegun};
@@ -56,6 +56,7 @@ impl<'a, D: Disk + Drop> RecordFile<'a, D> {
         ensures writable { IfOk result (λ old. IsWritable old.writable → IsSome self.new.held) }
         ensures standing { IfOk result (λ old. IsWritable old.writable → MatchOption self.new.held ⊥ (HasRead (λ standing. standing ≡ old.text.items))) }
         ensures text { IfOk result (λ old. self.old.held ≡ None → IsSome self.new.held → IsReadOf (D.holds self.old.disk self.old.name.now) old.text.items) }
+        ensures plain { OnOk result (self.old.held ≡ None → IsNoDevice (D.holds self.old.disk self.old.name.now) (option_map (known_of D.File.written) self.new.held)) }
         ensures untouched { OnOk result (self.old.held ≡ None → IsUntouched (D.asked self.new.disk) (option_map (known_of D.File.written) self.new.held)) }
         ensures asked { IfOk result (λ old. HasAsked (D.asked self.old.disk) (D.asked self.new.disk)
             (IsRead self.old.name.now (found_in old) (option_map (known_of D.File.written) self.old.held)

@@ -1,2 +1,3 @@
 mod Notes
 mod Said
+mod Since

@@ -1,5 +1,5 @@
 -- What is noted of a report, and told of it in a log (this project's own).
-use Rattle.std.specs.Prelude.{◌≡◌, ℕ, ◌&&◌, ◌||◌, Bool, nat_eq, nat_lt, List, [], ◌++◌, length, take, All, Contains, Option, Some, None, codes}
+use Rattle.std.specs.Prelude.{◌≡◌, ℕ, ◌&&◌, ◌||◌, Bool, nat_eq, nat_lt, List, [], ◌++◌, length, take, All, Contains, Option, Some, None, codes, ⊤}
 use Rattle.std.specs.List.{find, flat_map, starts_with}
 use Rattle.byte_io.specs.Text.{line, line_end}
 
@@ -39,6 +39,12 @@ pub record IsNotedOf (lines : List (List ℕ)) (front : List ℕ) (notes : Noted
 -- what is noted of a text
 abbrev pub IsNoted : List ℕ → Noted → Type 0
 IsNoted text notes = (lines : List (List ℕ)) × (front : List ℕ) × IsOfLines text lines front × IsNotedOf lines front notes
+
+-- an output that told at first what it held still tells, and these are the notes of all that was written to it since
+abbrev pub AreNotesSince : Option (List ℕ) → Option (List ℕ) → Noted → Type 0
+AreNotesSince None now notes = ⊤
+AreNotesSince (Some first) None notes = ⊥
+AreNotesSince (Some first) (Some now) notes = (text : List ℕ) × (now ≡ first ++ text) × IsNoted text notes
 
 -- what is told of a report that ended so and counted this: nothing of one that has no end
 abbrev pub ended_text : Option (List ℕ) → Option (List ℕ) → List ℕ

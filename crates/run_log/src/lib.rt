@@ -12,5 +12,5 @@ mod report_notes;
 mod time_text;
 
 pub use line::{Run, log_run};
-pub use noted_output::NotedOutput;
+pub use noted_output::{FirstHeld, NotedOutput};
 pub use report_notes::ReportNotes;

@@ -31,8 +31,12 @@ impl<'a> Disk for MemoryDisk<'a> {
 
     ghost holds = { λ disk name. if bytes_eq name disk.name.now then Some disk.text.now else None };
 
-    fn look(&mut self, _name: &str) -> io::Result<Metadata> {
-        refused()
+    fn look(&mut self, name: &str) -> io::Result<Metadata> {
+        if name == self.name {
+            Ok(Metadata::of_file(self.text.len() as u64))
+        } else {
+            refused()
+        }
     }
 
     fn look_at_name(&mut self, _name: &str) -> io::Result<Metadata> {

@@ -1,5 +1,5 @@
 -- What an earlier save of the same words left, and what is found in it (this project's own).
-use Rattle.std.specs.Prelude.{◌≡◌, ◌⊎◌, ℕ, ◌+◌, ◌*◌, ◌<◌, ◌≤◌, All, List, ◌++◌, length, take, drop, get_or}
+use Rattle.std.specs.Prelude.{◌≡◌, ◌⊎◌, ℕ, ◌+◌, ◌*◌, ◌<◌, ◌≤◌, All, List, ◌++◌, length, take, drop, get_or, Option, IfSome, ⊤}
 use Rattle.std.specs.List.{flat_map}
 use Rattle.tape_values.specs.Block.{block_at, data_block, low_first}
 use Rattle.request_values.specs.declared.range.AddressRange.{AddressRange}
@@ -59,6 +59,11 @@ abbrev pub IsFindingFault : AddressRange → List ℕ → ShelfFault → Type 0
 IsFindingFault range text NotOfSave = IsPartOf range text → ⊥
 IsFindingFault range text Memory = IsPartOf range text
 IsFindingFault range text other = ⊥
+
+-- what was left there, as far as that is told, is refused as none of such a save only where it is none
+abbrev pub IsRefusedPart : AddressRange → Option (List ℕ) → ShelfFault → Type 0
+IsRefusedPart range left NotOfSave = IfSome left (λ text. IsPartOf range text → ⊥)
+IsRefusedPart range left other = ⊤
 
 -- the numbers that make a block for this address stand behind others
 abbrev pub IsOneMore : ℕ → List ℕ → List ℕ → List ℕ → Type 0

@@ -5,7 +5,7 @@ ghost use Rattle.host_devices.specs.Told.{HasAsked};
 ghost use Rattle.record_file.specs.DiskStep.{Did, FindFile, FindSoleFile, Hold, HoldStill, Open};
 ghost use Rattle.record_file.specs.Folder.{IsFolderOf};
 ghost use Rattle.record_file.specs.declared.disk.Access.TheVariants.{ReadOnly, ReadWrite};
-ghost use Rattle.tape_shelf.specs.FoundPart.{AreFoundInPart, FillBlocks};
+ghost use Rattle.tape_shelf.specs.FoundPart.{AreFoundInPart, FillBlocks, IsRefusedPart};
 ghost use Rattle.tape_shelf.specs.ShelfDisk.{LeaveAll, part_name, resuming, taking_left};
 
 use crate::found_part::{Found, found_in};
@@ -34,6 +34,7 @@ pub(crate) fn take_left<D: Disk>(
     ensures untouched { IfOk result (λ left. OnSome (D.asked disk.new) (D.File.contents left.0.held ≡ Some [])) }
     ensures asked { IfOk result (λ left. (folder : List ℕ) × D.is_opened_as left.0.folder folder × IsFolderOf name.now folder
         × HasAsked (D.asked disk.old) (D.asked disk.new) (λ steps. steps ≡ resuming (part_name name.now) folder (D.File.contents left.0.held))) }
+    ensures refused { IfErr result (IsRefusedPart range (D.holds disk.old (part_name name.now))) }
     ensures failed { OnErr result (HasAsked (D.asked disk.old) (D.asked disk.new) LeaveAll) }
 {
     let Ok(own) = format!(in alloc; "{name}{PART}") else {
@@ -72,6 +73,7 @@ fn take_named<D: Disk>(
     ensures fresh { IfOk result (λ left. OnSome (D.asked disk.new) (D.File.contents left.1 ≡ Some [])) }
     ensures untouched { IfOk result (λ left. OnSome (D.asked disk.new) (D.File.contents left.0 ≡ Some [])) }
     ensures asked { IfOk result (λ left. HasAsked (D.asked disk.old) (D.asked disk.new) (λ steps. steps ≡ taking_left name.now (D.File.contents left.0))) }
+    ensures refused { IfErr result (IsRefusedPart range (D.holds disk.old name.now)) }
     ensures failed { OnErr result (HasAsked (D.asked disk.old) (D.asked disk.new) LeaveAll) }
 {
     let held = match hold_left(disk, name) {
@@ -94,6 +96,7 @@ fn hold_left<D: Disk>(disk: &mut D, name: &str) -> Result<D::File, ShelfFault>
     ensures asked { OnOk result (HasAsked (D.asked disk.old) (D.asked disk.new) (λ steps. steps ≡
         Did (FindSoleFile name.now) ∷ Did (Open ReadWrite name.now) ∷ Did (Hold name.now) ∷ [])) }
     ensures kept { HoldStill (D.holds disk.old) (D.holds disk.new) }
+    ensures refused { IfErr result (λ fault. fault ≡ ShelfFault.PartIsThere) }
     ensures failed { OnErr result (HasAsked (D.asked disk.old) (D.asked disk.new) LeaveAll) }
 {
     if !disk.is_sole_file(name) {
@@ -122,6 +125,7 @@ fn read_left<D: Disk>(
     ensures found { IfOk result (λ found. FillBlocks range found.numbers.items) }
     ensures left { IfOk result (λ found. IfSome (D.holds disk.old name.now) (λ text. AreFoundInPart range text found.numbers.items)) }
     ensures asked { OnOk result (HasAsked (D.asked disk.old) (D.asked disk.new) (λ steps. steps ≡ Did (Open ReadOnly name.now) ∷ [])) }
+    ensures refused { IfErr result (IsRefusedPart range (D.holds disk.old name.now)) }
     ensures failed { OnErr result (HasAsked (D.asked disk.old) (D.asked disk.new) LeaveAll) }
 {
     match disk.open(Access::ReadOnly, name) {
@@ -139,6 +143,7 @@ fn open_left<D: Disk>(disk: &mut D, name: &str, held: &D::File) -> Result<D::Fil
     ensures fresh { IfOk result (λ file. OnSome (D.asked disk.new) (D.File.contents file ≡ Some [])) }
     ensures asked { OnOk result (HasAsked (D.asked disk.old) (D.asked disk.new) (λ steps. steps ≡
         Did (Open ReadWrite name.now) ∷ Did (FindFile name.now (D.File.contents held.now)) ∷ [])) }
+    ensures refused { IfErr result (λ fault. fault ≡ ShelfFault.PartIsThere) }
     ensures failed { OnErr result (HasAsked (D.asked disk.old) (D.asked disk.new) LeaveAll) }
 {
     match disk.open(Access::ReadWrite, name) {

@@ -1,7 +1,7 @@
 ghost use Rattle.std.specs.Prelude.{◌≡◌, ℕ, List, IfErr, IfOk, IfSome, OnOk, ⊤};
 ghost use Rattle.std.specs.Io.KnownBytes.{Keeps};
 ghost use Rattle.tape_shelf.specs.declared.shelf.ShelfFault.TheVariants.{PartIsThere, Write};
-ghost use Rattle.tape_shelf.specs.FoundPart.{AreFoundInPart, FillBlocks};
+ghost use Rattle.tape_shelf.specs.FoundPart.{AreFoundInPart, FillBlocks, IsRefusedPart};
 ghost use Rattle.tape_shelf.specs.Shelf.{IsPutFault, Reserve, NotReserved, Resume, NotResumed, add_step, put_step};
 ghost use Rattle.tape_shelf.specs.ShelfTold.{ShelfTold, IsDone, untold_shelf};
 
@@ -52,6 +52,7 @@ pub trait Shelf {
         ensures left { IfOk result (λ found. IfSome (told self.old).left (λ text. AreFoundInPart range text found.items)) }
         ensures done { IfOk result (λ found. (folder : List ℕ) × is_opened_as self.new folder
             × IsDone folder (Resume found.items) (told self.old) (told self.new)) }
+        ensures refused { IfErr result (IsRefusedPart range (told self.old).left) }
         ensures failed { IfErr result (λ fault. (folder : List ℕ) → IsDone folder (NotResumed fault) (told self.old) (told self.new)) };
 
     /// Adds the text of a block, behind what was added before, and brings it to where a loss of power leaves

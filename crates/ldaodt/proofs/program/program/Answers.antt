@@ -17,23 +17,24 @@ use Rattle.requests.specs.Attempt.{IsAttempted}
 use Rattle.requests.specs.Moment.{moment}
 use Rattle.ldaodt.specs.Answer.{IsLoggedIf, IsMisplaced}
 use Rattle.ldaodt.specs.Misplaced.{IsOfPlace, names_at}
+use Rattle.ldaodt.specs.Names.{IsOut, NamesTold}
 use Rattle.ldaodt.proofs.program.program.Goals as goal
 use Rattle.ldaodt.proofs.program.program.Goals.{in-Some, in-None}
 
 -- of the check of the input nothing is said in a log
-unlogged_check : (wanted : Wanted) (ended : Status) (held held' : Held) → wanted ≡ unlogged (Tape (Print CheckInput)) → IsLoggedIf wanted ended held held' → held' ≡ held
-unlogged_check wanted ended held held' is logged = subst (λ w. IsLoggedIf w ended held held') is logged
+unlogged_check : (first : Option (List ℕ)) (wanted : Wanted) (ended : Status) (held held' : Held) → wanted ≡ unlogged (Tape (Print CheckInput)) → IsLoggedIf first wanted ended held held' → held' ≡ held
+unlogged_check first wanted ended held held' is logged = subst (λ w. IsLoggedIf first w ended held held') is logged
 
 -- the request of no words
 checks_input : (wanted : Wanted) → wanted ≡ unlogged (Tape (Print CheckInput)) → wanted.request ≡ Tape (Print CheckInput)
 checks_input wanted is = ap (λ w. w.request) is
 
 -- a name that is out of place was told of
-printed_misplaced : {D : Type 0} (holds : D → List ℕ → Option (List ℕ)) (request : Request) (asked : SystemTold D) (held : Held) (err : StandardError) (failure : Failure) (ended : Status) → IsOfPlace (names_at request) failure
-    → IsPrinted held.err err failure → ended ≡ status_of failure → IsMisplaced request (moment holds asked held) (moment holds asked (record held { err = err })) ended
-printed_misplaced holds request asked held err (Misplaced name place) ended of_place told is =
-    record { name = name; place = place; own = of_place; told = told; quiet = refl; status_is = is }
-printed_misplaced holds request asked held err _ ended of_place told is = absurd of_place
+printed_misplaced : {D : Type 0} (names : NamesTold) (holds : D → List ℕ → Option (List ℕ)) (request : Request) (asked : SystemTold D) (held : Held) (err : StandardError) (failure : Failure) (ended : Status) → IsOfPlace (names_at request) failure
+    → IsOut names failure → IsPrinted held.err err failure → ended ≡ status_of failure → IsMisplaced names request (moment holds asked held) (moment holds asked (record held { err = err })) ended
+printed_misplaced names holds request asked held err (Misplaced name place) ended of_place out told is =
+    record { name = name; place = place; own = of_place; out = out; told = told; quiet = refl; status_is = is }
+printed_misplaced names holds request asked held err _ ended of_place out told is = absurd of_place
 
 pub returns-after-misplaced-clause-checked : goal.returns-after-misplaced-clause-checked
 returns-after-misplaced-clause-checked g c no_words =
@@ -46,7 +47,7 @@ returns-after-misplaced-clause-checked g c no_words =
       | in-None w ↦ rw (w.system-is, w.streams-is) w.attempt.ensures
     ] in (
       status,
-      rw (unlogged_check wanted status _ _ is c.log_if_wanted.ensures, sym (checks_input wanted is)) attempted,
+      rw (unlogged_check g.F.FirstHeld.held wanted status _ _ is c.log_if_wanted.ensures, sym (checks_input wanted is)) attempted,
       c.code.ensures,
     )
 
@@ -59,7 +60,7 @@ returns-after-misplaced-clause-answered g c = (
     between = c.match-misplaced.streams;
     tried = elim c.match-misplaced.branch [
       | in-Some w ↦ rw (w.system-is, w.streams-is, ← w.streams.view_is)
-          (inr (printed_misplaced g.K.Disk.Disk.holds c.in-Ok.wanted.request _ _ _ w.in-Some.failure w.print_failure.result w.in-Some.ensures.misplaced w.print_failure.ensures.printed w.print_failure.ensures.status))
+          (inr (printed_misplaced _ g.K.Disk.Disk.holds c.in-Ok.wanted.request _ _ _ w.in-Some.failure w.print_failure.result w.in-Some.ensures.misplaced w.in-Some.ensures.out w.print_failure.ensures.printed w.print_failure.ensures.status))
       | in-None w ↦ rw (w.system-is, w.streams-is) (inl w.attempt.ensures)
     ];
     logged = c.log_if_wanted.ensures;

@@ -18,7 +18,7 @@ pub returns-in-Err-PartIsThere-clause-failed : goal.returns-in-Err-PartIsThere-c
 returns-in-Err-PartIsThere-clause-failed g c =
     took_no_part c.args.range (g.S.Shelf.told c.args.shelf.now) (g.S.Shelf.told c.reserve.new.self) (g.S.Shelf.told c.resume.new.self) c.resume.result
     (λ folder. subst (λ n. IsDone folder (NotReserved n PartIsThere) (g.S.Shelf.told c.args.shelf.now) (g.S.Shelf.told c.reserve.new.self)) c.tape_room.ensures (subst (λ why. IsDone folder (NotReserved c.tape_room.result why) (g.S.Shelf.told c.args.shelf.now) (g.S.Shelf.told c.reserve.new.self)) c.in-Err-PartIsThere.field-0-is (c.in-Err-PartIsThere.ensures.failed folder)))
-    c.resume.ensures.failed
+    (c.in-Err-PartIsThere.ensures.left c.in-Err-PartIsThere.field-0-is) c.resume.ensures.refused c.resume.ensures.failed
 
 pub returns-in-Err : goal.returns-in-Err
 returns-in-Err g c = record {

@@ -1,4 +1,3 @@
-use Rattle.host_devices.proofs.Told.{tells_join}
 use Rattle.record_file.proofs.Asking.{asked_one}
 use Rattle.record_file.proofs.Rows.{but_join, failed_join, not_held_then, then_held}
 use Rattle.record_file.proofs.disk_record.make_beside.Goals as goal

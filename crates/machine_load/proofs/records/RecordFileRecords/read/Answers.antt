@@ -18,4 +18,4 @@ returns-clause-disk g c = read_answered (known_of g.D.File.DiskFile.written) c.a
       known = option_map (known_of g.D.File.DiskFile.written) c.read.new.self.held;
       holds = g.D.Disk.holds c.read.new.self.disk c.read.new.self.name.now;
     })
-    c.read.result refl refl c.read.ensures.name c.read.ensures.asked c.read.ensures.text c.read.ensures.untouched c.read.ensures.failed c.read.ensures.kept
+    c.read.result refl refl c.read.ensures.name c.read.ensures.asked c.read.ensures.text c.read.ensures.plain c.read.ensures.untouched c.read.ensures.failed c.read.ensures.kept

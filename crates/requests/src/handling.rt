@@ -67,7 +67,7 @@ pub fn attempt<K: Kinds, R: Read, W: Output, E: FaultOutput, T: Print>(
         }
         Request::Machine(MachineRequest::Probe(probe)) => {
             say_probing(terminal);
-            probe_console(system, alloc, *probe, streams)
+            probe_console(system, alloc, *probe, streams, witness)
         }
         Request::Machine(MachineRequest::Memory(test)) => {
             test_words(system, alloc, *test, streams, terminal, witness)

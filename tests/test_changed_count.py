@@ -1,5 +1,5 @@
-"""How many characters came changed, or not from ODT: a line on standard error, behind all else of a load or a look, and a field of its
-log. Only characters count that no loss explains, so that a line which loses, or changes nothing, has none.
+"""How many characters came changed, or not from ODT: a line on standard error, behind all else of a load, a look or a probe, a field of
+its log, and a line of a probe's report. Only characters count that no loss explains, so that a line which loses, or changes nothing, has none.
 """
 import random
 import re
@@ -54,6 +54,26 @@ class ChangingOften(Console):
             self.left -= 1
             return chr(ord(key) ^ 2)
         return answer
+
+
+class ChangingAttempts(Console):
+    """A console behind a line that changes the echo of the first digit typed at the prompt in the attempts with these numbers."""
+
+    def __init__(self, numbers, **named):
+        super().__init__(**named)
+        self.numbers, self.attempt = numbers, 0
+
+    def take(self, key):
+        is_first = self.mode == "prompt" and key.isdigit()
+        answer = super().take(key)
+        self.attempt += is_first
+        return chr(ord(key) ^ 2) if is_first and self.attempt - 1 in self.numbers else answer
+
+
+# Of a probe the attempt 0 is the first look, 1 the trial, 2 the second look, and behind it a search of 258 words looks at 2 words, 9 and 3. One
+# that was changed is made again, so that those behind it count one more. Which are changed, and how many are told: none of a trial.
+PROBES = (((), 0), ((0,), 1), ((0, 1, 2), 3), ((1,), 0), ((2,), 1), ((2, 3), 2), ((3,), 1), ((5,), 1), ((14,), 1), ((0, 3, 5, 8), 4),
+          ((0, 2, 4, 6, 9, 18), 5))
 
 
 class Counts(Case):
@@ -111,20 +131,44 @@ class Counts(Case):
                     wanted = (status, end) if count else (0, end.replace("Changed", "Same" if "verify" in words else "Saved"))
                     self.is_so((given.status, given.out.split("\n")[1], given.err), (*wanted, came_changed(count)))
 
+    def test_probes(self):
+        """In the report, too: in the line before its end, and only where there is one to tell."""
+        def trial(row):
+            attempts, count = row
+            line = self.console_at(ChangingAttempts(attempts, words=258))
+            given = self.ldaodt(["probe", line.address, "--address", "0", "--quiet", str(self.quiet), "--log"])
+            line.settle()
+            return row, given, sum(it < line.machine.attempt for it in attempts)
+
+        with ThreadPoolExecutor(4) as pool:
+            for (attempts, count), given, changed in pool.map(trial, PROBES):
+                with self.subTest(attempts):
+                    told = [f"changed characters {count}"] if count else []
+                    lines = given.out.splitlines()
+                    self.is_so((given.status, changed, lines[4], lines[7:]), (0, len(attempts), "memory 000000 to 001002", [*told, "end Probed"]))
+                    err, field = given.err.splitlines(True)[:-1], given.err.split(" status ")[1]
+                    self.is_so(("".join(err), field), (came_changed(count), "0 end Probed" + f" changed {count}" * bool(count) + "\n"))
+
+    def test_probes_that_come_to_nothing(self):
+        """The count stands before the end of one that gave up."""
+        line = self.console_at(ChangingOften(3))
+        given = self.ldaodt(["probe", line.address, "--quiet", str(self.quiet), "--patience", "2"])
+        self.is_so((given.status, given.out.splitlines()[-2:], given.err), (5, ["changed characters 3", "end GaveUp"], came_changed(3)))
+
     def test_where_it_cannot_be_came_changed(self):
         with open("/dev/full", "w", encoding="utf-8") as full:
             given = super().load(self.console_at(ChangingOften(1)), "first.lda", stderr=full)
         self.is_so((given.status, given.out), (0, "sent 32 spent 1 verified 1 of 1\nend Started\n"))
 
     def test_losses_are_none(self):
-        """A hundred loads, saves and looks over lines that lose: three of a hundred characters, each way."""
+        """A hundred loads, saves, looks and probes over lines that lose: three of a hundred characters, each way."""
         def trial(seed):
             chance = random.Random(seed)
             console = Console(style=chance.randrange(8), memory={0o1000: chance.choice((0, 0o11064))})
-            words = chance.choice(("load first.lda LINE", "load first.lda LINE --careful", f"save {seed}.lda LINE 1000 1006", "verify first.lda LINE"))
+            words = chance.choice(("load first.lda LINE", "load first.lda LINE --careful", f"save {seed}.lda LINE 1000 1006", "verify first.lda LINE", "probe LINE"))
             given = self.ldaodt(self.words_at(self.console_at(console, loss=0.03, seed=seed), f"{words} --patience 100"))
-            self.is_so((seed, given.err, "Changed" in given.out), (seed, "", False))
-            return int(re.search(r" spent (\d+) ", given.out)[1])
+            self.is_so((seed, given.err, "changed" in given.out.lower()), (seed, "", False))
+            return int(re.search(r" spent (\d+) |$", given.out)[1] or 0)
 
         with ThreadPoolExecutor(4) as pool:
             self.assertGreater(sum(pool.map(trial, range(100))), 50)

@@ -27,7 +27,8 @@ NO_WORD = SHOWN.format("0 of 1 words, 0%")
 CLEARED = "\r\x1b[K"
 GOING_ON = "going on behind 1 of 2 words, listening; power lost? use --recheck"
 SAVING_ON = "going on behind 256 of 512 words, listening; power lost? remove the .part file"
-PROBING = "probing: mostly 8 seconds; 20 where nothing answers\r\n"
+SAVING = "\rafter Ctrl-C the same line goes on\x1b[K\r\n"
+PROBING = "probing: mostly {}; {} where nothing answers\r\n"
 STARTED = "sent 30 spent 0 verified 1 of 1\nend Started\n"
 
 # The words of two-words.lda.
@@ -237,7 +238,8 @@ class Terminal(Case):
         self.assertRegex(shown.split("\r")[-1], r"^\x1b\[\?7l32 of 400 words, 8%(, [\d:]+ left)?\x1b")
 
     def test_how_long_it_takes(self):
-        """It is said once, behind the tenth second, on a line of its own; and where what was done need not be done again, that, too.
+        """It is said once, behind the tenth second, on a line of its own; and where what was done need not be done again, that, too, of a save
+        before all else.
         Of 4,000 words each takes 22 keys, 8 where it is only looked at, or 16 where twice, and each key a hundredth of a second. A mishap of the
         first second, which takes as long as a hundred words, does not count for more than it is."""
         self.put("many.lda", tape_of([(0o1000, bytes(8000))], 0o1000))
@@ -249,7 +251,9 @@ class Terminal(Case):
                 ended, shown = self.interrupted(words, machine, lambda machine: time.monotonic() > machine.begun + 13)
                 self.is_so(ended[0], -signal.SIGINT)
                 told = re.findall(r"\rsome (\d+) minutes at this pace(; after Ctrl-C the same line goes on)?\x1b\[K\r\n", shown)
-                self.is_so([behind for _, behind in told], ["; after Ctrl-C the same line goes on" if goes_on else ""])
+                is_save = words.startswith("save")
+                self.is_so([behind for _, behind in told], ["; after Ctrl-C the same line goes on" if goes_on and not is_save else ""])
+                self.is_so((shown.startswith(SAVING), shown.count("Ctrl-C")), (is_save, int(goes_on)))
                 # A key takes a hundredth of a second or a little more, a fifth of ten seconds may be lost with the mishap.
                 least = 4000 * keys / 100 / 60
                 self.assertLessEqual(int(told[0][0]), least * 1.6)
@@ -386,11 +390,14 @@ class Terminal(Case):
                 self.is_so((test.status, test.out.split("\n")[1].split()[:17]), (1, ["000000-017776", "1", *"............", "0", ".", "."]))
 
     def test_a_probe_says_that_it_works(self):
-        """Before its first key, on a line of its own."""
-        peer = self.console_at(Console())
-        given, shown = self.at_a_terminal(lambda terminal: self.ldaodt(["probe", peer.address, "--quiet", str(self.quiet)], stderr=terminal))
-        self.is_so((given.status, given.out.split("\n")[-2], shown), (0, "end Probed", PROBING))
-        self.is_so(self.interrupted("probe LINE", DeafConsole(), lambda machine: machine.typed), ((-signal.SIGINT, b""), PROBING))
+        """Before its first key, on a line of its own; and for how long, by the quiet time: four of them, and where nothing answers one for each
+        mishap and two."""
+        given, shown = self.at_a_terminal(lambda terminal: self.ldaodt(["probe", self.console_at(Console()).address, "--quiet", "1000"], stderr=terminal))
+        self.is_so((given.status, given.out.split("\n")[-2], shown), (0, "end Probed", PROBING.format("4 seconds", 10)))
+        for options, mostly, at_worst in (("--quiet 200", "1 second", 2), ("--quiet 260", "2 seconds", 3), ("--quiet 250 --patience 0", "1 second", 1),
+                                          ("--quiet 500 --patience 1000", "2 seconds", 501)):
+            ended = self.interrupted(f"probe LINE {options}", DeafConsole(), lambda machine: machine.typed)
+            self.is_so((options, *ended), (options, (-signal.SIGINT, b""), PROBING.format(mostly, at_worst)))
 
     def test_a_verified_word_is_shown_also_where_it_can_not_be_kept(self):
         """The report counts it, too. The record has room for its header alone, and the keys that look at the word again
@@ -455,6 +462,16 @@ class Looks(Case):
         self.is_so((given.status, given.out.split()[2:4]), (0, ["spent", "1"]))
         self.assertRegex(shown, r"256 of 512 words, 50%, 1 mishap")
         self.assertNotRegex(shown, r"\d%\x1b|\d%, \d+:")
+
+    def test_a_save_says_at_once_that_it_goes_on(self):
+        """Before its first key, where it is of more words than a block has; where it does go on it is known."""
+        for last, said in ((0o1776, ""), (0o2000, SAVING), (0o17776, SAVING)):
+            ended, shown = self.interrupted(f"save {last}.lda LINE 1000 {last:o}", DeafConsole(), lambda machine: machine.typed)
+            self.is_so((last, ended), (last, (-signal.SIGINT, b"")))
+            begins = SHOWN.format(f"0 of {(last - 0o776) // 2} words, 0%, listening")
+            self.assertTrue(shown.startswith(said + begins) and shown.count("Ctrl-C") == len(said) // len(SAVING), repr(shown))
+        _, shown = self.goes_on_with(Console())
+        self.assertNotIn("Ctrl-C", shown)
 
     def test_what_is_told_of_a_save_that_ends_early(self):
         """That the same line goes on, where a block was read; nothing where none was, or all that can be had."""
@@ -637,7 +654,7 @@ class Plain(Case):
                 self.assertTrue(shown.endswith(CLEARED), repr(shown))
 
     def test_a_probe_says_that_it_works(self):
-        self.is_so(self.each((("probe LINE", "Probed"),), Console), {"probe LINE": PROBING})
+        self.is_so(self.each((("probe LINE", "Probed"),), Console), {"probe LINE": PROBING.format("8 seconds", 20)})
 
 
 class Output(Case):

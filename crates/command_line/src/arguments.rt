@@ -289,5 +289,5 @@ more is coming, 1 to 60000 [default: 2000]",
 pub(crate) const LOG: Argument = Argument {
     name: names::LOG,
     form: Form::Flag,
-    help: "Say at the very end, on standard error, when the run\nended and how: one line, for a log",
+    help: "Say at the very end, on standard error, when the run\nended and how: one line, for a log; none at Ctrl-C",
 };

@@ -595,12 +595,7 @@ const FORECASTS: [(u32, KeptIn, u32, Option<&str>); 4] = [
         4,
         Some("some 2 minutes at this pace"),
     ),
-    (
-        28672,
-        KeptIn::Part,
-        4,
-        Some("some 59 minutes at this pace; after Ctrl-C the same line goes on"),
-    ),
+    (28672, KeptIn::Part, 5, Some("some 59 minutes at this pace")),
 ];
 
 // Whether a load says so how long it takes, above what it shows then, and never again.
@@ -615,10 +610,12 @@ fn is_forecast(
     let terminal = Screen::new(alloc);
     let line = ProgressLine::new(&clock, &terminal, kept_in);
     line.begins(0, words);
+    // A save says at once, and then no more, that a break costs nothing.
+    let hints = u32::from(kept_in == KeptIn::Part);
     line.sees(answered(b'Z', 0, 0));
     clock.millis.set(Some(BEGINNING.saturating_add(1000)));
     line.sees(answered(b'/', 8, 0));
-    if terminal.writes.get() != 2 {
+    if terminal.writes.get() != hints.saturating_add(2) {
         return false;
     }
     clock.millis.set(Some(BEGINNING.saturating_add(10_000)));

@@ -36,7 +36,7 @@ use Rattle.looking_law.proofs.Told.{told_honest}
 use Rattle.machine_probe.specs.declared.probe_options.ProbeOptions.{ProbeOptions}
 use Rattle.machine_probe.specs.Belief.{AreBelievable}
 use Rattle.machine_probe.specs.Came.{extent_of, first_of, sighting_of}
-use Rattle.machine_probe.specs.Follow.{IsProbe, IsTried, IsTriedOut, MadeWhere, forgets, goes_on, is_number, number_in, stores}
+use Rattle.machine_probe.specs.Follow.{IsProbe, IsTried, IsTriedOut, CountedWhere, MadeWhere, forgets, goes_on, is_number, number_in, stores}
 use Rattle.machine_probe.specs.Runs.{LooksAt, IsSearch, IsTrialOf}
 
 -- ---- what was said is a dialogue, perhaps without its last key
@@ -77,14 +77,15 @@ is_first TurnsOver values number is = absurd (cc is)
 is_first (LineFailed fault) values number is = absurd (cc is)
 
 -- what a look leaves
-record LookLeaves (options : ProbeOptions) (found : Option Sighting) (machine now : Machine) : Type 0 where
+record LookLeaves (options : ProbeOptions) (changed : ℕ) (found : Option Sighting) (machine now : Machine) : Type 0 where
   pub ready : IsReadyMachine now
   pub memory : now.memory ≡ machine.memory
   pub number : (number : ℕ) → found ≡ Some (look.Number number) → number ≡ word_at machine.memory options.address
+  pub unchanged : changed ≡ 0
 
-look_right : (options : ProbeOptions) (sighting : Sighting) (parts : List (List Item)) (machine now : Machine) (lost : ℕ) → IsAddress options.address → options.patience < 2 ^ 32 →
-    (l : LooksAt options sighting parts) → IsReadyMachine machine → IsHonest machine l.said lost now → LookLeaves options (Some sighting) machine now
-look_right options sighting parts machine now lost address long l ready honest =
+look_right : (options : ProbeOptions) (changed : ℕ) (sighting : Sighting) (parts : List (List Item)) (machine now : Machine) (lost : ℕ) → IsAddress options.address → options.patience < 2 ^ 32 →
+    (l : LooksAt options changed sighting parts) → IsReadyMachine machine → IsHonest machine l.said lost now → LookLeaves options changed (Some sighting) machine now
+look_right options changed sighting parts machine now lost address long l ready honest =
     let s = l.inquired in
     let run : Run = Look (options.address ∷ []) options.patience s.heard in
     let front : IsToldOf (dialogue_of run) l.said = subst (IsToldOf (dialogue_of run)) (sym s.on_line) (told_look l.stop _ (dialogue_of run) s.said s.items) in
@@ -96,6 +97,7 @@ look_right options sighting parts machine now lost address long l ready honest =
           let values : l.last.values ≡ (led (looker options.address options.patience) s.heard).values = ap (λ (r : Reader). r.values) s.host in
           let holds = h.learned.read.holds 0 (subst (λ (list : List ℕ). 0 < length list) values first.0) in
           sym first.1 ∙ ap (λ (list : List ℕ). get_or list 0 0) values ∙ holds ∙ ap (λ (list : List ℕ). word_at machine.memory (get_or list 0 0)) (led_addresses (looker options.address options.patience) s.heard);
+      unchanged = l.changed_is ∙ ap (λ (r : Reader). r.foreign) s.host ∙ h.learned.foreign;
     }
   where
     same : {a b : Sighting} → Some a ≡ Some b → a ≡ b
@@ -134,10 +136,10 @@ one_part machine now parts said lost is honest = alone (subst (λ list. AreHones
     alone : AreHonest machine (said ∷ []) lost now → IsOnePart machine now said
     alone (between, first, later, here, there, all) = record { lost = first; honest = subst (λ (m : Machine). IsHonest machine said first m) (sym there.0) here }
 
-row_look : (options : ProbeOptions) (sighting : Sighting) (parts : List (List Item)) (machine now : Machine) (lost : ℕ) → IsAddress options.address → options.patience < 2 ^ 32 → LooksAt options sighting parts →
-    IsReadyMachine machine → AreHonest machine parts lost now → LookLeaves options (Some sighting) machine now
-row_look options sighting parts machine now lost address long l ready honest =
-    let one = one_part machine now parts l.said lost l.part honest in look_right options sighting parts machine now one.lost address long l ready one.honest
+row_look : (options : ProbeOptions) (changed : ℕ) (sighting : Sighting) (parts : List (List Item)) (machine now : Machine) (lost : ℕ) → IsAddress options.address → options.patience < 2 ^ 32 → LooksAt options changed sighting parts →
+    IsReadyMachine machine → AreHonest machine parts lost now → LookLeaves options changed (Some sighting) machine now
+row_look options changed sighting parts machine now lost address long l ready honest =
+    let one = one_part machine now parts l.said lost l.part honest in look_right options changed sighting parts machine now one.lost address long l ready one.honest
 
 row_trial : (options : ProbeOptions) (old : ℕ) (attempt : TrialFindings) (parts : List (List Item)) (machine now : Machine) (lost : ℕ) → IsAddress options.address → options.patience < 2 ^ 32 → IsTrialOf options old attempt parts →
     IsReadyMachine machine → AreHonest machine parts lost now → Leaves machine now
@@ -153,13 +155,13 @@ made_trial options true old (Some attempt) parts machine now lost address long i
 made_trial options false old None parts machine now lost address long is ready honest = none_leaves machine now parts lost is ready honest
 made_trial options false old (Some attempt) parts machine now lost address long is ready honest = absurd is
 
-made_look : (options : ProbeOptions) (wanted : Bool) (found : Option Sighting) (parts : List (List Item)) (machine now : Machine) (lost : ℕ) → IsAddress options.address → options.patience < 2 ^ 32 →
-    MadeWhere wanted (LooksAt options) found parts → IsReadyMachine machine → AreHonest machine parts lost now → LookLeaves options found machine now
-made_look options true None parts machine now lost address long is ready honest = absurd is
-made_look options true (Some sighting) parts machine now lost address long is ready honest = row_look options sighting parts machine now lost address long is ready honest
-made_look options false None parts machine now lost address long is ready honest =
-    let l = none_leaves machine now parts lost is ready honest in record { ready = l.ready; memory = l.memory; number = λ number same. absurd (cc same) }
-made_look options false (Some sighting) parts machine now lost address long is ready honest = absurd is
+made_look : (options : ProbeOptions) (wanted : Bool) (changed : ℕ) (found : Option Sighting) (parts : List (List Item)) (machine now : Machine) (lost : ℕ) → IsAddress options.address → options.patience < 2 ^ 32 →
+    CountedWhere wanted (LooksAt options) changed found parts → IsReadyMachine machine → AreHonest machine parts lost now → LookLeaves options changed found machine now
+made_look options true changed None parts machine now lost address long is ready honest = absurd is.0
+made_look options true changed (Some sighting) parts machine now lost address long is ready honest = row_look options changed sighting parts machine now lost address long is.0 ready honest
+made_look options false changed None parts machine now lost address long is ready honest =
+    let l = none_leaves machine now parts lost is.0 ready honest in record { ready = l.ready; memory = l.memory; number = λ number same. absurd (cc same); unchanged = is.1 refl }
+made_look options false changed (Some sighting) parts machine now lost address long is ready honest = absurd is.0
 
 unmade : {A : Type 0} (wanted : Bool) (run : A → List (List Item) → Type 0) (found : Option A) (parts : List (List Item)) → wanted ≡ false → MadeWhere wanted run found parts → (found ≡ None) × (parts ≡ [])
 unmade {A} true run found parts off is = absurd (cc off)
@@ -173,14 +175,21 @@ end_right (search.Stopped (Ended end)) memory patience lost top right is = absur
 end_right (search.Stopped TurnsOver) memory patience lost top right is = absurd (cc is)
 end_right (search.Stopped (LineFailed fault)) memory patience lost top right is = absurd (cc is)
 
-made_search : (options : ProbeOptions) (wanted : Bool) (found : Option Extent) (parts : List (List Item)) (machine now : Machine) (lost : ℕ) → MadeWhere wanted (IsSearch options) found parts → IsReadyMachine machine →
-    AreHonest machine parts lost now → (now.memory ≡ machine.memory) × ((top : ℕ) → found ≡ Some (extent.Top top) → top_of machine.memory ≡ top)
-made_search options true None parts machine now lost is ready honest = absurd is
-made_search options true (Some given) parts machine now lost is ready honest =
-    let r = is.found machine now lost ready honest in
-    (r.0, λ top same. end_right is.search machine.memory options.patience lost top r.1 (sym (cc same) ∙ is.extent_is))
-made_search options false None parts machine now lost is ready honest = ((none_leaves machine now parts lost is ready honest).memory, λ top same. absurd (cc same))
-made_search options false (Some given) parts machine now lost is ready honest = absurd is
+-- what a search leaves
+record SearchLeaves (changed : ℕ) (found : Option Extent) (machine now : Machine) : Type 0 where
+  pub memory : now.memory ≡ machine.memory
+  pub top : (top : ℕ) → found ≡ Some (extent.Top top) → top_of machine.memory ≡ top
+  pub unchanged : changed ≡ 0
+
+made_search : (options : ProbeOptions) (wanted : Bool) (changed : ℕ) (found : Option Extent) (parts : List (List Item)) (machine now : Machine) (lost : ℕ) → CountedWhere wanted (IsSearch options) changed found parts →
+    IsReadyMachine machine → AreHonest machine parts lost now → SearchLeaves changed found machine now
+made_search options true changed None parts machine now lost is ready honest = absurd is.0
+made_search options true changed (Some given) parts machine now lost is ready honest =
+    let r = is.0.found machine now lost ready honest in
+    record { memory = r.0; top = λ top same. end_right is.0.search machine.memory options.patience lost top r.1 (sym (cc same) ∙ is.0.extent_is); unchanged = r.2 }
+made_search options false changed None parts machine now lost is ready honest =
+    record { memory = (none_leaves machine now parts lost is.0 ready honest).memory; top = λ top same. absurd (cc same); unchanged = is.1 refl }
+made_search options false changed (Some given) parts machine now lost is ready honest = absurd is.0
 
 -- ---- no console of the profile is said to store digits
 
@@ -215,20 +224,22 @@ record TriesLeave (options : ProbeOptions) (f : Findings) (machine now : Machine
   pub leaves : Leaves machine now
   pub first : (number : ℕ) → f.first ≡ look.Number number → number ≡ word_at machine.memory options.address
   pub second : (number : ℕ) → f.second ≡ Some (look.Number number) → number ≡ word_at machine.memory options.address
+  pub unchanged : (f.changes.first ≡ 0) × (f.changes.second ≡ 0)
 
 tries_leave : (options : ProbeOptions) (f : Findings) (parts : List (List Item)) (machine now : Machine) (lost : ℕ) → IsAddress options.address → options.patience < 2 ^ 32 → IsTried options f parts →
     IsReadyMachine machine → AreHonest machine parts lost now → TriesLeave options f machine now
 tries_leave options f parts machine now lost address long t ready all =
     let s1 = split machine now t.in_look (t.in_trial ++ t.in_second_look) lost (subst (λ list. AreHonest machine list lost now) t.parts_are all) in
     let s2 = split s1.0 now t.in_trial t.in_second_look s1.2 s1.4 in
-    let r1 = row_look options f.first t.in_look machine s1.0 s1.1 address long t.look ready s1.3 in
+    let r1 = row_look options f.changes.first f.first t.in_look machine s1.0 s1.1 address long t.look ready s1.3 in
     let r2 = made_trial options (is_number f.first) (number_in f.first) f.trial t.in_trial s1.0 s2.0 s2.1 address long t.trial r1.ready s2.3 in
     let m2 : s2.0.memory ≡ machine.memory = r2.memory ∙ r1.memory in
-    let r3 = made_look options (goes_on f.trial) f.second t.in_second_look s2.0 now s2.2 address long t.second_look r2.ready s2.4 in
+    let r3 = made_look options (goes_on f.trial) f.changes.second f.second t.in_second_look s2.0 now s2.2 address long t.second_look r2.ready s2.4 in
     record {
       leaves = record { ready = r3.ready; memory = r3.memory ∙ m2 };
       first = λ number is. r1.number number (ap Some is);
       second = λ number is. r3.number number is ∙ ap (λ memory. word_at memory options.address) m2;
+      unchanged = (r1.unchanged, r3.unchanged);
     }
 
 -- what a console leaves that was tried out
@@ -257,12 +268,13 @@ believes options f parts address long p machine now lost ready all =
     let none = unmade (stores (verdict_of f)) _ f.put_back p.in_deposit off p.deposit in
     let l = none_leaves s1.0 s2.0 p.in_deposit s2.1 none.1 t.leaves.ready s2.3 in
     let same : s2.0.memory ≡ machine.memory = l.memory ∙ t.leaves.memory in
-    let r = made_search options (forgets (verdict_of f)) f.search p.in_search s2.0 now s2.2 p.search l.ready s2.4 in
+    let r = made_search options (forgets (verdict_of f)) f.changes.search f.search p.in_search s2.0 now s2.2 p.search l.ready s2.4 in
     let here : (number : ℕ) → number ≡ word_at machine.memory options.address → number ≡ word_at machine.memory f.address = λ number is. is ∙ ap (word_at machine.memory) (sym p.address) in
     record {
-      memory = r.0 ∙ same;
+      memory = r.memory ∙ same;
       first = λ number is. here number (t.first number is);
       second = λ number is. here number (t.second number is);
       nothing_put_back = none.0;
-      top = λ top is. ap top_of (sym same) ∙ r.1 top is;
+      top = λ top is. ap top_of (sym same) ∙ r.top top is;
+      unchanged = rw (t.unchanged.0, t.unchanged.1, r.unchanged) refl;
     }

@@ -23,7 +23,7 @@ use Rattle.looking_law.specs.Again.{looker}
 use Rattle.machine_probe.specs.declared.probe_options.ProbeOptions.{ProbeOptions}
 use Rattle.machine_probe.specs.declared.putting_back.Deposit.{Deposit}
 use Rattle.machine_probe.specs.Came.{trial_findings_of, first_of, sighting_of}
-use Rattle.machine_probe.specs.Follow.{IsBrokenOff, IsProbe, IsTried, IsTriedOut, MadeWhere, forgets, goes_on, is_number, number_in, stores}
+use Rattle.machine_probe.specs.Follow.{IsBrokenOff, IsProbe, IsTried, IsTriedOut, CountedWhere, MadeWhere, forgets, goes_on, is_number, number_in, stores}
 use Rattle.machine_probe.specs.PuttingBack.{PutsBack}
 use Rattle.machine_probe.specs.Rooms.{HasDeposit}
 use Rattle.machine_probe.specs.Runs.{LooksAt, IsSearch, IsTrialOf, OnLine}
@@ -52,11 +52,11 @@ pub one : (run : List (List Item) → Type 0) (line line' : Option (List Item)) 
 one run line line' said is gains = record { parts = said ∷ []; are = is; on_line = subst (Gains line line') (sym (append-nil said)) gains }
 
 -- what the engine of the looks answers is a look
-pub look_is : (options : ProbeOptions) (core last : Reader) (stop : LookStop) (turns : ℕ) (number : Option ℕ) (sighting : Sighting) (line line' : Option (List Item)) →
+pub look_is : (options : ProbeOptions) (core last : Reader) (stop : LookStop) (turns : ℕ) (number : Option ℕ) (sighting : Sighting) (changed : ℕ) (line line' : Option (List Item)) →
     core ≡ looker options.address options.patience → turns ≡ turns_of options.patience → Inquired turns (inquiry core last (Some stop)) line line' → TellsEnd stop (ended last.phase) →
-    number ≡ first_of last.values → sighting ≡ sighting_of stop number → OnLine (LooksAt options sighting) line line'
-look_is options core last stop turns number sighting line line' begins limit s end is came =
-    one (LooksAt options sighting) line line' s.said (record {
+    number ≡ first_of last.values → sighting ≡ sighting_of stop number → changed ≡ last.foreign → OnLine (LooksAt options changed sighting) line line'
+look_is options core last stop turns number sighting changed line line' begins limit s end is came counted =
+    one (LooksAt options changed sighting) line line' s.said (record {
       said = s.said;
       part = refl;
       stop = stop;
@@ -73,6 +73,7 @@ look_is options core last stop turns number sighting line line' begins limit s e
       }));
       end = end;
       sighting_is = came ∙ ap (sighting_of stop) is;
+      changed_is = counted;
     }) s.on_line
 
 -- what the engine of the trial answers is a trial
@@ -109,6 +110,15 @@ pub not_made : {A : Type 0} (wanted : Bool) (run : A → List (List Item) → Ty
 not_made {A} true run line is = absurd (cc is)
 not_made {A} false run line is = record { parts = []; are = refl; on_line = gains_none line }
 
+-- runs in which characters are counted
+pub counted_made : {A : Type 0} (wanted : Bool) (run : ℕ → A → List (List Item) → Type 0) (changed : ℕ) (found : A) (line line' : Option (List Item)) → wanted ≡ true → OnLine (run changed found) line line' →
+    OnLine (CountedWhere wanted run changed (Some found)) line line'
+counted_made {A} wanted run changed found line line' is s =
+    let m = made wanted (run changed) found line line' is s in record { parts = m.parts; are = (m.are, λ none. absurd (cc none)); on_line = m.on_line }
+
+pub none_counted : {A : Type 0} (wanted : Bool) (run : ℕ → A → List (List Item) → Type 0) (line : Option (List Item)) → wanted ≡ false → OnLine (CountedWhere wanted run 0 None) line line
+none_counted {A} wanted run line is = let m = not_made wanted (run 0) line is in record { parts = m.parts; are = (m.are, λ none. refl); on_line = m.on_line }
+
 -- where the console stored the digits, the old number can be put back
 pub can_put_back : (options : ProbeOptions) (first : Sighting) (trial : Option TrialFindings) (second : Option Sighting) → stores (on_looks first trial second) ≡ true → HasDeposit options first None → ⊥
 can_put_back options (Number old) trial second is has = has
@@ -141,8 +151,8 @@ rows_join : (a b c : Option (List Item)) (xs ys : List (List Item)) → Gains a 
 rows_join a b c xs ys g h = subst (Gains a c) (sym (row_append xs ys)) (gains_join a b c (in_a_row xs) (in_a_row ys) g h)
 
 -- what a probe does before it decides
-pub three_runs : (options : ProbeOptions) (f : Findings) (l0 l1 l2 l3 : Option (List Item)) → OnLine (LooksAt options f.first) l0 l1 →
-    OnLine (MadeWhere (is_number f.first) (IsTrialOf options (number_in f.first)) f.trial) l1 l2 → OnLine (MadeWhere (goes_on f.trial) (LooksAt options) f.second) l2 l3 →
+pub three_runs : (options : ProbeOptions) (f : Findings) (l0 l1 l2 l3 : Option (List Item)) → OnLine (LooksAt options f.changes.first f.first) l0 l1 →
+    OnLine (MadeWhere (is_number f.first) (IsTrialOf options (number_in f.first)) f.trial) l1 l2 → OnLine (CountedWhere (goes_on f.trial) (LooksAt options) f.changes.second f.second) l2 l3 →
     OnLine (IsTried options f) l0 l3
 three_runs options f l0 l1 l2 l3 a b c = record {
   parts = a.parts ++ (b.parts ++ c.parts);
@@ -158,14 +168,18 @@ tried_out options f l0 l3 l4 address a d = record {
   on_line = rows_join l0 l3 l4 a.parts d.parts a.on_line d.on_line;
 }
 
+-- with what was searched
+abbrev searched : Findings → Option Extent → ℕ → Findings
+searched f search changed = record f { search = search; changes = record f.changes { search = changed } }
+
 -- what was searched says nothing of the tries
-searched_too : (options : ProbeOptions) (f : Findings) (search : Option Extent) (parts : List (List Item)) → IsTried options f parts → IsTried options (record f { search = search }) parts
-searched_too options f search parts t =
+searched_too : (options : ProbeOptions) (f : Findings) (search : Option Extent) (changed : ℕ) (parts : List (List Item)) → IsTried options f parts → IsTried options (searched f search changed) parts
+searched_too options f search changed parts t =
     record { in_look = t.in_look; in_trial = t.in_trial; in_second_look = t.in_second_look; parts_are = t.parts_are; look = t.look; trial = t.trial; second_look = t.second_look }
 
-pub all_runs : (options : ProbeOptions) (f : Findings) (search : Option Extent) (verdict : Verdict) (l0 l4 l5 : Option (List Item)) → OnLine (IsTriedOut options f) l0 l4 → verdict ≡ verdict_of f →
-    OnLine (MadeWhere (forgets verdict) (IsSearch options) search) l4 l5 → OnLine (IsProbe options (record f { search = search })) l0 l5
-all_runs options f search verdict l0 l4 l5 a judged e = record {
+pub all_runs : (options : ProbeOptions) (f : Findings) (search : Option Extent) (changed : ℕ) (verdict : Verdict) (l0 l4 l5 : Option (List Item)) → OnLine (IsTriedOut options f) l0 l4 → verdict ≡ verdict_of f →
+    OnLine (CountedWhere (forgets verdict) (IsSearch options) changed search) l4 l5 → OnLine (IsProbe options (searched f search changed)) l0 l5
+all_runs options f search changed verdict l0 l4 l5 a judged e = record {
   parts = a.are.in_tries ++ (a.are.in_deposit ++ e.parts);
   are = record {
     address = a.are.address;
@@ -173,9 +187,9 @@ all_runs options f search verdict l0 l4 l5 a judged e = record {
     in_deposit = a.are.in_deposit;
     in_search = e.parts;
     parts_are = refl;
-    tried = searched_too options f search a.are.in_tries a.are.tried;
+    tried = searched_too options f search changed a.are.in_tries a.are.tried;
     deposit = a.are.deposit;
-    search = subst (λ (v : Verdict). MadeWhere (forgets v) (IsSearch options) search e.parts) judged e.are;
+    search = subst (λ (v : Verdict). CountedWhere (forgets v) (IsSearch options) changed search e.parts) judged e.are;
   };
   on_line = subst (λ (parts : List (List Item)). Gains l0 l5 (in_a_row parts)) (ap (λ (front : List (List Item)). front ++ e.parts) a.are.parts_are ∙ append_assoc a.are.in_tries a.are.in_deposit e.parts)
       (rows_join l0 l4 l5 a.parts e.parts a.on_line e.on_line);

@@ -45,7 +45,7 @@ use Rattle.looking_law.proofs.Splits.{lines_split}
 use Rattle.looking_law.proofs.Told.{both_begin, told_begins}
 use Rattle.machine_probe.specs.declared.probe_options.ProbeOptions.{ProbeOptions}
 use Rattle.machine_probe.specs.Belief.{AreBelievableOver}
-use Rattle.machine_probe.specs.Follow.{IsProbe, IsTried, IsTriedOut, MadeWhere, forgets, goes_on, is_number, number_in, stores}
+use Rattle.machine_probe.specs.Follow.{IsProbe, IsTried, IsTriedOut, CountedWhere, MadeWhere, forgets, goes_on, is_number, number_in, stores}
 use Rattle.machine_probe.specs.PuttingBack.{PutsBack}
 use Rattle.machine_probe.specs.Runs.{LooksAt, IsSearch, IsTrialOf}
 use Rattle.machine_probe.specs.Turns.{turns_of}
@@ -108,8 +108,8 @@ hosts_all said (next ∷ parts) leaves all = (leaves, hosts_all next parts all.0
 one_leaves : (parts : List (List Item)) (said : List Item) → parts ≡ said ∷ [] → LeavesReady said → AllLeave parts
 one_leaves parts said is leaves = subst AllLeave (sym is) (leaves, tt)
 
-look_leaves : (options : ProbeOptions) (sighting : Sighting) (parts : List (List Item)) → IsAddress options.address → options.patience < 2 ^ 32 → (l : LooksAt options sighting parts) → LeavesReady l.said
-look_leaves options sighting parts address long l =
+look_leaves : (options : ProbeOptions) (changed : ℕ) (sighting : Sighting) (parts : List (List Item)) → IsAddress options.address → options.patience < 2 ^ 32 → (l : LooksAt options changed sighting parts) → LeavesReady l.said
+look_leaves options changed sighting parts address long l =
     let s = l.inquired in
     let run : Run = Look (options.address ∷ []) options.patience s.heard in
     leave_ready run l.said (one_address options.address address, long) (subst (IsToldOf (dialogue_of run)) (sym s.on_line) (told_look l.stop _ (dialogue_of run) s.said s.items))
@@ -178,48 +178,48 @@ lacking_is TurnsOver found next is = absurd (cc is)
 lacking_is (LineFailed fault) found next is = absurd (cc is)
 
 -- a pass that lacked a word, and where the next one begins
-lacked_at : (at : Ahead) (pieces : Pieces) (next : ℕ) (said : List Item) → at.limits.patience < 2 ^ 32 → ArePieces at.from pieces → CameTo (pass_over at.limits at.from pieces) (Lacking next) said → NextAt at.from next pieces
-lacked_at at pieces next said long are came =
+lacked_at : (at : Ahead) (pieces : Pieces) (next changed : ℕ) (said : List Item) → at.limits.patience < 2 ^ 32 → ArePieces at.from pieces → CameTo (pass_over at.limits at.from pieces) (Lacking next) changed said → NextAt at.from next pieces
+lacked_at at pieces next changed said long are came =
     let lacks = lacking_is came.stop (found at.from pieces came.last) next (sym came.end_is) in
     subst (λ n. NextAt at.from n pieces) (sym lacks.2)
     (next_at at.limits at.from lacks.0 pieces came.last said long are (subst (λ (s : LookStop). IsPass (pass_over at.limits at.from pieces) s came.last said) lacks.1 came.is_pass))
 
-pass_then : (pieces : Pieces) (passes : List Pieces) (at : Ahead) (search : Search) (parts : List (List Item)) → at.limits.patience < 2 ^ 32 → ArePieces at.from pieces →
-    ((next : ℕ) (rest : List (List Item)) → NextAt at.from next pieces → Searches passes (ahead at.limits next) search rest → AllLeave rest) → Searches (pieces ∷ passes) at search parts → AllLeave parts
-pass_then pieces passes at search parts long are so (LastPass pieces' passes' at' search' said came) = (pass_leaves at.limits at.from pieces came.stop came.last said long are came.is_pass, tt)
-pass_then pieces passes at search parts long are so (OnePassMore pieces' passes' at' search' next said rest came more) =
-    (pass_leaves at.limits at.from pieces came.stop came.last said long are came.is_pass, so next rest (lacked_at at pieces next said long are came) more)
+pass_then : (pieces : Pieces) (passes : List Pieces) (at : Ahead) (search : Search) (changed : ℕ) (parts : List (List Item)) → at.limits.patience < 2 ^ 32 → ArePieces at.from pieces →
+    ((next more : ℕ) (rest : List (List Item)) → NextAt at.from next pieces → Searches passes (ahead at.limits next) search more rest → AllLeave rest) → Searches (pieces ∷ passes) at search changed parts → AllLeave parts
+pass_then pieces passes at search changed parts long are so (LastPass pieces' passes' at' search' changed' said came) = (pass_leaves at.limits at.from pieces came.stop came.last said long are came.is_pass, tt)
+pass_then pieces passes at search changed parts long are so (OnePassMore pieces' passes' at' search' next here later said rest came more) =
+    (pass_leaves at.limits at.from pieces came.stop came.last said long are came.is_pass, so next later rest (lacked_at at pieces next here said long are came) more)
 
-none_then : (at : Ahead) (search : Search) (parts : List (List Item)) → Searches [] at search parts → AllLeave parts
-none_then at search parts (NoPassLeft here) = tt
+none_then : (at : Ahead) (search : Search) (changed : ℕ) (parts : List (List Item)) → Searches [] at search changed parts → AllLeave parts
+none_then at search changed parts (NoPassLeft here) = tt
 
-search_leaves : (limits : Limits) (search : Search) (parts : List (List Item)) → limits.patience < 2 ^ 32 → Searches three_passes (ahead limits 0) search parts → AllLeave parts
-search_leaves limits search parts long is =
-    pass_then (record { bytes = 0o4000; count = 28 }) (record { bytes = 0o100; count = 32 } ∷ record { bytes = 2; count = 32 } ∷ []) (ahead limits 0) search parts long
+search_leaves : (limits : Limits) (search : Search) (changed : ℕ) (parts : List (List Item)) → limits.patience < 2 ^ 32 → Searches three_passes (ahead limits 0) search changed parts → AllLeave parts
+search_leaves limits search changed parts long is =
+    pass_then (record { bytes = 0o4000; count = 28 }) (record { bytes = 0o100; count = 32 } ∷ record { bytes = 2; count = 32 } ∷ []) (ahead limits 0) search changed parts long
     (record { even = refl; whole = refl; some = omega arith; below = omega arith })
-    (λ from rest at. pass_then (record { bytes = 0o100; count = 32 }) (record { bytes = 2; count = 32 } ∷ []) (ahead limits from) search rest long
+    (λ from n rest at. pass_then (record { bytes = 0o100; count = 32 }) (record { bytes = 2; count = 32 } ∷ []) (ahead limits from) search n rest long
     (record { even = at.even; whole = refl; some = omega arith; below = omega (arith, at.within) })
-    (λ next more here. pass_then (record { bytes = 2; count = 32 }) [] (ahead limits next) search more long
+    (λ next m more here. pass_then (record { bytes = 2; count = 32 }) [] (ahead limits next) search m more long
     (record { even = here.even; whole = refl; some = omega arith; below = omega (arith, here.within, at.within) })
-    (λ last none there. none_then (ahead limits last) search none)))
+    (λ last k none there. none_then (ahead limits last) search k none)))
     is
 
 -- ---- all of them
 
 -- behind the second look: the old number is put back or the end of memory is searched, and not both
-behind_second : (options : ProbeOptions) (verdict : Verdict) (old : ℕ) (put_back : Option Bool) (search : Option Extent) (xs ys : List (List Item)) →
-    MadeWhere (stores verdict) (PutsBack options old) put_back xs → MadeWhere (forgets verdict) (IsSearch options) search ys → options.patience < 2 ^ 32 → AllLeave (xs ++ ys) ⊎ AreHosts (xs ++ ys)
-behind_second options Stores old None search xs ys deposits searches long = absurd deposits
-behind_second options Stores old (Some is_back) None xs ys deposits searches long =
-    inr (subst (λ list. AreHosts (list ++ ys)) (sym deposits.part) (subst (λ list. AreHosts (deposits.said ∷ list)) (sym searches) (deposit_begins options old is_back xs deposits)))
-behind_second options Stores old (Some is_back) (Some extent) xs ys deposits searches long = absurd searches
-behind_second options Forgets old None None xs ys deposits searches long = absurd searches
-behind_second options Forgets old None (Some extent) xs ys deposits searches long =
-    inl (subst (λ list. AllLeave (list ++ ys)) (sym deposits) (search_leaves (limits options.patience (turns_of options.patience)) searches.search ys long searches.passes))
-behind_second options Forgets old (Some is_back) search xs ys deposits searches long = absurd deposits
-behind_second options Unknown old None None xs ys deposits searches long = inl (subst (λ list. AllLeave (list ++ ys)) (sym deposits) (subst AllLeave (sym searches) tt))
-behind_second options Unknown old None (Some extent) xs ys deposits searches long = absurd searches
-behind_second options Unknown old (Some is_back) search xs ys deposits searches long = absurd deposits
+behind_second : (options : ProbeOptions) (verdict : Verdict) (old : ℕ) (put_back : Option Bool) (changed : ℕ) (search : Option Extent) (xs ys : List (List Item)) →
+    MadeWhere (stores verdict) (PutsBack options old) put_back xs → CountedWhere (forgets verdict) (IsSearch options) changed search ys → options.patience < 2 ^ 32 → AllLeave (xs ++ ys) ⊎ AreHosts (xs ++ ys)
+behind_second options Stores old None changed search xs ys deposits searches long = absurd deposits
+behind_second options Stores old (Some is_back) changed None xs ys deposits searches long =
+    inr (subst (λ list. AreHosts (list ++ ys)) (sym deposits.part) (subst (λ list. AreHosts (deposits.said ∷ list)) (sym searches.0) (deposit_begins options old is_back xs deposits)))
+behind_second options Stores old (Some is_back) changed (Some extent) xs ys deposits searches long = absurd searches.0
+behind_second options Forgets old None changed None xs ys deposits searches long = absurd searches.0
+behind_second options Forgets old None changed (Some extent) xs ys deposits searches long =
+    inl (subst (λ list. AllLeave (list ++ ys)) (sym deposits) (search_leaves (limits options.patience (turns_of options.patience)) searches.0.search changed ys long searches.0.passes))
+behind_second options Forgets old (Some is_back) changed search xs ys deposits searches long = absurd deposits
+behind_second options Unknown old None changed None xs ys deposits searches long = inl (subst (λ list. AllLeave (list ++ ys)) (sym deposits) (subst AllLeave (sym searches.0) tt))
+behind_second options Unknown old None changed (Some extent) xs ys deposits searches long = absurd searches.0
+behind_second options Unknown old (Some is_back) changed search xs ys deposits searches long = absurd deposits
 
 -- what a probe does before it decides: a look, and what leaves the machine ready, too
 pub record BeginsByLook (parts : List (List Item)) : Type 0 where
@@ -234,10 +234,10 @@ tries_begin options f parts address long t = record {
   said = t.look.said;
   more = t.in_trial ++ t.in_second_look;
   parts_are = t.parts_are ∙ ap (λ list. list ++ (t.in_trial ++ t.in_second_look)) t.look.part;
-  leaves = look_leaves options f.first t.in_look address long t.look;
+  leaves = look_leaves options f.changes.first f.first t.in_look address long t.look;
   all = all_join t.in_trial t.in_second_look
       (made_leave (is_number f.first) _ f.trial t.in_trial (λ attempt is. one_leaves t.in_trial is.said is.part (trial_leaves_ready options (number_in f.first) attempt t.in_trial address long is)) t.trial)
-      (made_leave (goes_on f.trial) _ f.second t.in_second_look (λ sighting is. one_leaves t.in_second_look is.said is.part (look_leaves options sighting t.in_second_look address long is)) t.second_look);
+      (made_leave (goes_on f.trial) _ f.second t.in_second_look (λ sighting is. one_leaves t.in_second_look is.said is.part (look_leaves options f.changes.second sighting t.in_second_look address long is)) t.second_look.0);
 }
 
 pub hosts : (parts behind : List (List Item)) → BeginsByLook parts → AllLeave behind ⊎ AreHosts behind → AreHosts (parts ++ behind)
@@ -264,6 +264,6 @@ tried_hosts options f parts address long p = by_deposit (stores (verdict_of f)) 
 pub believes_over : (options : ProbeOptions) (f : Findings) (parts : List (List Item)) → IsAddress options.address → options.patience < 2 ^ 32 →
     IsProbe options f parts → AreBelievableOver f parts
 believes_over options f parts address long p machine now lost ready honest =
-    let behind = behind_second options (verdict_of f) (number_in f.first) f.put_back f.search p.in_deposit p.in_search p.deposit p.search long in
+    let behind = behind_second options (verdict_of f) (number_in f.first) f.put_back f.changes.search f.search p.in_deposit p.in_search p.deposit p.search long in
     let are = hosts p.in_tries (p.in_deposit ++ p.in_search) (tries_begin options f p.in_tries address long p.tried) behind in
     believes options f parts address long p machine now lost ready (row_of_line machine now parts lost ready (subst AreHosts (sym p.parts_are) are) honest)

@@ -79,27 +79,27 @@ ready_at limits from pieces end last said machine now lost reads pass ready hone
 
 -- ---- what the passes find that are left, where memory ends not before an address and not behind a limit
 
-abbrev FindsFrom : (from limit patience : ℕ) → Search → List (List Item) → Type 0
-FindsFrom from limit patience search parts =
+abbrev FindsFrom : (from limit patience : ℕ) → Search → ℕ → List (List Item) → Type 0
+FindsFrom from limit patience search changed parts =
     (machine now : Machine) (lost : ℕ) → IsReadyMachine machine → from ≤ top_of machine.memory → top_of machine.memory ≤ limit → AreHonest machine parts lost now →
-    (now.memory ≡ machine.memory) × IsTrueEnd search machine.memory patience lost
+    (now.memory ≡ machine.memory) × IsTrueEnd search machine.memory patience lost × (changed ≡ 0)
 
 -- these passes came to this, and what they find is so
-record Runs (passes : List Pieces) (limits : Limits) (from limit : ℕ) (search : Search) (line line' : LineTold) : Type 0 where
+record Runs (passes : List Pieces) (limits : Limits) (from limit : ℕ) (search : Search) (changed : ℕ) (line line' : LineTold) : Type 0 where
   pub parts : List (List Item)
-  pub searches : Searches passes (ahead limits from) search parts
+  pub searches : Searches passes (ahead limits from) search changed parts
   pub on_line : Gains line.said line'.said (in_a_row parts)
-  pub finds : FindsFrom from limit limits.patience search parts
+  pub finds : FindsFrom from limit limits.patience search changed parts
   pub counted : CountsFault (line_fault (stop_of search)) line.failures line'.failures
   pub named : IsLastFault (line_fault (stop_of search)) line'.fault
 
 -- none is left: memory ends here
-run_none : (limits : Limits) (from : ℕ) (line : LineTold) → Runs [] limits from from (Ends from) line line
+run_none : (limits : Limits) (from : ℕ) (line : LineTold) → Runs [] limits from from (Ends from) 0 line line
 run_none limits from line = record {
   parts = [];
   searches = NoPassLeft (ahead limits from);
   on_line = gains_none line.said;
-  finds = λ machine now lost ready reaches within honest. (ap (λ (m : Machine). m.memory) honest.0, omega (arith, reaches, within));
+  finds = λ machine now lost ready reaches within honest. (ap (λ (m : Machine). m.memory) honest.0, omega (arith, reaches, within), refl);
   counted = refl;
   named = tt;
 }
@@ -107,57 +107,57 @@ run_none limits from line = record {
 -- ---- the last pass
 
 -- what is right of a pass that ended the search
-over_right : (limits : Limits) (from : ℕ) (pieces : Pieces) (stop : LookStop) (last : Reader) (said : List Item) (search : Search) → ArePieces from pieces → IsReader (first limits.patience from pieces) → IsPass (pass_over limits from pieces) stop last said →
-    Over search ≡ passed stop (found from pieces last) → FindsFrom from (from + pieces.bytes * pieces.count) limits.patience search (said ∷ [])
-over_right limits from pieces (Ended Complete) last said search are reads pass is machine now lost ready reaches within (between, lost_first, lost_later, honest, (same, none), all) =
+over_right : (limits : Limits) (from : ℕ) (pieces : Pieces) (stop : LookStop) (last : Reader) (said : List Item) (search : Search) (changed : ℕ) → ArePieces from pieces → IsReader (first limits.patience from pieces) → IsPass (pass_over limits from pieces) stop last said →
+    Over search ≡ passed stop (found from pieces last) → changed ≡ last.foreign → FindsFrom from (from + pieces.bytes * pieces.count) limits.patience search changed (said ∷ [])
+over_right limits from pieces (Ended Complete) last said search changed are reads pass is counted machine now lost ready reaches within (between, lost_first, lost_later, honest, (same, none), all) =
     let t = true_at limits from pieces Complete last said machine between lost_first reads pass ready honest in
     let o = is_over limits from pieces (Ended Complete) last said reads pass in
     let far : found from pieces last ≤ top_of machine.memory = reached machine.memory from pieces last are o reaches (subst (λ m. HoldsRead m last) t.same t.read) in
     let whole : length last.values ≡ pieces.count = all_read from pieces last o pass.end in
     let top : top_of machine.memory ≡ found from pieces last = omega (arith, far, within, ap (λ n. pieces.bytes * n) whole) in
-    (ap (λ (m : Machine). m.memory) same ∙ t.same, subst (λ s. IsTrueEnd s machine.memory limits.patience lost) (sym (searched is)) top)
+    (ap (λ (m : Machine). m.memory) same ∙ t.same, subst (λ s. IsTrueEnd s machine.memory limits.patience lost) (sym (searched is)) top, counted ∙ t.foreign)
   where
     searched : {found : ℕ} → Over search ≡ Over (Ends found) → search ≡ Ends found
     searched e = cc e
-over_right limits from pieces (Ended (NoWord a)) last said search are reads pass is machine now lost ready reaches within honest = absurd (cc is)
-over_right limits from pieces (Ended GaveUp) last said search are reads pass is machine now lost ready reaches within (between, lost_first, lost_later, honest, (same, none), all) =
+over_right limits from pieces (Ended (NoWord a)) last said search changed are reads pass is counted machine now lost ready reaches within honest = absurd (cc is)
+over_right limits from pieces (Ended GaveUp) last said search changed are reads pass is counted machine now lost ready reaches within (between, lost_first, lost_later, honest, (same, none), all) =
     let t = true_at limits from pieces GaveUp last said machine between lost_first reads pass ready honest in
     let paid : last.patience < lost_first + 0 = paid_at last.phase GaveUp between.memory last.patience (lost_first + 0) pass.end t.cause in
     let more : limits.patience < lost = omega (arith, paid, same_patience limits from pieces (Ended GaveUp) last said pass, none, all) in
-    (ap (λ (m : Machine). m.memory) same ∙ t.same, subst (λ s. IsTrueEnd s machine.memory limits.patience lost) (sym (searched is)) more)
+    (ap (λ (m : Machine). m.memory) same ∙ t.same, subst (λ s. IsTrueEnd s machine.memory limits.patience lost) (sym (searched is)) more, counted ∙ t.foreign)
   where
     searched : Over search ≡ Over (Stopped (Ended GaveUp)) → search ≡ Stopped (Ended GaveUp)
     searched e = cc e
-over_right limits from pieces TurnsOver last said search are reads pass is machine now lost ready reaches within (between, lost_first, lost_later, honest, (same, none), all) =
+over_right limits from pieces TurnsOver last said search changed are reads pass is counted machine now lost ready reaches within (between, lost_first, lost_later, honest, (same, none), all) =
     let t = believed limits from pieces TurnsOver last said reads pass machine between lost_first (may_look (last_words from pieces.bytes pieces.count) limits.patience machine ready) honest in
-    (ap (λ (m : Machine). m.memory) same ∙ t.same, subst (λ s. IsTrueEnd s machine.memory limits.patience lost) (sym (searched is)) tt)
+    (ap (λ (m : Machine). m.memory) same ∙ t.same, subst (λ s. IsTrueEnd s machine.memory limits.patience lost) (sym (searched is)) tt, counted ∙ t.foreign)
   where
     searched : Over search ≡ Over (Stopped TurnsOver) → search ≡ Stopped TurnsOver
     searched e = cc e
-over_right limits from pieces (LineFailed fault) last said search are reads pass is machine now lost ready reaches within (between, lost_first, lost_later, honest, (same, none), all) =
+over_right limits from pieces (LineFailed fault) last said search changed are reads pass is counted machine now lost ready reaches within (between, lost_first, lost_later, honest, (same, none), all) =
     let t = (believed limits from pieces (LineFailed fault) last said reads pass).0 machine between lost_first (may_look (last_words from pieces.bytes pieces.count) limits.patience machine ready) honest in
-    (ap (λ (m : Machine). m.memory) same ∙ t.same, subst (λ s. IsTrueEnd s machine.memory limits.patience lost) (sym (searched is)) tt)
+    (ap (λ (m : Machine). m.memory) same ∙ t.same, subst (λ s. IsTrueEnd s machine.memory limits.patience lost) (sym (searched is)) tt, counted ∙ t.foreign)
   where
     searched : Over search ≡ Over (Stopped (LineFailed fault)) → search ≡ Stopped (LineFailed fault)
     searched e = cc e
 
-run_over : (pieces : Pieces) (passes : List Pieces) (limits : Limits) (from : ℕ) (search : Search) (line line' : LineTold) → ArePieces from pieces → Stepped (pass_over limits from pieces) (Over search) line line' →
-    Runs (pieces ∷ passes) limits from (from + pieces.bytes * pieces.count) search line line'
-run_over pieces passes limits from search line line' are s = record {
+run_over : (pieces : Pieces) (passes : List Pieces) (limits : Limits) (from : ℕ) (search : Search) (changed : ℕ) (line line' : LineTold) → ArePieces from pieces → Stepped (pass_over limits from pieces) (Over search) changed line line' →
+    Runs (pieces ∷ passes) limits from (from + pieces.bytes * pieces.count) search changed line line'
+run_over pieces passes limits from search changed line line' are s = record {
   parts = s.said ∷ [];
-  searches = LastPass pieces passes (ahead limits from) search s.said s.came;
+  searches = LastPass pieces passes (ahead limits from) search changed s.said s.came;
   on_line = subst (Gains line.said line'.said) (sym (append-nil s.said)) s.on_line;
-  finds = over_right limits from pieces s.came.stop s.came.last s.said search are s.reads s.came.is_pass s.came.end_is;
+  finds = over_right limits from pieces s.came.stop s.came.last s.said search changed are s.reads s.came.is_pass s.came.end_is s.came.changed_is;
   counted = s.counted;
   named = s.named;
 }
 
 -- ---- a pass, and those that follow it
 
-more_right : (limits : Limits) (from limit next : ℕ) (pieces : Pieces) (stop : LookStop) (last : Reader) (said : List Item) (search : Search) (parts : List (List Item)) → ArePieces from pieces → IsReader (first limits.patience from pieces) →
-    IsPass (pass_over limits from pieces) stop last said → Lacking next ≡ passed stop (found from pieces last) → next + pieces.bytes ≤ limit + 2 → FindsFrom next limit limits.patience search parts →
-    FindsFrom from (from + pieces.bytes * pieces.count) limits.patience search (said ∷ parts)
-more_right limits from limit next pieces (Ended (NoWord a)) last said search parts are reads pass is fits finds machine now lost ready reaches within (between, lost_first, lost_later, honest, rest, all) =
+more_right : (limits : Limits) (from limit next : ℕ) (pieces : Pieces) (stop : LookStop) (last : Reader) (said : List Item) (search : Search) (changed more : ℕ) (parts : List (List Item)) → ArePieces from pieces → IsReader (first limits.patience from pieces) →
+    IsPass (pass_over limits from pieces) stop last said → Lacking next ≡ passed stop (found from pieces last) → changed ≡ last.foreign → next + pieces.bytes ≤ limit + 2 → FindsFrom next limit limits.patience search more parts →
+    FindsFrom from (from + pieces.bytes * pieces.count) limits.patience search (changed + more) (said ∷ parts)
+more_right limits from limit next pieces (Ended (NoWord a)) last said search changed more parts are reads pass is counted fits finds machine now lost ready reaches within (between, lost_first, lost_later, honest, rest, all) =
     let t = true_at limits from pieces (NoWord a) last said machine between lost_first reads pass ready honest in
     let o = is_over limits from pieces (Ended (NoWord a)) last said reads pass in
     let far : found from pieces last ≤ top_of machine.memory = reached machine.memory from pieces last are o reaches (subst (λ m. HoldsRead m last) t.same t.read) in
@@ -165,7 +165,7 @@ more_right limits from limit next pieces (Ended (NoWord a)) last said search par
     let tops : top_of between.memory ≡ top_of machine.memory = ap top_of t.same in
     let later = finds between now lost_later (ready_at limits from pieces (NoWord a) last said machine between lost_first reads pass ready honest)
     (omega (arith, far, tops, here is)) (omega (arith, past, lacking from a pieces last o pass.end, here is, fits, are.some)) rest in
-    (later.0 ∙ t.same, right_more search between.memory machine.memory limits.patience lost_later lost t.same (omega (arith, all)) later.1)
+    (later.0 ∙ t.same, right_more search between.memory machine.memory limits.patience lost_later lost t.same (omega (arith, all)) later.1, omega (arith, counted, t.foreign, later.2))
   where
     here : {at : ℕ} → Lacking next ≡ Lacking at → next ≡ at
     here e = cc e
@@ -177,31 +177,31 @@ more_right limits from limit next pieces (Ended (NoWord a)) last said search par
     right_more (Stopped (Ended (NoWord a))) memory before patience lost more same le right = tt
     right_more (Stopped TurnsOver) memory before patience lost more same le right = tt
     right_more (Stopped (LineFailed fault)) memory before patience lost more same le right = tt
-more_right limits from limit next pieces (Ended Complete) last said search parts are reads pass is fits finds machine now lost ready reaches within honest = absurd (cc is)
-more_right limits from limit next pieces (Ended GaveUp) last said search parts are reads pass is fits finds machine now lost ready reaches within honest = absurd (cc is)
-more_right limits from limit next pieces TurnsOver last said search parts are reads pass is fits finds machine now lost ready reaches within honest = absurd (cc is)
-more_right limits from limit next pieces (LineFailed fault) last said search parts are reads pass is fits finds machine now lost ready reaches within honest = absurd (cc is)
+more_right limits from limit next pieces (Ended Complete) last said search changed more parts are reads pass is counted fits finds machine now lost ready reaches within honest = absurd (cc is)
+more_right limits from limit next pieces (Ended GaveUp) last said search changed more parts are reads pass is counted fits finds machine now lost ready reaches within honest = absurd (cc is)
+more_right limits from limit next pieces TurnsOver last said search changed more parts are reads pass is counted fits finds machine now lost ready reaches within honest = absurd (cc is)
+more_right limits from limit next pieces (LineFailed fault) last said search changed more parts are reads pass is counted fits finds machine now lost ready reaches within honest = absurd (cc is)
 
-run_more : (pieces : Pieces) (passes : List Pieces) (limits : Limits) (from next limit : ℕ) (search : Search) (line line' line'' : LineTold) → ArePieces from pieces → Stepped (pass_over limits from pieces) (Lacking next) line line' →
-    next + pieces.bytes ≤ limit + 2 → Runs passes limits next limit search line' line'' → Runs (pieces ∷ passes) limits from (from + pieces.bytes * pieces.count) search line line''
-run_more pieces passes limits from next limit search line line' line'' are s fits run = record {
+run_more : (pieces : Pieces) (passes : List Pieces) (limits : Limits) (from next limit : ℕ) (search : Search) (changed more : ℕ) (line line' line'' : LineTold) → ArePieces from pieces → Stepped (pass_over limits from pieces) (Lacking next) changed line line' →
+    next + pieces.bytes ≤ limit + 2 → Runs passes limits next limit search more line' line'' → Runs (pieces ∷ passes) limits from (from + pieces.bytes * pieces.count) search (changed + more) line line''
+run_more pieces passes limits from next limit search changed more line line' line'' are s fits run = record {
   parts = s.said ∷ run.parts;
-  searches = OnePassMore pieces passes (ahead limits from) search next s.said run.parts s.came run.searches;
+  searches = OnePassMore pieces passes (ahead limits from) search next changed more s.said run.parts s.came run.searches;
   on_line = gains_join line.said line'.said line''.said s.said (in_a_row run.parts) s.on_line run.on_line;
-  finds = more_right limits from limit next pieces s.came.stop s.came.last s.said search run.parts are s.reads s.came.is_pass s.came.end_is fits run.finds;
+  finds = more_right limits from limit next pieces s.came.stop s.came.last s.said search changed more run.parts are s.reads s.came.is_pass s.came.end_is s.came.changed_is fits run.finds;
   counted = subst (λ count. CountsFault (line_fault (stop_of search)) count line''.failures) s.counted run.counted;
   named = run.named;
 }
 
 -- ---- the three passes
 
-abbrev large : Pieces
+abbrev pub large : Pieces
 large = record { bytes = 0o4000; count = 28 }
 
-abbrev small : Pieces
+abbrev pub small : Pieces
 small = record { bytes = 0o100; count = 32 }
 
-abbrev words : Pieces
+abbrev pub words : Pieces
 words = record { bytes = 2; count = 32 }
 
 large_are : ArePieces 0 large
@@ -213,8 +213,8 @@ small_are from lies = record { even = lies.0; whole = refl; some = omega arith; 
 words_are : (before from : ℕ) → ArePieces before small → LiesWithin before small (Lacking from) → ArePieces from words
 words_are before from are lies = record { even = lies.0; whole = refl; some = omega arith; below = omega (arith, lies.1, are.below) }
 
-finds_end : (limits : Limits) (search : Search) (line line' : LineTold) → Runs three_passes limits 0 0o160000 search line line' → FindsEnd limits search line line'
-finds_end limits search line line' run = record {
+finds_end : (limits : Limits) (search : Search) (changed : ℕ) (line line' : LineTold) → Runs three_passes limits 0 0o160000 search changed line line' → FindsEnd limits search changed line line'
+finds_end limits search changed line line' run = record {
   parts = run.parts;
   passes = run.searches;
   on_line = run.on_line;
@@ -224,34 +224,39 @@ finds_end limits search line line' run = record {
 }
 
 -- the first pass ended the search
-pub ends_first : (limits : Limits) (search : Search) (line line' : LineTold) → Stepped (pass_over limits 0 large) (Over search) line line' → FindsEnd limits search line line'
-ends_first limits search line line' one = finds_end limits search line line' (run_over large (small ∷ words ∷ []) limits 0 search line line' large_are one)
+pub ends_first : (limits : Limits) (search : Search) (n : ℕ) (line line' : LineTold) → Stepped (pass_over limits 0 large) (Over search) n line line' → FindsEnd limits search n line line'
+ends_first limits search n line line' one = finds_end limits search n line line' (run_over large (small ∷ words ∷ []) limits 0 search n line line' large_are one)
 
 -- passes that follow the first
-ends_later : (limits : Limits) (from : ℕ) (search : Search) (a b c : LineTold) → Stepped (pass_over limits 0 large) (Lacking from) a b → Runs (small ∷ words ∷ []) limits from (from + 64 * 32) search b c →
-    FindsEnd limits search a c
-ends_later limits from search a b c one run =
-    finds_end limits search a c (run_more large (small ∷ words ∷ []) limits 0 from (from + 64 * 32) search a b c large_are one (omega arith) run)
+ends_later : (limits : Limits) (from : ℕ) (search : Search) (n more : ℕ) (a b c : LineTold) → Stepped (pass_over limits 0 large) (Lacking from) n a b → Runs (small ∷ words ∷ []) limits from (from + 64 * 32) search more b c →
+    FindsEnd limits search (n + more) a c
+ends_later limits from search n more a b c one run =
+    finds_end limits search (n + more) a c (run_more large (small ∷ words ∷ []) limits 0 from (from + 64 * 32) search n more a b c large_are one (omega arith) run)
 
 -- the second did
-pub ends_second : (limits : Limits) (from : ℕ) (search : Search) (a b c : LineTold) → Stepped (pass_over limits 0 large) (Lacking from) a b → Stepped (pass_over limits from small) (Over search) b c → FindsEnd limits search a c
-ends_second limits from search a b c one two = ends_later limits from search a b c one (run_over small (words ∷ []) limits from search b c (small_are from one.within) two)
+pub ends_second : (limits : Limits) (from : ℕ) (search : Search) (n m : ℕ) (a b c : LineTold) → Stepped (pass_over limits 0 large) (Lacking from) n a b → Stepped (pass_over limits from small) (Over search) m b c →
+    FindsEnd limits search (n + m) a c
+ends_second limits from search n m a b c one two = ends_later limits from search n m a b c one (run_over small (words ∷ []) limits from search m b c (small_are from one.within) two)
 
 -- the third begins
-words_run : (limits : Limits) (from next : ℕ) (search : Search) (a b c d : LineTold) → Stepped (pass_over limits 0 large) (Lacking from) a b → Stepped (pass_over limits from small) (Lacking next) b c →
-    Runs (words ∷ []) limits next (next + 2 * 32) search c d → FindsEnd limits search a d
-words_run limits from next search a b c d one two run =
-    ends_later limits from search a b d one (run_more small (words ∷ []) limits from next (next + 2 * 32) search b c d (small_are from one.within) two (omega arith) run)
+words_run : (limits : Limits) (from next : ℕ) (search : Search) (n m more : ℕ) (a b c d : LineTold) → Stepped (pass_over limits 0 large) (Lacking from) n a b → Stepped (pass_over limits from small) (Lacking next) m b c →
+    Runs (words ∷ []) limits next (next + 2 * 32) search more c d → FindsEnd limits search (n + (m + more)) a d
+words_run limits from next search n m more a b c d one two run =
+    ends_later limits from search n (m + more) a b d one (run_more small (words ∷ []) limits from next (next + 2 * 32) search m more b c d (small_are from one.within) two (omega arith) run)
 
 -- and ended the search
-pub ends_third : (limits : Limits) (from next : ℕ) (search : Search) (a b c d : LineTold) → Stepped (pass_over limits 0 large) (Lacking from) a b → Stepped (pass_over limits from small) (Lacking next) b c →
-    Stepped (pass_over limits next words) (Over search) c d → FindsEnd limits search a d
-ends_third limits from next search a b c d one two three =
-    words_run limits from next search a b c d one two (run_over words [] limits next search c d (words_are from next (small_are from one.within) two.within) three)
+pub ends_third : (limits : Limits) (from next : ℕ) (search : Search) (n m k : ℕ) (a b c d : LineTold) → Stepped (pass_over limits 0 large) (Lacking from) n a b → Stepped (pass_over limits from small) (Lacking next) m b c →
+    Stepped (pass_over limits next words) (Over search) k c d → FindsEnd limits search (n + (m + k)) a d
+ends_third limits from next search n m k a b c d one two three =
+    words_run limits from next search n m k a b c d one two (run_over words [] limits next search k c d (words_are from next (small_are from one.within) two.within) three)
 
 -- or came to memory's end
-pub ends_there : (limits : Limits) (from next top : ℕ) (a b c d : LineTold) → Stepped (pass_over limits 0 large) (Lacking from) a b → Stepped (pass_over limits from small) (Lacking next) b c →
-    Stepped (pass_over limits next words) (Lacking top) c d → FindsEnd limits (Ends top) a d
-ends_there limits from next top a b c d one two three =
-    words_run limits from next (Ends top) a b c d one two
-    (run_more words [] limits next top top (Ends top) c d d (words_are from next (small_are from one.within) two.within) three (omega arith) (run_none limits top d))
+pub ends_there : (limits : Limits) (from next top : ℕ) (n m k : ℕ) (a b c d : LineTold) → Stepped (pass_over limits 0 large) (Lacking from) n a b → Stepped (pass_over limits from small) (Lacking next) m b c →
+    Stepped (pass_over limits next words) (Lacking top) k c d → FindsEnd limits (Ends top) (n + (m + k)) a d
+ends_there limits from next top n m k a b c d one two three =
+    subst (λ count. FindsEnd limits (Ends top) (n + (m + count)) a d) (none_more k)
+    (words_run limits from next (Ends top) n m (k + 0) a b c d one two
+    (run_more words [] limits next top top (Ends top) k 0 c d d (words_are from next (small_are from one.within) two.within) three (omega arith) (run_none limits top d)))
+  where
+    none_more : (count : ℕ) → count + 0 ≡ count
+    none_more count = omega arith

@@ -24,7 +24,7 @@ same_fault (LineFailed fault) end = refl
 same_fault TurnsOver end = refl
 
 pub stepped : (limits : Limits) (from : ℕ) (pieces : Pieces) (core last : Reader) (stop : LookStop) (before after : LineTold) → ArePieces from pieces → core ≡ reader_of (pass_over limits from pieces) → IsReader core
-    → IsInquired limits.turns (inquiry core last (Some stop)) before after → Stepped (pass_over limits from pieces) (passed stop (found from pieces last)) before after
+    → IsInquired limits.turns (inquiry core last (Some stop)) before after → Stepped (pass_over limits from pieces) (passed stop (found from pieces last)) last.foreign before after
 stepped limits from pieces core last stop before after are begins reads i =
     let s = i.turns.session in record {
       said = s.said;
@@ -37,6 +37,7 @@ stepped limits from pieces core last stop before after are begins reads i =
           end = i.turns.end;
         };
         end_is = refl;
+        changed_is = refl;
       };
       reads = subst IsReader begins reads;
       within = passed_within from pieces stop last are (record { addresses = i.same_addresses ∙ ap (λ (r : Reader). r.addresses) begins; kept = i.kept }) i.turns.end;

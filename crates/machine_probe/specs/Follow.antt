@@ -50,6 +50,10 @@ MadeWhere {A} true run (Some found) parts = run found parts
 MadeWhere {A} false run None parts = parts ≡ []
 MadeWhere {A} wanted run found parts = ⊥
 
+-- the same of a run in which characters are counted that no loss explains: where it was not made, there are none
+abbrev pub CountedWhere : {A : Type 0} → Bool → (ℕ → A → List (List Item) → Type 0) → ℕ → Option A → List (List Item) → Type 0
+CountedWhere {A} wanted run changed found parts = MadeWhere wanted (run changed) found parts × (found ≡ None → changed ≡ 0)
+
 -- what a probe does before it decides gave these findings: a look, a trial where that read a number, and a second look behind every trial whose
 -- line goes on
 pub record IsTried (options : ProbeOptions) (f : Findings) (parts : List (List Item)) : Type 0 where
@@ -57,9 +61,9 @@ pub record IsTried (options : ProbeOptions) (f : Findings) (parts : List (List I
   pub in_trial : List (List Item)
   pub in_second_look : List (List Item)
   pub parts_are : parts ≡ in_look ++ (in_trial ++ in_second_look)
-  pub look : LooksAt options f.first in_look
+  pub look : LooksAt options f.changes.first f.first in_look
   pub trial : MadeWhere (is_number f.first) (IsTrialOf options (number_in f.first)) f.trial in_trial
-  pub second_look : MadeWhere (goes_on f.trial) (LooksAt options) f.second in_second_look
+  pub second_look : CountedWhere (goes_on f.trial) (LooksAt options) f.changes.second f.second in_second_look
 
 -- the runs of a probe gave these findings: it tried, and then the old number is put back where the console stored another, and memory's end is
 -- searched where it forgets
@@ -71,7 +75,7 @@ pub record IsProbe (options : ProbeOptions) (f : Findings) (parts : List (List I
   pub parts_are : parts ≡ in_tries ++ (in_deposit ++ in_search)
   pub tried : IsTried options f in_tries
   pub deposit : MadeWhere (stores (verdict_of f)) (PutsBack options (number_in f.first)) f.put_back in_deposit
-  pub search : MadeWhere (forgets (verdict_of f)) (IsSearch options) f.search in_search
+  pub search : CountedWhere (forgets (verdict_of f)) (IsSearch options) f.changes.search f.search in_search
 
 -- a console was tried out, and gave these findings: the old number was put back where it stored another, and memory's end was not searched
 pub record IsTriedOut (options : ProbeOptions) (f : Findings) (parts : List (List Item)) : Type 0 where
@@ -84,7 +88,7 @@ pub record IsTriedOut (options : ProbeOptions) (f : Findings) (parts : List (Lis
 
 -- no digit was typed: there was a look at most
 abbrev pub IsUntried : ProbeOptions → List (List Item) → Type 0
-IsUntried options parts = (parts ≡ []) ⊎ ((sighting : Sighting) × LooksAt options sighting parts)
+IsUntried options parts = (parts ≡ []) ⊎ ((changed : ℕ) × (sighting : Sighting) × LooksAt options changed sighting parts)
 
 -- a probe found the same number again, and did not search memory's end
 pub record IsUnsearched (options : ProbeOptions) (parts : List (List Item)) : Type 0 where
@@ -94,4 +98,4 @@ pub record IsUnsearched (options : ProbeOptions) (parts : List (List Item)) : Ty
 
 -- where a probe may be broken off: behind its first look, with no digit typed, or behind a second look that read the same number
 abbrev pub IsBrokenOff : ProbeOptions → List (List Item) → Type 0
-IsBrokenOff options parts = ((sighting : Sighting) × LooksAt options sighting parts) ⊎ IsUnsearched options parts
+IsBrokenOff options parts = ((changed : ℕ) × (sighting : Sighting) × LooksAt options changed sighting parts) ⊎ IsUnsearched options parts

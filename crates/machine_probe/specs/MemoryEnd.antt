@@ -27,18 +27,19 @@ IsTrueEnd (Ends top) memory patience lost = top_of memory ≡ top
 IsTrueEnd (Stopped (Ended GaveUp)) memory patience lost = patience < lost
 IsTrueEnd (Stopped stop) memory patience lost = ⊤
 
--- over every machine that runs no program, and honest lines in a row: memory is what it was, and what is answered is so
-abbrev pub IsFound : ℕ → Search → List (List Item) → Type 0
-IsFound patience search parts =
+-- over every machine that runs no program, and honest lines in a row: memory is what it was, what is answered is so, and no character came that no
+-- loss explains
+abbrev pub IsFound : ℕ → Search → ℕ → List (List Item) → Type 0
+IsFound patience search changed parts =
     (machine machine' : Machine) (lost : ℕ) → IsReadyMachine machine → AreHonest machine parts lost machine' →
-    (machine'.memory ≡ machine.memory) × IsTrueEnd search machine.memory patience lost
+    (machine'.memory ≡ machine.memory) × IsTrueEnd search machine.memory patience lost × (changed ≡ 0)
 
--- a search came to this, with what the line told before and tells after
-pub record FindsEnd (limits : Limits) (search : Search) (before after : LineTold) : Type 0 where
+-- a search came to this, and so many characters that no loss explains, with what the line told before and tells after
+pub record FindsEnd (limits : Limits) (search : Search) (changed : ℕ) (before after : LineTold) : Type 0 where
   -- what was said in each pass
   pub parts : List (List Item)
-  pub passes : Searches three_passes (ahead limits 0) search parts
+  pub passes : Searches three_passes (ahead limits 0) search changed parts
   pub on_line : Gains before.said after.said (in_a_row parts)
-  pub believed : IsFound limits.patience search parts
+  pub believed : IsFound limits.patience search changed parts
   pub counted : CountsFault (line_fault (stop_of search)) before.failures after.failures
   pub named : IsLastFault (line_fault (stop_of search)) after.fault

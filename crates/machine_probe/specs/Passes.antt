@@ -71,12 +71,13 @@ passed (Ended (NoWord address)) found = Lacking found
 passed (Ended Complete) found = Over (Ends found)
 passed stop found = Over (Stopped stop)
 
--- a pass came to this, with what was said of it
-pub record CameTo (pass : Pass) (end : PassEnd) (said : List Item) : Type 0 where
+-- a pass came to this, with what was said of it, and so many characters that no loss explains
+pub record CameTo (pass : Pass) (end : PassEnd) (changed : ℕ) (said : List Item) : Type 0 where
   pub stop : LookStop
   pub last : Reader
   pub is_pass : IsPass pass stop last said
   pub end_is : end ≡ passed stop (found pass.from pass.pieces last)
+  pub changed_is : changed ≡ last.foreign
 
 -- what is ahead of a search: from which address on its passes go, and the limits of each
 pub record Ahead : Type 0 where
@@ -87,12 +88,12 @@ pub record Ahead : Type 0 where
 abbrev pub ahead : Limits → ℕ → Ahead
 ahead limits from = record { limits = limits; from = from }
 
--- passes over these pieces came to this, with what was said in each. Where none is left, memory ends; a pass ends the search; or a piece lacked its
--- last word, and the passes that are left go over that piece
-pub data Searches : List Pieces → Ahead → Search → List (List Item) → Type 0 where
-  NoPassLeft : (at : Ahead) → Searches [] at (Ends at.from) []
-  LastPass : (pieces : Pieces) (passes : List Pieces) (at : Ahead) (search : Search) (said : List Item)
-      → CameTo (pass_over at.limits at.from pieces) (Over search) said → Searches (pieces ∷ passes) at search (said ∷ [])
-  OnePassMore : (pieces : Pieces) (passes : List Pieces) (at : Ahead) (search : Search) (from : ℕ) (said : List Item) (parts : List (List Item))
-      → CameTo (pass_over at.limits at.from pieces) (Lacking from) said → Searches passes (ahead at.limits from) search parts
-      → Searches (pieces ∷ passes) at search (said ∷ parts)
+-- passes over these pieces came to this, with how many characters no loss explains in all, and what was said in each. Where none is left, memory
+-- ends; a pass ends the search; or a piece lacked its last word, and the passes that are left go over that piece
+pub data Searches : List Pieces → Ahead → Search → ℕ → List (List Item) → Type 0 where
+  NoPassLeft : (at : Ahead) → Searches [] at (Ends at.from) 0 []
+  LastPass : (pieces : Pieces) (passes : List Pieces) (at : Ahead) (search : Search) (changed : ℕ) (said : List Item)
+      → CameTo (pass_over at.limits at.from pieces) (Over search) changed said → Searches (pieces ∷ passes) at search changed (said ∷ [])
+  OnePassMore : (pieces : Pieces) (passes : List Pieces) (at : Ahead) (search : Search) (from changed later : ℕ) (said : List Item) (parts : List (List Item))
+      → CameTo (pass_over at.limits at.from pieces) (Lacking from) changed said → Searches passes (ahead at.limits from) search later parts
+      → Searches (pieces ∷ passes) at search (changed + later) (said ∷ parts)

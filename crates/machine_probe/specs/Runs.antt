@@ -20,8 +20,8 @@ use Rattle.machine_probe.specs.declared.probe_options.ProbeOptions.{ProbeOptions
 use Rattle.machine_probe.specs.Came.{trial_findings_of, extent_of, first_of, sighting_of}
 use Rattle.machine_probe.specs.Turns.{turns_of}
 
--- a look at the word gave this
-pub record LooksAt (options : ProbeOptions) (sighting : Sighting) (parts : List (List Item)) : Type 0 where
+-- a look at the word gave this, and so many characters came in it that no loss explains
+pub record LooksAt (options : ProbeOptions) (changed : ℕ) (sighting : Sighting) (parts : List (List Item)) : Type 0 where
   pub said : List Item
   pub part : parts ≡ said ∷ []
   pub stop : LookStop
@@ -29,6 +29,7 @@ pub record LooksAt (options : ProbeOptions) (sighting : Sighting) (parts : List 
   pub inquired : Inquired (turns_of options.patience) (inquiry (looker options.address options.patience) last (Some stop)) (Some []) (Some said)
   pub end : TellsEnd stop (ended last.phase)
   pub sighting_is : sighting ≡ sighting_of stop (first_of last.values)
+  pub changed_is : changed ≡ last.foreign
 
 -- a trial of the word, which holds this number, gave this
 pub record IsTrialOf (options : ProbeOptions) (old : ℕ) (attempt : TrialFindings) (parts : List (List Item)) : Type 0 where
@@ -40,12 +41,12 @@ pub record IsTrialOf (options : ProbeOptions) (old : ℕ) (attempt : TrialFindin
   pub end : TellsEnd stop (trial_ended last.phase)
   pub findings_are : attempt ≡ trial_findings_of last stop
 
--- a search of memory's end gave this, a part for each of its passes
-pub record IsSearch (options : ProbeOptions) (extent : Extent) (parts : List (List Item)) : Type 0 where
+-- a search of memory's end gave this, a part for each of its passes, and so many characters came in them that no loss explains
+pub record IsSearch (options : ProbeOptions) (changed : ℕ) (extent : Extent) (parts : List (List Item)) : Type 0 where
   pub search : Search
-  pub passes : Searches three_passes (ahead (limits options.patience (turns_of options.patience)) 0) search parts
+  pub passes : Searches three_passes (ahead (limits options.patience (turns_of options.patience)) 0) search changed parts
   pub extent_is : extent ≡ extent_of search
-  pub found : IsFound options.patience search parts
+  pub found : IsFound options.patience search changed parts
 
 -- runs were made over a line that told this and then that: it gained what was said in their parts
 pub record OnLine (runs : List (List Item) → Type 0) (line line' : Option (List Item)) : Type 0 where

@@ -22,10 +22,10 @@ abbrev pub stop_in : PassEnd → Option LookStop
 stop_in (Lacking next) = None
 stop_in (Over search) = stop_of search
 
--- a pass came to this, with what the line told before and tells after
-pub record Stepped (pass : Pass) (result : PassEnd) (before after : LineTold) : Type 0 where
+-- a pass came to this, and so many characters that no loss explains, with what the line told before and tells after
+pub record Stepped (pass : Pass) (result : PassEnd) (changed : ℕ) (before after : LineTold) : Type 0 where
   pub said : List Item
-  pub came : CameTo pass result said
+  pub came : CameTo pass result changed said
   pub reads : IsReader (reader_of pass)
   pub within : LiesWithin pass.from pass.pieces result
   pub on_line : Gains before.said after.said said

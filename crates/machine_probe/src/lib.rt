@@ -25,4 +25,4 @@ pub use probe_options::ProbeOptions;
 pub use probing::probe;
 pub use putting_back::Deposit;
 pub use runs::try_console;
-pub use search::Search;
+pub use search::{Search, Searched};

@@ -6,7 +6,7 @@ ghost use Rattle.host_devices.specs.Told.{SaysNothing};
 ghost use Rattle.looking_law.specs.Again.{looker};
 ghost use Rattle.probe_report.specs.Judging.{verdict_of};
 ghost use Rattle.machine_probe.specs.Came.{trial_findings_of, extent_of, first_of, sighting_of, trial_end_of};
-ghost use Rattle.machine_probe.specs.Follow.{IsBrokenOff, IsProbe, IsTriedOut, IsUntried, MadeWhere, forgets, goes_on, is_number, number_in, stores};
+ghost use Rattle.machine_probe.specs.Follow.{IsBrokenOff, IsProbe, IsTriedOut, IsUntried, CountedWhere, MadeWhere, forgets, goes_on, is_number, number_in, stores};
 ghost use Rattle.machine_probe.specs.PuttingBack.{PutsBack};
 ghost use Rattle.machine_probe.specs.Rooms.{AreLookers, HasDeposit};
 ghost use Rattle.machine_probe.specs.Runs.{LooksAt, IsSearch, IsTrialOf, OnLine};
@@ -15,9 +15,9 @@ use crate::memory_end::find_end;
 use crate::probe_options::ProbeOptions;
 use crate::putting_back::{Deposit, put_back};
 use crate::search::Search;
-use host_devices::{Line, Unwatched};
+use host_devices::{Line, Onlooker, Unwatched};
 use looking_engine::{Stop, conduct, inquire};
-use probe_report::{Extent, Findings, Sighting, TrialEnd, TrialFindings, Verdict, judge};
+use probe_report::{Changes, Extent, Findings, Sighting, TrialEnd, TrialFindings, Verdict, judge};
 use reading_core::{End, ReadingCore};
 use std::alloc::{AllocError, Global};
 use trial_core::{End as LastOfTrial, Trial};
@@ -55,26 +55,35 @@ fn looker(alloc: Global, options: ProbeOptions) -> Result<ReadingCore, AllocErro
 ///
 /// The one error is want of memory, before a digit was typed or behind a second look that read the same
 /// number.
-pub(crate) fn make_runs<L: Line>(
+pub(crate) fn make_runs<L: Line, O: Onlooker>(
     alloc: Global,
     lookers: Lookers,
     options: ProbeOptions,
     line: &mut L,
+    onlooker: &O,
 ) -> Result<Findings, AllocError>
     requires address { IsAddress options.address }
     requires lookers { AreLookers options lookers }
     ensures made { IfOk result (λ found. OnLine (IsProbe options found) (L.told line.old) (L.told line.new)) }
     ensures wanting { OnErr result (OnLine (IsBrokenOff options) (L.told line.old) (L.told line.new)) }
 {
-    let found = try_out(alloc, lookers, options, line)?;
-    let search = find_memory(alloc, judge(&found), options, line)?;
-    Ok(Findings { search, ..found })
+    let found = try_out(alloc, lookers, options, line, onlooker)?;
+    let (search, changed) = find_memory(alloc, judge(&found), options, line, onlooker)?;
+    let changes = Changes {
+        search: changed,
+        ..found.changes
+    };
+    Ok(Findings {
+        search,
+        changes,
+        ..found
+    })
 }
 
 /// Tries whether a console forgets digits at an illegal key, as `probe` does before it searches the end of memory: a look
 /// at the word, the trial of it, a second look, and where that read another number the old one is put back.
 ///
-/// The one error is want of memory, before a digit was typed.
+/// The one error is want of memory, before a digit was typed. Nobody looks on.
 pub fn try_console<L: Line>(
     alloc: Global,
     options: ProbeOptions,
@@ -85,15 +94,16 @@ pub fn try_console<L: Line>(
     ensures wanting { OnErr result (OnLine (IsUntried options) (L.told line.old) (L.told line.new)) }
 {
     let lookers = Lookers::new(alloc, options)?;
-    try_out(alloc, lookers, options, line)
+    try_out(alloc, lookers, options, line, &Unwatched)
 }
 
 // The same, where there are the hosts of the two looks.
-fn try_out<L: Line>(
+fn try_out<L: Line, O: Onlooker>(
     alloc: Global,
     lookers: Lookers,
     options: ProbeOptions,
     line: &mut L,
+    onlooker: &O,
 ) -> Result<Findings, AllocError>
     requires address { IsAddress options.address }
     requires lookers { AreLookers options lookers }
@@ -105,10 +115,10 @@ fn try_out<L: Line>(
         first: first_core,
         second: second_core,
     } = lookers;
-    let first = look(first_core, options, line);
+    let (first, changed) = look(first_core, options, line, onlooker);
     let deposit = deposit_for(alloc, first, options)?;
     let trial = try_word(first, options, line);
-    let second = look_again(trial, second_core, options, line);
+    let (second, changed_again) = look_again(trial, second_core, options, line, onlooker);
     let found = Findings {
         address: options.address,
         first,
@@ -116,18 +126,29 @@ fn try_out<L: Line>(
         second,
         put_back: None,
         search: None,
+        changes: Changes {
+            first: changed,
+            second: changed_again,
+            search: 0,
+        },
     };
     let put_back = restore(&found, deposit, options, line);
     Ok(Findings { put_back, ..found })
 }
 
-// A look at the word.
-fn look<L: Line>(core: ReadingCore, options: ProbeOptions, line: &mut L) -> Sighting
+// A look at the word, and how many characters came in it that no loss explains.
+fn look<L: Line, O: Onlooker>(
+    core: ReadingCore,
+    options: ProbeOptions,
+    line: &mut L,
+    onlooker: &O,
+) -> (Sighting, u32)
     requires { core ≡ looker options.address options.patience }
-    ensures { OnLine (LooksAt options result) (L.told line.old) (L.told line.new) }
+    ensures { OnLine (LooksAt options result.1 result.0) (L.told line.old) (L.told line.new) }
 {
-    let (core, stop) = inquire(core, line, options.turns(), &Unwatched);
-    sighting_of(stop, first_of(core.values()))
+    let (core, stop) = inquire(core, line, options.turns(), onlooker);
+    let sighting = sighting_of(stop, first_of(core.values()));
+    (sighting, core.foreign_count())
 }
 
 // The first of the numbers.
@@ -218,24 +239,28 @@ fn trial_end_of(stop: Stop<LastOfTrial>) -> TrialEnd
 }
 
 // The second look, behind every trial whose line goes on: digits may have been typed in each of them.
-fn look_again<L: Line>(
+fn look_again<L: Line, O: Onlooker>(
     trial: Option<TrialFindings>,
     core: ReadingCore,
     options: ProbeOptions,
     line: &mut L,
-) -> Option<Sighting>
+    onlooker: &O,
+) -> (Option<Sighting>, u32)
     requires { core ≡ looker options.address options.patience }
-    ensures { OnLine (MadeWhere (goes_on trial) (LooksAt options) result) (L.told line.old) (L.told line.new) }
+    ensures { OnLine (CountedWhere (goes_on trial) (LooksAt options) result.1 result.0) (L.told line.old) (L.told line.new) }
 {
     match trial {
-        None => None,
+        None => (None, 0),
         Some(
             TrialFindings {
                 end: TrialEnd::LineFailed(_),
                 ..
             },
-        ) => None,
-        Some(_) => Some(look(core, options, line)),
+        ) => (None, 0),
+        Some(_) => {
+            let (sighting, changed) = look(core, options, line, onlooker);
+            (Some(sighting), changed)
+        }
     }
 }
 
@@ -255,22 +280,23 @@ fn restore<L: Line>(
     }
 }
 
-// Searches the end of memory, where the console forgets.
-fn find_memory<L: Line>(
+// Searches the end of memory, where the console forgets, and counts the characters that came meanwhile and no loss explains.
+fn find_memory<L: Line, O: Onlooker>(
     alloc: Global,
     verdict: Verdict,
     options: ProbeOptions,
     line: &mut L,
-) -> Result<Option<Extent>, AllocError>
-    ensures searched { IfOk result (λ search. OnLine (MadeWhere (forgets verdict) (IsSearch options) search) (L.told line.old) (L.told line.new)) }
+    onlooker: &O,
+) -> Result<(Option<Extent>, u64), AllocError>
+    ensures searched { IfOk result (λ s. OnLine (CountedWhere (forgets verdict) (IsSearch options) s.1 s.0) (L.told line.old) (L.told line.new)) }
     ensures wanting { OnErr result ((forgets verdict ≡ true) × SaysNothing (L.told line.old) (L.told line.new)) }
 {
     match verdict {
         Verdict::Forgets => {
-            let search = find_end(alloc, line, options.patience, options.turns())?;
-            Ok(Some(extent_of(search)))
+            let found = find_end(alloc, line, options.patience, options.turns(), onlooker)?;
+            Ok((Some(extent_of(found.search)), found.changed))
         }
-        _ => Ok(None),
+        _ => Ok((None, 0)),
     }
 }
 

@@ -11,3 +11,13 @@ pub enum Search {
     /// A pass was not brought to its end: the host gave up, the line failed, or the turns were over.
     Stopped(Stop<End>),
 }
+
+/// What a search for the end of memory came to.
+#[derive(Clone, Copy, Debug, PartialEq, Eq)]
+pub struct Searched {
+    /// How it came out.
+    pub search: Search,
+
+    /// How many characters came in its passes that no loss explains.
+    pub changed: u64,
+}

@@ -1,7 +1,8 @@
 -- What a probe prints (this project's own): a line for each thing that is known.
-use Rattle.std.specs.Prelude.{ℕ, ◌-◌, ◌/◌, Bool, true, false, nat_lt, if◌then◌else◌, List, [], ◌++◌, codes, Option, Some}
+use Rattle.std.specs.Prelude.{ℕ, ◌+◌, ◌-◌, ◌/◌, ◌^◌, ◌==◌, Bool, true, false, nat_lt, min, if◌then◌else◌, List, [], ◌++◌, codes, decimal, Option, Some}
 use Rattle.octal.specs.Octal.{octal_text}
 use Rattle.byte_io.specs.Text.{line}
+use Rattle.probe_report.specs.declared.findings.Changes.{Changes}
 use Rattle.probe_report.specs.declared.findings.Findings.{Findings}
 use Rattle.probe_report.specs.declared.findings.Extent.{Extent}
 use Rattle.probe_report.specs.declared.findings.Extent.TheVariants.{Top}
@@ -58,6 +59,14 @@ abbrev pub memory_lines : Option Extent → Pace → List ℕ
 memory_lines (Some (Top top)) pace = line (extent_text top) ++ key_lines pace.key ++ load_lines pace.look (top / 2)
 memory_lines search pace = []
 
+-- how many characters came changed in all looks of a probe; at its largest, 64 bits, the count stays
+abbrev pub changed_in_all : Changes → ℕ
+changed_in_all changes = min (changes.first + changes.second + changes.search) (2 ^ 64 - 1)
+
+-- so many characters came changed: nothing is said where none did
+abbrev pub changed_lines : ℕ → List ℕ
+changed_lines count = if count == 0 then [] else line (codes "changed characters " ++ decimal count)
+
 -- the name of an end
 abbrev pub end_name : ProbeEnd → List ℕ
 end_name end.Probed = codes "Probed"
@@ -76,4 +85,5 @@ probe_text f notes pace =
     ++ style_lines f.trial
     ++ trust_lines f f.first
     ++ memory_lines f.search pace
+    ++ changed_lines (changed_in_all f.changes)
     ++ line (codes "end " ++ end_name (probe_end f notes.prompt))

@@ -68,6 +68,20 @@ pub enum Extent {
     LineFailed(LineFault),
 }
 
+/// How many characters the looks of a probe heard that no loss explains: the line changed them, or made them up. Of a look
+/// that was not made there are none. In a trial, which types an illegal key into a console of any style, none is counted.
+#[derive(Clone, Copy, Debug, PartialEq, Eq)]
+pub struct Changes {
+    /// In the first look at the word.
+    pub first: u32,
+
+    /// In the second.
+    pub second: u32,
+
+    /// In the search of memory's end.
+    pub search: u64,
+}
+
 /// What the runs of a probe gave, each where it was made.
 #[derive(Clone, Copy, Debug, PartialEq, Eq)]
 pub struct Findings {
@@ -88,4 +102,7 @@ pub struct Findings {
 
     /// The search of memory's end.
     pub search: Option<Extent>,
+
+    /// The changed characters.
+    pub changes: Changes,
 }

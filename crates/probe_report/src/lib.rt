@@ -16,7 +16,7 @@ mod probe_end;
 mod report;
 mod style_text;
 
-pub use findings::{Extent, Findings, Sighting, TrialEnd, TrialFindings};
+pub use findings::{Changes, Extent, Findings, Sighting, TrialEnd, TrialFindings};
 pub use judging::{Verdict, judge};
 pub use notes::Notes;
 pub use pace::Pace;

@@ -1,14 +1,14 @@
 //! The report of a probe.
-ghost use Rattle.std.specs.Prelude.{◌≡◌, ◌+◌, ◌≤◌, ◌++◌, [], codes};
+ghost use Rattle.std.specs.Prelude.{◌≡◌, ◌+◌, ◌≤◌, ◌++◌, [], codes, decimal};
 ghost use Rattle.arrayvec.specs.ArrayVec.{array_vec_len};
 ghost use Rattle.octal.specs.Octal.{octal_text};
 ghost use Rattle.byte_io.specs.Text.{line};
 ghost use Rattle.probe_report.specs.Ending.{probe_end};
 ghost use Rattle.probe_report.specs.ProbeText.{end_name, held_once, holds_again, memory_lines, extent_text, probe_text};
-ghost use Rattle.probe_report.specs.ProbeText.{prompt_line, trust_lines, verdict_text, word_lines};
+ghost use Rattle.probe_report.specs.ProbeText.{changed_in_all, changed_lines, prompt_line, trust_lines, verdict_text, word_lines};
 
 use crate::ending::end_of;
-use crate::findings::{Extent, Findings, Sighting};
+use crate::findings::{Changes, Extent, Findings, Sighting};
 use crate::heard_text::push_heard;
 use crate::judging::{Verdict, judge};
 use crate::notes::Notes;
@@ -16,10 +16,10 @@ use crate::pace::{Pace, push_key, push_load};
 use crate::probe_end::ProbeEnd;
 use crate::style_text::push_style;
 use arrayvec::ArrayVec;
-use byte_io::{push_bytes, push_octal};
+use byte_io::{push_bytes, push_decimal, push_octal};
 
 // More bytes than a report has.
-const REPORT_ROOM: usize = 1000;
+const REPORT_ROOM: usize = 1040;
 
 /// A report, in room of its own: a probe that is over needs no memory to say what it found.
 pub type Report = ArrayVec<u8, REPORT_ROOM>;
@@ -36,6 +36,7 @@ pub fn push_report(text: &mut Report, findings: &Findings, notes: &Notes, pace: 
     push_style(text, findings.trial);
     push_trust(text, findings);
     push_memory(text, findings.search, pace);
+    push_changed(text, changed_in_all(findings.changes));
     push_end(text, end);
     end
 }
@@ -150,8 +151,37 @@ fn push_last_word(text: &mut Report, last: u16)
     push_bytes(text, b"\n");
 }
 
+// Puts how many characters came changed, where any did: the report of a line that changes none is as it always was.
+fn push_changed(text: &mut Report, count: u64)
+    requires { array_vec_len text.old ≤ 880 }
+    ensures items { text.new.items ≡ text.old.items ++ changed_lines count }
+    ensures length { array_vec_len text.new ≤ array_vec_len text.old + 40 }
+{
+    if count > 0 {
+        push_changed_count(text, count);
+    }
+}
+
+fn push_changed_count(text: &mut Report, count: u64)
+    requires { array_vec_len text.old ≤ 880 }
+    ensures items { text.new.items ≡ text.old.items ++ line (codes "changed characters " ++ decimal count) }
+    ensures length { array_vec_len text.new ≤ array_vec_len text.old + 40 }
+{
+    push_bytes(text, b"changed characters ");
+    push_decimal(text, count);
+    push_bytes(text, b"\n");
+}
+
+// How many came changed in all looks.
+fn changed_in_all(changes: Changes) -> u64
+    ensures { result ≡ changed_in_all changes }
+{
+    let at_the_word = u64::from(changes.first) + u64::from(changes.second);
+    at_the_word.saturating_add(changes.search)
+}
+
 fn push_end(text: &mut Report, end: ProbeEnd)
-    requires { array_vec_len text.old ≤ 900 }
+    requires { array_vec_len text.old ≤ 920 }
     ensures { text.new.items ≡ text.old.items ++ line (codes "end " ++ end_name end) }
 {
     push_bytes(text, b"end ");

@@ -20,14 +20,21 @@ const CLEARED: &str = "\r\x1b[K";
 // How many minutes are long.
 const LONG: u64 = 2;
 
+// More words than the first block of a new tape has: behind that a save goes on.
+const FIRST_BLOCK: u32 = 256;
+
+// That nothing is lost at a break, on a line of its own.
+const HINT: &str = "\rafter Ctrl-C the same line goes on\x1b[K\n";
+
 // Room for the longest line.
 type LineText = ArrayString<160>;
 
 /// Shows, while a load or a reading goes on, how many words are done of all, the mishaps, and the time
 /// left at the pace so far: one line, at most ten times a second. A terminal that has fewer columns cuts
 /// it, so that it never wraps. Where it takes two minutes or more, a line above it says so once, as soon as
-/// the pace is known; and where the line that is listened to is not silent for ten seconds, what it says. What can't be
-/// written is left out.
+/// the pace is known, and that a break costs nothing, where that is so; of a reading of more words than a block of a tape
+/// has, that stands there from the beginning. Where the line that is listened to is not silent for ten seconds, another says
+/// what comes. What can't be written is left out.
 #[derive(Drop)]
 pub struct ProgressLine<'a, C: Clock, E: Print> {
     clock: &'a C,
@@ -42,6 +49,9 @@ pub struct ProgressLine<'a, C: Clock, E: Print> {
 
     // Whether the line above it is still to be written.
     is_forecast_due: Cell<bool>,
+
+    // Whether it was said that a break costs nothing.
+    has_hinted: Cell<bool>,
 
     // What is heard while the line is listened to until it is silent, and whether that was told.
     overheard: Cell<Overheard>,
@@ -60,6 +70,7 @@ impl<'a, C: Clock, E: Print> ProgressLine<'a, C, E> {
             shown: Cell::new(None),
             kept_in,
             is_forecast_due: Cell::new(true),
+            has_hinted: Cell::new(false),
             overheard: Cell::new(Overheard::NOTHING),
             is_overheard_told: Cell::new(false),
         }
@@ -127,9 +138,18 @@ impl<'a, C: Clock, E: Print> ProgressLine<'a, C, E> {
         if minutes < LONG {
             return;
         }
-        let goes_on = self.kept_in != KeptIn::Nothing;
+        let goes_on = self.kept_in != KeptIn::Nothing && !self.has_hinted.get();
         if let Some(line) = forecast_line(Forecast { minutes, goes_on }) {
             self.say(line.as_str());
+        }
+    }
+
+    // Says at the beginning that a break costs nothing, where a reading of so many words has several blocks. Of a load
+    // whoever names a record knows it.
+    fn hint(&self, words: u32) {
+        if self.kept_in == KeptIn::Part && words > FIRST_BLOCK {
+            self.has_hinted.set(true);
+            self.say(HINT);
         }
     }
 
@@ -164,6 +184,7 @@ impl<C: Clock, E: Print> Onlooker for ProgressLine<'_, C, E> {
         let headway = Headway::new(done, words, now);
         self.headway.set(headway);
         if done == 0 {
+            self.hint(words);
             self.put(showing_line(headway.showing(now)), now);
         } else {
             let kept_in = self.kept_in;

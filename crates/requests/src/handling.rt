@@ -4,12 +4,12 @@ ghost use Rattle.request_values.specs.Change.{◌⇒◌};
 ghost use Rattle.requests.specs.Moment.{moment};
 ghost use Rattle.requests.specs.Attempt.{IsAttempted, IsEndOf};
 
-use crate::advice::say_probing;
 use crate::changed_line::say_changed;
 use crate::instead::say_instead;
 use crate::loading::load_tapes;
 use crate::making::make_words;
 use crate::probing::probe_console;
+use crate::probing_line::say_probing;
 use crate::saving::save_words;
 use crate::system::{Kinds, System};
 use crate::testing::test_words;
@@ -66,8 +66,8 @@ pub fn attempt<K: Kinds, R: Read, W: Output, E: FaultOutput, T: Print>(
             save_words(system, alloc, *save, streams, terminal, witness)
         }
         Request::Machine(MachineRequest::Probe(probe)) => {
-            say_probing(terminal);
-            probe_console(system, alloc, *probe, streams)
+            say_probing(alloc, terminal, probe.look);
+            probe_console(system, alloc, *probe, streams, witness)
         }
         Request::Machine(MachineRequest::Memory(test)) => {
             test_words(system, alloc, *test, streams, terminal, witness)

@@ -22,6 +22,7 @@ mod loading;
 mod making;
 mod planning;
 mod probing;
+mod probing_line;
 mod request_fault;
 mod saving;
 mod system;

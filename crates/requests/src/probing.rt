@@ -13,10 +13,12 @@ use machine_probe::{ProbeOptions, probe};
 use request_values::Probe;
 use std::alloc::Global;
 use std::io::Read;
+use witness::Witness;
 
 /// Probes a console, in a system that comes back, and answers the exit status.
 ///
-/// The report goes to standard output. No file is opened, and nothing is asked of the disk.
+/// The report goes to standard output. No file is opened, and nothing is asked of the disk. The witness counts the changed
+/// characters.
 ///
 /// `CannotConnect` comes before anything was sent. `LineFailed` comes behind the report. `CannotWrite` is a report
 /// that could not be written whole. `NoMemory` comes only where a growth was refused, with nothing reported.
@@ -25,6 +27,7 @@ pub(crate) fn probe_console<'a, K: Kinds, R: Read, W: Output, E: FaultOutput>(
     alloc: Global,
     request: Probe<'a>,
     streams: &mut Streams<R, W, E>,
+    witness: &Witness,
 ) -> (System<K>, Result<Status, Failure<'a>>)
     ensures ok { IfOk result.1 (IsConsoleProbed request.entry (moment K.Disk.holds system streams.old ⇒ moment K.Disk.holds result.0 streams.new)) }
     ensures err { IfErr result.1 (IsConsoleUnprobed request.entry (moment K.Disk.holds system streams.old ⇒ moment K.Disk.holds result.0 streams.new)) }
@@ -42,7 +45,14 @@ pub(crate) fn probe_console<'a, K: Kinds, R: Read, W: Output, E: FaultOutput>(
         patience: look.patience,
     };
     let mut console = Way::to(look.line, look.quiet_ms, consoles);
-    let probed = probe(alloc, options, &mut console, &mut streams.out, &clock);
+    let probed = probe(
+        alloc,
+        options,
+        &mut console,
+        &mut streams.out,
+        &clock,
+        witness,
+    );
     let system = System::new(inputs, disk, console.back(), clock);
     match probed {
         Ok(end) => (system, after_probe(end)),

@@ -40,7 +40,7 @@ impl<C: Clock, T: Print> Onlooker for Watch<'_, C, T> {
     }
 
     fn sees(&self, sight: Sight) {
-        self.witness.see_step(sight);
+        self.witness.sees(sight);
         self.progress.sees(sight);
     }
 

@@ -3,14 +3,22 @@ ghost use Rattle.std.specs.Prelude.{◌≡◌};
 ghost use Rattle.witness.specs.Changed.{changed_behind};
 
 use crate::seen::Witness;
-use host_devices::Sight;
+use host_devices::{Onlooker, Sight};
 
-impl Witness {
-    /// Sees a step of a host, and counts what it heard where no loss explains that.
-    pub fn see_step(&self, sight: Sight) {
+// It counts what a host heard where no loss explains that.
+impl Onlooker for Witness {
+    fn begins(&self, _done: u32, _words: u32) {}
+
+    fn sees(&self, sight: Sight) {
         self.changed.set(changed_behind(self.changed.get(), sight));
     }
 
+    fn stub_begins(&self) {}
+
+    fn ends(&self) {}
+}
+
+impl Witness {
     /// How many characters no loss explains: the line changed them, or made them up. At its largest, the count stays.
     pub fn changed(&self) -> u32 {
         self.changed.get()

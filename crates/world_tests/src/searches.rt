@@ -3,7 +3,7 @@
 
 use crate::assertion::check_that;
 use honest_line::{Loss, MemoryLine};
-use host_devices::Item;
+use host_devices::{Item, Unwatched};
 use looking_engine::Stop;
 use machine_probe::{Search, find_end};
 use odt_machine::{Odt, PLAIN_STYLE};
@@ -95,13 +95,17 @@ fn line_to(alloc: Global, setting: &Setting) -> Option<MemoryLine> {
 // What a search comes to, and how often a word was opened; none where memory for it is refused.
 fn search(alloc: Global, setting: &Setting) -> Option<(Search, usize)> {
     let mut line = line_to(alloc, setting)?;
-    let found = find_end(alloc, &mut line, setting.patience, 4000).ok()?;
+    let found = find_end(alloc, &mut line, setting.patience, 4000, &Unwatched).ok()?;
     let looks = line
         .items()
         .iter()
         .filter(|item| **item == Item::Sent(b'/'))
         .count();
-    Some((found, looks))
+    // A line that only loses characters changes none.
+    if found.changed > 0 {
+        return None;
+    }
+    Some((found.search, looks))
 }
 
 #[test]

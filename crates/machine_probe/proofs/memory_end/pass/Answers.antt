@@ -19,7 +19,7 @@ overflow_mul-found g c = omega (arith, overflow_add-found g c)
 
 pub returns : goal.returns
 returns g c =
-    rw (c.passed.ensures, c.values.ensures.value) (record {
+    rw (c.passed.ensures, c.values.ensures.value, c.foreign_count.ensures) (record {
       pass = stepped c.args.limits c.args.from c.args.pieces c.core-core.result c.inquire-core.result.0 c.inquire-core.result.1 (line_told g.L.Line c.args.line.now) (line_told g.L.Line c.inquire-core.new.line)
           c.requires.pieces c.core-core.ensures.begun c.core-core.ensures.kept c.inquire-core.ensures.inquired;
     })

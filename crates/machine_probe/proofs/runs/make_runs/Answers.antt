@@ -5,7 +5,7 @@ use Rattle.machine_probe.proofs.runs.make_runs.Goals as goal
 pub returns-clause-made : goal.returns-clause-made
 returns-clause-made g c =
     let told = g.L.Line.told in
-    all_runs c.args.options c.in_ok-found.found c.in_ok-search.search c.judge.result (told c.args.line.now) (told c.try_out.new.line) (told c.find_memory.new.line)
+    all_runs c.args.options c.in_ok-found.found c.in_ok-search.search c.in_ok-search.changed c.judge.result (told c.args.line.now) (told c.try_out.new.line) (told c.find_memory.new.line)
     c.in_ok-found.ensures.made c.judge.ensures c.in_ok-search.ensures.searched
 
 pub returns-in_err-search-clause-wanting : goal.returns-in_err-search-clause-wanting

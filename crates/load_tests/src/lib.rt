@@ -22,6 +22,8 @@ mod disk_steps_of_records;
 mod disk_steps_of_saves;
 #[cfg(test)]
 mod disk_text;
+#[cfg(test)]
+mod highest_word;
 mod load_step;
 #[cfg(test)]
 mod loads_in_a_row;

@@ -96,7 +96,8 @@ pub(crate) fn advise<C: Clock, T: Print, L: Line>(
         LoadEnd::Driven(Stop::Ended(End::WontHold(address))) => {
             say_unheld(alloc, progress, address, load.options.careful)
         }
-        LoadEnd::Driven(Stop::Ended(End::NoWord(address))) => {
+        LoadEnd::Driven(Stop::Ended(End::NoWord(address)))
+        | LoadEnd::Unfinished(Stop::Ended(End::NoWord(address))) => {
             say_unfit(alloc, progress, address, size)
         }
         _ => {}

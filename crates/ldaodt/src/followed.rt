@@ -1,10 +1,10 @@
 //! Tapes that a file has more behind, which nobody is told of else.
 
 use crate::names::Names;
+use advice::say_what_follows;
 use byte_io::read_up_to;
 use input_files::is_input;
 use request_values::{MachineRequest, PrintRequest, Request, TapeRequest};
-use requests::say_what_follows;
 use std::alloc::Global;
 use std::fs;
 use std::io::Print;

@@ -2,7 +2,6 @@ pub mod Asked
 pub mod Attempt
 pub mod ChangedLine
 pub mod Ending
-pub mod Instead
 pub mod Listening
 pub mod Loading
 pub mod Making

@@ -5,7 +5,6 @@ ghost use Rattle.requests.specs.Moment.{moment};
 ghost use Rattle.requests.specs.Attempt.{IsAttempted, IsEndOf};
 
 use crate::changed_line::say_changed;
-use crate::instead::say_instead;
 use crate::loading::load_tapes;
 use crate::making::make_words;
 use crate::probing::probe_console;
@@ -14,6 +13,7 @@ use crate::saving::save_words;
 use crate::system::{Kinds, System};
 use crate::testing::test_words;
 use crate::verifying::verify_tapes;
+use advice::{say_instead, say_probing};
 use endings::{Failure, FaultOutput, Output, Status, Streams, print_with_reason};
 use request_values::{MachineRequest, Request, TapeRequest};
 use std::alloc::Global;

@@ -11,12 +11,9 @@
 //! line a failure has in `endings`. The program `ldaodt` has the request from `command_line`, which makes it of words.
 #![tactic(auto)]
 
-mod advice;
 mod changed_line;
 mod ending;
-mod following;
 mod handling;
-mod instead;
 mod listening;
 mod loading;
 mod making;
@@ -31,6 +28,5 @@ mod testing;
 mod verifying;
 mod watch;
 
-pub use following::say_what_follows;
 pub use handling::attempt;
 pub use system::{Kinds, SharedSystem, System, WatchedSystem};

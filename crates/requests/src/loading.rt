@@ -8,13 +8,13 @@ ghost use Rattle.requests.specs.Loading.{kept_in, planned_load, record_name};
 ghost use Rattle.requests.specs.Loading.{AreLoaded, AreUnloaded, IsEnded, IsEndFailure, IsLoadFailure, IsLoadOver};
 ghost use Rattle.requests.specs.Moment.{moment};
 
-use crate::advice::{PlanSize, advise};
 use crate::ending::after_load;
 use crate::listening::listen_behind;
 use crate::planning::plan_tapes;
 use crate::request_fault::RequestFault;
 use crate::system::{Kinds, System};
 use crate::watch::Watch;
+use advice::{PlanSize, advise_load};
 use console_lines::Way;
 use endings::{Failure, FaultOutput, Output, Status, Streams};
 use machine_load::{Around, InMemory, Outcome, Surroundings, load};
@@ -108,7 +108,7 @@ fn load_plan<'a, S: Surroundings, W: Write, C: Clock, T: Print>(
     let size = PlanSize::of(&plan);
     match load(alloc, plan, request.options, around, out, watch) {
         Ok(outcome) => {
-            advise(alloc, watch, request, size, &outcome);
+            advise_load(alloc, watch.progress(), request, size, &outcome);
             end(request, outcome, around, out)
         }
         Err(fault) => {

@@ -4,11 +4,11 @@ ghost use Rattle.request_values.specs.Change.{◌⇒◌};
 ghost use Rattle.requests.specs.Moment.{moment};
 ghost use Rattle.requests.specs.Saving.{AreWordsSaved, AreWordsUnsaved};
 
-use crate::advice::advise_save;
 use crate::ending::after_save;
 use crate::request_fault::RequestFault;
 use crate::system::{Kinds, System};
 use crate::watch::Watch;
+use advice::advise_save;
 use console_lines::Way;
 use endings::{Failure, FaultOutput, Output, Status, Streams};
 use machine_look::{SaveOptions, save};
@@ -61,7 +61,7 @@ pub(crate) fn save_words<'a, K: Kinds, R: Read, W: Output, E: FaultOutput, T: Pr
     let out = &mut streams.out;
     let shown = Watch::new(&clock, terminal, KeptIn::Part, witness);
     let saved = save(alloc, options, &mut shelf, &mut console, out, &shown);
-    advise_save(&shown, saved);
+    advise_save(shown.progress(), saved);
     let system = System::new(inputs, shelf.close(), console.back(), clock);
     match saved {
         Ok(end) => (system, after_save(end, request.file)),

@@ -1,7 +1,7 @@
 //! Who looks on at a test of memory.
 
-use crate::advice::ASK_PROBE;
 use crate::watch::Watch;
+use advice::advise_test;
 use host_devices::{Onlooker, Sight};
 use machine_memory::{Borrowed, MemoryEnd, MemoryFault, WordWatch};
 use progress_display::TestedWord;
@@ -22,11 +22,7 @@ impl<'o, C: Clock, T: Print> TestLine<'o, C, T> {
 
     /// Tells what helps where a test came to this.
     pub(crate) fn advise(&self, tested: Result<MemoryEnd, MemoryFault>) {
-        if let (Some(progress), Ok(MemoryEnd::GaveUp)) = (self.watch.progress(), tested)
-            && progress.done() == 0
-        {
-            progress.say(ASK_PROBE);
-        }
+        advise_test(self.watch.progress(), tested);
     }
 }
 

@@ -1,7 +1,7 @@
 -- What an input is that is refused as a tape, by its first four bytes.
 use Rattle.std.specs.Prelude.{ℕ, Bool, ◌&&◌, ◌||◌, ◌==◌, nat_lt, if◌then◌else◌, Option, Some, None}
-use Rattle.requests.specs.declared.instead.Instead.{Instead}
-use Rattle.requests.specs.declared.instead.Instead.TheVariants.{IntelHex, SRecords, Gzip, Text}
+use Rattle.advice.specs.declared.instead.Instead.{Instead}
+use Rattle.advice.specs.declared.instead.Instead.TheVariants.{IntelHex, SRecords, Gzip, Text}
 
 -- a tab, an end of a line, or a printing character of ASCII
 abbrev pub is_readable : ℕ → Bool

@@ -1,11 +1,9 @@
-//! What a person at the terminal is told beside the report.
+//! What is told at a terminal behind the report of a load.
 
-use crate::watch::Watch;
 use host_core::End;
 use host_devices::Line;
 use load_engine::Stop;
 use machine_load::{LoadEnd, Outcome, StubStop, Stubs, StubsEnd};
-use machine_look::{LookFault, SaveEnd};
 use octal::Octal;
 use progress_display::{LastWord, ProgressLine};
 use request_values::Load;
@@ -14,7 +12,6 @@ use std::fmt;
 use std::io::Print;
 use std::time::Clock;
 use tape_image::Plan;
-use tape_shelf::BLOCK_WORDS;
 
 /// What helps where no word was done, for want of answers.
 pub(crate) const ASK_PROBE: &str = "'ldaodt probe LINE' says what is wrong\n";
@@ -30,23 +27,19 @@ const GOES_ON: &str = "the same line goes on where it was; power lost? add --rec
 const LOOK_FIRST: &str =
     "look at the machine first: the program may run; to load it again remove the record\n";
 
-// What helps where what was read of a machine is kept.
-const PART_GOES_ON: &str =
-    "the same line goes on where it was; power lost? remove the .part file\n";
-
 /// What is known of the words that a load is of.
 #[derive(Clone, Copy, Debug, PartialEq, Eq)]
-pub(crate) struct PlanSize {
+pub struct PlanSize {
     /// How many there are.
-    pub(crate) words: u32,
+    pub words: u32,
 
     /// The address of the last, which is the highest.
-    pub(crate) last: Option<u16>,
+    pub last: Option<u16>,
 }
 
 impl PlanSize {
     /// That of a plan.
-    pub(crate) fn of(plan: &Plan) -> PlanSize {
+    pub fn of(plan: &Plan) -> PlanSize {
         let words = plan.words();
         PlanSize {
             words: words.len() as u32,
@@ -57,14 +50,14 @@ impl PlanSize {
 
 /// Tells behind the report of a load how many of its words are verified by the record alone, why stubs verified none,
 /// where they were asked for, and what helps where the load did not come to its end.
-pub(crate) fn advise<C: Clock, T: Print, L: Line>(
+pub fn advise_load<C: Clock, T: Print, L: Line>(
     alloc: Global,
-    watch: &Watch<'_, C, T>,
+    progress: Option<&ProgressLine<'_, C, T>>,
     load: Load<'_>,
     size: PlanSize,
     outcome: &Outcome<L>,
 ) {
-    let Some(progress) = watch.progress() else {
+    let Some(progress) = progress else {
         return;
     };
     // Of a record that memory does not hold nothing counts.
@@ -100,21 +93,6 @@ pub(crate) fn advise<C: Clock, T: Print, L: Line>(
         | LoadEnd::Unfinished(Stop::Ended(End::NoWord(address))) => {
             say_unfit(alloc, progress, address, size)
         }
-        _ => {}
-    }
-}
-
-/// Tells behind the report of a save that came to this what helps where it can be gone on with: a block was read.
-pub(crate) fn advise_save<C: Clock, T: Print>(
-    watch: &Watch<'_, C, T>,
-    saved: Result<SaveEnd, LookFault>,
-) {
-    let Some(progress) = watch.progress() else {
-        return;
-    };
-    match saved {
-        Ok(SaveEnd::GaveUp | SaveEnd::LineFailed(_) | SaveEnd::TurnsOver)
-            if progress.done() as usize >= BLOCK_WORDS => progress.say(PART_GOES_ON),
         _ => {}
     }
 }
@@ -246,12 +224,5 @@ fn advice<L: Line>(load: Load<'_>, outcome: &Outcome<L>, verified: u32) -> Optio
         Stop::Ended(End::GaveUp) | Stop::LineFailed(_)
             if load.record.is_some() && !outcome.marked => { Some(GOES_ON) }
         _ => None,
-    }
-}
-
-/// Tells whoever waits at a terminal that a probe is under way.
-pub(crate) fn say_probing<T: Print>(terminal: Option<&T>) {
-    if let Some(terminal) = terminal {
-        let _ = terminal.write_all(b"probing: mostly 8 seconds; 20 where nothing answers\n");
     }
 }

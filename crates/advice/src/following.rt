@@ -1,9 +1,10 @@
 //! What follows the tape in a file, as a person at the terminal is told.
 
 use crate::instead::{BLOCK, RUBOUT};
+use endings::write_name;
 use std::alloc::Global;
 use std::fmt;
-use std::io::Print;
+use std::io::{Print, Write};
 use tape_blocks::read_with_layout;
 
 // Where nothing is punched; a leader is of that or of rubouts.
@@ -28,40 +29,22 @@ enum Content {
     Unknown,
 }
 
-// That so many bytes of a file follow its tape, as it is told.
+// That so many bytes of a file follow its tape, as it is told behind the file's name.
 #[derive(Clone, Copy)]
-struct Followed<'a> {
-    name: &'a str,
+struct Followed {
     bytes: u64,
     content: Content,
 }
 
-impl fmt::Display for Followed<'_> {
+impl fmt::Display for Followed {
     fn fmt<W: fmt::Write>(&self, f: &mut fmt::Formatter<W>) -> fmt::Result {
-        let (name, bytes) = (ShownName(self.name), self.bytes);
-        write!(f, "{name}: {bytes} bytes follow the tape: ")?;
+        let bytes = self.bytes;
+        write!(f, "{bytes} bytes follow the tape: ")?;
         match self.content {
             Content::Tape => write!(f, "another tape, which 'tail -c {bytes} FILE > TAPE' makes"),
             Content::Module => f.write_str("this is an object module, and no tape: link it"),
             Content::Unknown => f.write_str("they belong to no tape"),
         }
-    }
-}
-
-// A name as a fault shows it: a control character is no order to the terminal.
-#[derive(Clone, Copy)]
-struct ShownName<'a>(&'a str);
-
-impl fmt::Display for ShownName<'_> {
-    fn fmt<W: fmt::Write>(&self, f: &mut fmt::Formatter<W>) -> fmt::Result {
-        for character in self.0.chars() {
-            if character.is_control() {
-                write!(f, "{}", character.escape_default())?;
-            } else {
-                f.write_char(character)?;
-            }
-        }
-        Ok(())
     }
 }
 
@@ -83,12 +66,12 @@ pub fn say_what_follows<T: Print>(
     };
     let taken = text.len() as u64 - (behind.len() as u64).min(text.len() as u64);
     let followed = Followed {
-        name,
         bytes: length.saturating_sub(taken),
         content,
     };
-    if let Ok(text) = format!(in alloc; "{followed}\n") {
-        let _ = terminal.write_all(text.as_bytes());
+    let mut line = Vec::new(alloc);
+    if write_name(&mut line, name).is_ok() && writeln!(line, ": {followed}").is_ok() {
+        let _ = terminal.write_all(&line);
     }
 }
 

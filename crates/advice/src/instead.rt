@@ -1,6 +1,6 @@
 //! What an input that is refused as a tape is instead, as a person at the terminal is told.
 ghost use Rattle.std.specs.Prelude.{◌≡◌};
-ghost use Rattle.requests.specs.Instead.{instead_of, is_head_of_gzip, is_head_of_records, is_readable, is_text};
+ghost use Rattle.advice.specs.Instead.{instead_of, is_head_of_gzip, is_head_of_records, is_readable, is_text};
 
 use endings::Failure;
 use load_record::RecordError;
@@ -49,7 +49,7 @@ impl Instead {
 
 /// Tells whoever waits at a terminal what a file is instead that was refused, by its first bytes and its last, or what
 /// makes it what was asked for.
-pub(crate) fn say_instead<T: Print>(
+pub fn say_instead<T: Print>(
     alloc: Global,
     terminal: Option<&T>,
     failure: Failure<'_>,

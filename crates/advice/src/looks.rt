@@ -1,0 +1,47 @@
+//! What is told at a terminal of a look, a probe and a test of memory.
+
+use crate::loads::ASK_PROBE;
+use machine_look::{LookFault, SaveEnd};
+use machine_memory::{MemoryEnd, MemoryFault};
+use progress_display::ProgressLine;
+use std::io::Print;
+use std::time::Clock;
+use tape_shelf::BLOCK_WORDS;
+
+// What helps where what was read of a machine is kept.
+const PART_GOES_ON: &str =
+    "the same line goes on where it was; power lost? remove the .part file\n";
+
+/// Tells behind the report of a save that came to this what helps where it can be gone on with: a block was read.
+pub fn advise_save<C: Clock, T: Print>(
+    progress: Option<&ProgressLine<'_, C, T>>,
+    saved: Result<SaveEnd, LookFault>,
+) {
+    let Some(progress) = progress else {
+        return;
+    };
+    match saved {
+        Ok(SaveEnd::GaveUp | SaveEnd::LineFailed(_) | SaveEnd::TurnsOver)
+            if progress.done() as usize >= BLOCK_WORDS => progress.say(PART_GOES_ON),
+        _ => {}
+    }
+}
+
+/// Tells behind the report of a test of memory that came to this what helps where no word was done.
+pub fn advise_test<C: Clock, T: Print>(
+    progress: Option<&ProgressLine<'_, C, T>>,
+    tested: Result<MemoryEnd, MemoryFault>,
+) {
+    if let (Some(progress), Ok(MemoryEnd::GaveUp)) = (progress, tested)
+        && progress.done() == 0
+    {
+        progress.say(ASK_PROBE);
+    }
+}
+
+/// Tells whoever waits at a terminal that a probe is under way.
+pub fn say_probing<T: Print>(terminal: Option<&T>) {
+    if let Some(terminal) = terminal {
+        let _ = terminal.write_all(b"probing: mostly 8 seconds; 20 where nothing answers\n");
+    }
+}

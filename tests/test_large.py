@@ -246,16 +246,21 @@ class SmallBlocks(Case):
     """Tapes that have as many blocks as may be."""
 
     def test_blocks_of_a_byte(self):
-        """One for each byte of memory; and all at 001000, of which the last one counts, up to a tape's limit."""
+        """One for each byte of memory; and all at 001000, of which the last one counts, up to a tape's limit. They are listed, too."""
         every = tape_of([(address, bytes([address % 256])) for address in range(2 * WORDS)])
         lines = "".join(f"{low:06o} 177777 {low % 256 + (low + 1) % 256 * 256:06o}\n" for low in range(0, 2 * WORDS, 2))
         self.put("every.lda", every)
         report = f"blocks {2 * WORDS} data {2 * WORDS} read {len(every)}\nno start 000001\ncanonical yes\n"
         self.ends(self.ldaodt("check every.lda"), 0, f"{report}words {WORDS}\n{lines}")
+        listed = "".join(f"block {place + 1} at {8 * place} {place:06o} to {place:06o} bytes 1\n" for place in range(2 * WORDS))
+        self.ends(self.ldaodt("check every.lda --blocks"), 0, f"{listed}addresses 000000 to 157777\n{report}words {WORDS}\n{lines}")
         count = ((1 << 20) - 7) // 8
         self.put("same.lda", tape_of([(0o1000, bytes([number % 251])) for number in range(count)]))
         report = f"blocks {count} data {count} read {8 * count + 6 + 1}\nno start 000001\ncanonical yes\n"
-        self.ends(self.ldaodt("check same.lda"), 0, f"{report}words 1\n001000 000377 {(count - 1) % 251:06o}\n")
+        lines = f"words 1\n001000 000377 {(count - 1) % 251:06o}\n"
+        self.ends(self.ldaodt("check same.lda"), 0, f"{report}{lines}")
+        listed = "".join(f"block {place + 1} at {8 * place} 001000 to 001000 bytes 1\n" for place in range(count))
+        self.ends(self.ldaodt("check same.lda --blocks"), 0, f"{listed}addresses 001000 to 001000\n{report}{lines}")
 
 
 class Turns(Case):

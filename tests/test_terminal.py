@@ -195,11 +195,11 @@ class Terminal(Case):
                 self.assertEqual(lines[0][:len(seen) - 1], seen[:-1])
                 self.assertLessEqual(max(map(len, lines)), columns)
 
-    def interrupted(self, words, machine, is_due):
+    def interrupted(self, words, machine, is_due, quiet=None):
         """Does what the words ask for at a machine, and interrupts it as soon as that is due; returns how it ended, and what was shown."""
         self.put_tapes("first.lda", "two-words.lda")
         peer = self.console_at(machine)
-        words = self.words_at(peer, words)
+        words = self.words_at(peer, words, quiet)
 
         def done(terminal):
             process = subprocess.Popen([PROGRAM, *words], cwd=self.room, stderr=terminal, stdout=subprocess.PIPE,
@@ -257,6 +257,14 @@ class Terminal(Case):
                 # A key takes a hundredth of a second or a little more, a fifth of ten seconds may be lost with the mishap.
                 least = 4000 * keys / 100 / 60
                 self.assertLessEqual(int(told[0][0]), least * 1.6)
+
+    def test_a_save_says_at_once_that_it_goes_on(self):
+        """Before its first key, where it is of more words than a block has."""
+        for last, said in ((0o1776, ""), (0o2000, SAVING), (0o17776, SAVING)):
+            ended, shown = self.interrupted(f"save {last}.lda LINE 1000 {last:o}", DeafConsole(), lambda machine: machine.typed)
+            self.is_so((last, ended), (last, (-signal.SIGINT, b"")))
+            begins = SHOWN.format(f"0 of {(last - 0o776) // 2} words, 0%, listening")
+            self.assertTrue(shown.startswith(said + begins) and shown.count("Ctrl-C") == bool(said), repr(shown))
 
     def test_it_is_not_said_before_a_pace_tells(self):
         """Not in the first ten seconds, nor where fewer than eight words were done by then, each of which has eight keys."""
@@ -394,10 +402,9 @@ class Terminal(Case):
         mishap and two."""
         given, shown = self.at_a_terminal(lambda terminal: self.ldaodt(["probe", self.console_at(Console()).address, "--quiet", "1000"], stderr=terminal))
         self.is_so((given.status, given.out.split("\n")[-2], shown), (0, "end Probed", PROBING.format("4 seconds", 10)))
-        for options, mostly, at_worst in (("--quiet 200", "1 second", 2), ("--quiet 260", "2 seconds", 3), ("--quiet 250 --patience 0", "1 second", 1),
-                                          ("--quiet 500 --patience 1000", "2 seconds", 501)):
-            ended = self.interrupted(f"probe LINE {options}", DeafConsole(), lambda machine: machine.typed)
-            self.is_so((options, *ended), (options, (-signal.SIGINT, b""), PROBING.format(mostly, at_worst)))
+        for quiet, patience, mostly, at_worst in ((200, 8, "1 second", 2), (260, 8, "2 seconds", 3), (250, 0, "1 second", 1), (500, 1000, "2 seconds", 501)):
+            ended = self.interrupted(f"probe LINE --patience {patience}", DeafConsole(), lambda machine: machine.typed, quiet)
+            self.is_so((quiet, *ended), (quiet, (-signal.SIGINT, b""), PROBING.format(mostly, at_worst)))
 
     def test_a_verified_word_is_shown_also_where_it_can_not_be_kept(self):
         """The report counts it, too. The record has room for its header alone, and the keys that look at the word again
@@ -462,16 +469,6 @@ class Looks(Case):
         self.is_so((given.status, given.out.split()[2:4]), (0, ["spent", "1"]))
         self.assertRegex(shown, r"256 of 512 words, 50%, 1 mishap")
         self.assertNotRegex(shown, r"\d%\x1b|\d%, \d+:")
-
-    def test_a_save_says_at_once_that_it_goes_on(self):
-        """Before its first key, where it is of more words than a block has; where it does go on it is known."""
-        for last, said in ((0o1776, ""), (0o2000, SAVING), (0o17776, SAVING)):
-            ended, shown = self.interrupted(f"save {last}.lda LINE 1000 {last:o}", DeafConsole(), lambda machine: machine.typed)
-            self.is_so((last, ended), (last, (-signal.SIGINT, b"")))
-            begins = SHOWN.format(f"0 of {(last - 0o776) // 2} words, 0%, listening")
-            self.assertTrue(shown.startswith(said + begins) and shown.count("Ctrl-C") == len(said) // len(SAVING), repr(shown))
-        _, shown = self.goes_on_with(Console())
-        self.assertNotIn("Ctrl-C", shown)
 
     def test_what_is_told_of_a_save_that_ends_early(self):
         """That the same line goes on, where a block was read; nothing where none was, or all that can be had."""

@@ -67,7 +67,7 @@ fn line_of<'a>(request: &Request<'a>) -> Option<(&'a str, Place)>
 
 // Whether a line is the path of something that is there and no device.
 fn is_no_device<N: Names>(rt: &N, line: &str) -> bool
-    ensures { OnTrue result (IsOutAs (N.told rt.now) true line.now) }
+    ensures out { OnTrue result (IsOutAs (N.told rt.now) true line.now) }
 {
     is_path(line) && rt.is_no_device(line)
 }

@@ -1,4 +1,4 @@
-use Rattle.std.proofs.Common.{◌∷◌, [], IfSome, subst}
+use Rattle.std.proofs.Common.{◌∷◌, [], IfSome, refl, subst}
 use Rattle.endings.specs.declared.place.Place.TheVariants.{Tape, Script}
 use Rattle.ldaodt.specs.Misplaced.{IsOfPlace, tapes_at}
 use Rattle.ldaodt.proofs.Places.{either, either_out, named_files, named_tapes}
@@ -19,4 +19,4 @@ returns-in-Scripted-clause-misplaced g c =
 pub returns-in-Scripted-clause-out : goal.returns-in-Scripted-clause-out
 returns-in-Scripted-clause-out g c =
     either_out _ c.or-in-Scripted.result _ _ c.or-in-Scripted.ensures
-    (either_out _ c.or.result _ _ c.or.ensures c.terminal_among-in-Scripted.ensures.out c.terminal.ensures.out) c.terminal_among-in-Scripted-2.ensures.out
+    (either_out _ c.or.result _ _ c.or.ensures c.terminal_among-in-Scripted.ensures.out (c.terminal.ensures.out refl)) c.terminal_among-in-Scripted-2.ensures.out

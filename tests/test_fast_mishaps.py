@@ -400,7 +400,6 @@ class Records(SmallLoads):
         self.ends(self.load(peer, "a.lda --fast --record a.record", file_size=0), 4, "", fault("cannot write a.record", errno.EFBIG))
         peer.settle()
         self.is_so(peer.machine.typed, f"Z{WORDS[-1].address:06o}/\r")
-        self.is_so(peer.machine.typed, "")
 
     def test_a_second_load(self):
         """It says that the record is in use, and has no connection, whatever the first is at."""

@@ -6,6 +6,7 @@ for one that stands already 8, answered by 17; and 7 for the start, each echoed.
 """
 import errno
 import os
+import re
 import socket
 import stat
 import time
@@ -40,6 +41,71 @@ class Loads(Case):
     def was_typed(self, peer, keys, connections=1):
         """Asserts what was typed, and how many connections there were."""
         self.is_so((peer.machine.typed, peer.connections), (keys, connections))
+
+
+class DoesNotFit(Case):
+    """A tape that goes further than memory, by loads that ask for its highest word before anything is stored."""
+
+    # The tape has so many words from 001000 on, memory the first of them, and a record fewer.
+    WORDS, THERE, RECORDED = 60, 50, 20
+    LAST = 0o1000 + 2 * (WORDS - 1)
+
+    def setUp(self):
+        super().setUp()
+        self.values = [0o10001 * number & 0o177777 for number in range(self.WORDS)]
+        self.put("a.lda", tape_of([(0o1000, b"".join(it.to_bytes(2, "little") for it in self.values))], 0o1000))
+
+    def record(self, words):
+        """The record of the first words, so many."""
+        lines = [self.values[first:min(first + 16, words)] for first in range(0, words, 16)]
+        return "LDAODT 2\n" + "".join(f"{0o1000 + 32 * number:06o} {' '.join(f'{it:06o}' for it in line)}\n" for number, line in enumerate(lines))
+
+    def end(self, option, recorded, held=True, there=THERE):
+        """How a load ends with a record of so many words, or with none, that memory holds, or not; nothing is typed that stores, and
+        the record is as it was."""
+        found = {0o1000 + 2 * number: value ^ (not held) for number, value in enumerate(self.values[:recorded])}
+        peer = self.console_at(Console(words=0o1000 // 2 + there, memory=found))
+        before, kept = list(peer.machine.words), {"a.record": self.record(recorded)} if recorded else {}
+        for name, text in kept.items():
+            self.put(name, text.encode())
+        given = self.load(peer, f"a.lda --record a.record {option}")
+        self.is_so((list(peer.machine.words), peer.machine.starts), (before, []))
+        self.assertIsNone(re.search(r"/[0-7]|[^0-7/\rZU]", peer.machine.typed), repr(peer.machine.typed))
+        self.is_so(peer.machine.typed[-7:], f"{self.LAST:06o}/")
+        self.is_so({name: bytes_of(self.path(name)).decode() for name in os.listdir(self.room) if name != "a.lda"}, kept)
+        for name in kept:
+            os.remove(self.path(name))
+        return given
+
+    def test_nothing_is_typed_that_stores(self):
+        """A key that resynchronises, eight for each look at a sample of the record, and seven, which memory refuses."""
+        for option, times in (("--fast", 1), ("--careful", 2), ("--careful --fast", 2)):
+            for recorded, samples in ((0, 0), (self.RECORDED, 8)):
+                for there in (self.THERE, self.WORDS - 1):
+                    with self.subTest((option, recorded, there)):
+                        wanted = f"sent {1 + 8 * times * samples + 7} spent 0 verified {recorded} of {self.WORDS}\nend NoWord {self.LAST:06o}\n"
+                        self.ends(self.end(option, recorded, there=there), 5, wanted)
+
+    def test_a_plain_load_types_what_fits(self):
+        peer = self.console_at(Console(words=0o1000 // 2 + self.THERE))
+        lacking = 0o1000 + 2 * self.THERE
+        # The first word stands: memory is 0 there, as the tape says.
+        sent = 1 + 8 + 22 * (self.THERE - 1) + 7
+        self.ends(self.load(peer, "a.lda"), 5, f"sent {sent} spent 0 verified {self.THERE} of {self.WORDS}\nend NoWord {lacking:06o}\n")
+        self.is_so(peer.machine.typed[:8], "Z001000/")
+
+    def test_a_sample_that_does_not_stand_is_what_ends_it(self):
+        for option in ("--fast", "--careful"):
+            given = self.end(option, self.RECORDED, held=False)
+            self.is_so((given.status, given.out.splitlines()[1]), (5, "end Stale 001000"))
+
+    def test_what_a_terminal_is_told(self):
+        unfit = f"no word at {self.LAST:06o}, and the tape goes up to {self.LAST:06o}: 'ldaodt probe LINE' says where memory ends\r\n"
+        for option in ("--fast", "--careful"):
+            peer = self.console_at(Console(words=0o1000 // 2 + self.THERE))
+            _, told = self.at_a_terminal(lambda terminal, peer=peer, option=option: self.load(peer, f"a.lda {option}", stderr=terminal))
+            self.assertIn(unfit, told)
+            self.assertNotIn("did not serve", told)
 
 
 class Endings(Loads):

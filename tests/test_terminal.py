@@ -219,11 +219,15 @@ class Terminal(Case):
         self.put("a.record", b"LDAODT 2\n001000 031421")
         # The first of two blocks, and the room of the rest.
         self.put("b.lda.part", tape_of([(0o1000, bytes(512))])[:-7] + bytes(526))
-        for words, begins in (*((it.line(), LISTENING) for it in COUNTING), ("load two-words.lda LINE --record a.record", SHOWN.format(GOING_ON)),
-                              ("load many.lda LINE --fast", SHOWN.format("0 of 400 words, 0%, listening") + SHOWN.format("0 of 400 words, 0%, stub")),
-                              ("save b.lda LINE 1000 2776", SHOWN.format(SAVING_ON))):
-            with self.subTest(words):
-                ended, shown = self.interrupted(words, DeafConsole(), lambda machine: machine.typed)
+        listens = SHOWN.format("0 of 400 words, 0%, listening")
+        # At the second console the highest word is looked at with nine keys, and the first of the stub is not answered.
+        for words, begins, console, keys in (*((it.line(), LISTENING, DeafConsole, 1) for it in COUNTING),
+                                             ("load two-words.lda LINE --record a.record", SHOWN.format(GOING_ON), DeafConsole, 1),
+                                             ("load many.lda LINE --fast", listens, DeafConsole, 1),
+                                             ("load many.lda LINE --fast", listens + SHOWN.format("0 of 400 words, 0%, stub"), lambda: SilentConsole(9), 10),
+                                             ("save b.lda LINE 1000 2776", SHOWN.format(SAVING_ON), DeafConsole, 1)):
+            with self.subTest((words, keys)):
+                ended, shown = self.interrupted(words, console(), lambda machine, keys=keys: len(machine.typed) >= keys)
                 self.is_so(ended, (-signal.SIGINT, b""))
                 self.assertTrue(shown.startswith(begins), repr(shown))
                 screen = Screen(80)

@@ -1,5 +1,5 @@
 -- Reports that fail, and the loads that they are of.
-use Rattle.std.proofs.Common.{◌≡◌, ◌++◌, ℕ, Bool, true, List, Option, None, Result, Ok, Err, IfErr, IfOk, IsErrAnd, [], ◌∷◌, ◌∙◌, inr, inl, refl, sym, subst, ap}
+use Rattle.std.proofs.Common.{◌≡◌, ℕ, Bool, true, List, Option, None, Result, Ok, Err, IfErr, IfOk, IsErrAnd, [], ◌∷◌, ◌∙◌, inr, inl, refl, sym, subst, ap}
 use Rattle.std.proofs.KnownBytes.{Keeps-refl}
 use Rattle.host_devices.specs.Devices.{LineTold}
 use Rattle.machine_load.specs.Step.{Connected, begin_step}

@@ -1,15 +1,14 @@
 -- The tape's highest word behind the samples of a life.
-use Rattle.std.proofs.Common.{◌≡◌, ◌∙◌, ℕ, ◌+◌, ◌-◌, ◌<◌, ◌≤◌, ◌==◌, ◌&&◌, not, Bool, true, false, ◌⊎◌, inl, inr, List, [], ◌∷◌, ◌++◌, length, get_or, ap, arith, refl, subst, sym, append-nil, if◌then◌else◌}
-use Rattle.std.specs.Prelude.{All, AllPairs}
+use Rattle.std.proofs.Common.{◌≡◌, ℕ, ◌+◌, ◌-◌, ◌<◌, ◌≤◌, ◌==◌, ◌&&◌, not, Bool, true, false, ◌⊎◌, inl, inr, List, [], ◌∷◌, ◌++◌, length, get_or, arith, refl, subst, sym, append-nil, if◌then◌else◌}
+use Rattle.std.specs.Prelude.{All}
 use Rattle.std.proofs.lemmas.Bool.Decides.{nat_tests}
 use Rattle.std.proofs.lemmas.List.{get_or_append_left, length-append, length-map}
 use Rattle.std.proofs.Math.Seq.{get_or-append_seam}
 use Rattle.std.proofs.lemmas.List.Elements.{All-append, All-cons, All-nil}
-use Rattle.tape_image.specs.Plan.{PlanValue, IsPlan}
+use Rattle.tape_image.specs.Plan.{IsPlan}
 use Rattle.tape_image.specs.Word.{WordValue}
-use Rattle.host_core.specs.declared.progress.Progress.{Progress}
 use Rattle.host_core.specs.Core.{Core, no_word, word_nr}
-use Rattle.looking_law.specs.RecordLook.{IsHighest, IsOfRecord}
+use Rattle.looking_law.specs.RecordLook.{IsHighest}
 use Rattle.reading_core.specs.Addresses.{AreAddresses, IsAddress, addresses_of}
 use Rattle.sample_looks.specs.Samples.{AreSamples}
 use Rattle.sample_looks.proofs.OfRecord.{of_record}
@@ -79,7 +78,7 @@ rises first asked samples plan within of rise few = by_case asked (first.verifie
         pair i j d before low (inr here) =
             let at : i < length (addresses_of samples) = omega (arith, before, here) in
             subst (λ n. get_or (addresses_of samples ++ highest ∷ []) i d < get_or (addresses_of samples ++ highest ∷ []) n d) (sym here)
-                (rw (get_or_append_left (addresses_of samples) (highest ∷ []) d i at, get_or-append_seam (addresses_of samples) highest [] d) (above less i d at))
+            (rw (get_or_append_left (addresses_of samples) (highest ∷ []) d i at, get_or-append_seam (addresses_of samples) highest [] d) (above less i d at))
 
     by_case : (asked all : Bool) → (first.verified == length first.plan.words) ≡ all → AreAddresses (addresses_of samples ++ (if asked && not all then highest ∷ [] else []))
     by_case false all is = none

@@ -91,7 +91,8 @@ pub record StopsOpened (task : LoadTask) (setting : Change Setting) (why : LoadF
   pub may_begin : Bool
   pub between : SurroundingsTold
   pub opened : IsOpened task (setting.before.around ⇒ between) first may_begin
-  pub is_so : IsBeginningFault (opened_as first task.options.fast may_begin) (gone between setting.before.lines ⇒ gone setting.after.around setting.after.lines) why
+  pub is_so :
+      IsBeginningFault (opened_as first task.options.fast may_begin) (gone between setting.before.lines ⇒ gone setting.after.around setting.after.lines) why
   pub nothing_reported : Keeps setting.before.out setting.after.out
 
 -- no life was opened, with nothing said and nothing reported, and with the record as it was

@@ -136,12 +136,7 @@ fn addresses_in(room: Vec<u16>, samples: &[Word]) -> Vec<u16>
 
 // The addresses of samples, and behind them that of the plan's last word, where it is asked for and not all words count as
 // verified: of more the last is a sample.
-fn with_highest(
-    addresses: Vec<u16>,
-    samples: &[Word],
-    life: &FirstLife,
-    asked: bool,
-) -> Vec<u16>
+fn with_highest(addresses: Vec<u16>, samples: &[Word], life: &FirstLife, asked: bool) -> Vec<u16>
     requires samples { AreSamples life.now.plan.words life.now.verified samples.now }
     requires rise { AreAddresses (addresses_of samples.now) }
     requires there { addresses.items ≡ addresses_of samples.now }
@@ -162,12 +157,7 @@ fn with_highest(
 
 /// Looks at samples of the words that count as verified in a life, over a line, and changes none; and at the tape's highest
 /// word, where it is asked for: there memory has to answer. Nobody looks on: what is done is no word of the load.
-pub(crate) fn look<L: Line>(
-    life: &FirstLife,
-    highest: bool,
-    room: LooksRoom,
-    line: &mut L,
-) -> Looks
+pub(crate) fn look<L: Line>(life: &FirstLife, highest: bool, room: LooksRoom, line: &mut L) -> Looks
     requires { IsRoom room }
     ensures { AreLooks life.now highest result (line_told L.Line line.old) (line_told L.Line line.new) }
 {

@@ -11,7 +11,7 @@ use Rattle.command_tables.specs.Words.{CommandWords, command_of, machine_command
 use Rattle.command_tables.specs.declared.arguments.Argument.{Argument}
 use Rattle.command_tables.specs.declared.commands.KnownCommand.{KnownCommand}
 use Rattle.command_line.specs.Arguments.{rule_told}
-use Rattle.command_line.specs.Commands.{IsToldAll, command_told, known_words, program_told, shape_told, shape_with, with_command, with_words}
+use Rattle.command_line.specs.Commands.{IsToldAll, command_told, known_words, program_told, shape_with, with_command, with_words}
 
 -- what is told of an argument of the tables
 abbrev pub argument_rule : Argument → Rule

@@ -1,5 +1,5 @@
 -- The commands: the word of each, its arguments and options, and what these say (this project's own).
-use Rattle.std.specs.Prelude.{◌≡◌, Bool, true, if◌then◌else◌, List, [], ◌∷◌, Some, fold, map, option_map, codes}
+use Rattle.std.specs.Prelude.{◌≡◌, Bool, true, if◌then◌else◌, List, Some, fold, map, option_map, codes}
 use Rattle.clap.specs.Matches.{first_value}
 use Rattle.clap.specs.Simple.{App, Shape, new_app, new_shape, on_top, with_subcommand}
 use Rattle.clap.specs.Walk.{Rule, Text}

@@ -1,5 +1,5 @@
 -- The commands: the word of each, its arguments and options, and what these say (this project's own).
-use Rattle.std.specs.Prelude.{◌≡◌, Bool, true, if◌then◌else◌, List, [], ◌∷◌, Some, fold, map, option_map, codes}
+use Rattle.std.specs.Prelude.{◌≡◌, Bool, true, if◌then◌else◌, List, Some, fold, map, option_map, codes}
 use Rattle.clap.specs.Matches.{first_value}
 use Rattle.clap.specs.Simple.{App, Shape, new_app, new_shape, on_top, with_subcommand}
 use Rattle.clap.specs.Walk.{Rule, Text}
@@ -22,69 +22,43 @@ use Rattle.request_values.specs.declared.request.TapeRequest.TheVariants.{Print,
 use Rattle.request_values.specs.declared.request.PrintRequest.{PrintRequest}
 use Rattle.request_values.specs.declared.request.PrintRequest.TheVariants.{CheckInput, Check, Dialogue, Rehearse, «Type» as TypeKeys}
 use Rattle.request_values.specs.declared.machine.Save.{Save}
-use Rattle.command_line.specs.Arguments.{allowed, flag, needed, numeric, option, paired, repeated, rule_told, tied_flag}
+use Rattle.command_tables.specs.Words.{CommandWords, machine_commands, tape_commands, word_of}
+use Rattle.command_tables.specs.declared.commands.KnownCommand.{KnownCommand}
+use Rattle.command_line.specs.Arguments.{rule_told}
 use Rattle.command_line.specs.Options.{IsConsoleOf, IsFlag, IsNumberGiven, IsNumberOf, IsProbedWord, IsRangeOf, IsSavedStart, IsStartOf, IsWordsFile}
 use Rattle.command_line.specs.Options.{IsTestedRange, NamesTapes, more_in, plain_quiet, plain_step}
-use Rattle.command_line.specs.declared.commands.KnownCommand.{KnownCommand}
 
 -- a command of this name with these arguments and options
 abbrev pub shape_with : Text → List Rule → Shape
 shape_with name rules = record (new_shape name) { rules = rules }
 
--- what the parser is told of a command
+-- what the parser is told of a command's words
+abbrev pub shape_told : CommandWords → Shape
+shape_told command = shape_with command.word (map rule_told command.behind)
+
+-- and of a command of the tables
 abbrev pub command_told : KnownCommand → Shape
-command_told command = shape_with command.word.now (map rule_told command.arguments.now)
+command_told known = shape_with known.word.now (map (λ argument. rule_told (word_of argument)) known.arguments.now)
 
 -- what it is told of the program, but for its commands: the words begin behind the program's name, one of them is a command, and there is a version
 abbrev pub program_told : App
 program_told =
     on_top (λ s. record s { no_binary_name = true; has_version = true; subcommand_required = true }) (new_app (codes "ldaodt"))
 
--- the parser is told of one command more
+-- the parser is told of one command more, by its words or as the tables have it
+abbrev pub with_words : App → CommandWords → App
+with_words app command = with_subcommand app (shape_told command)
+
 abbrev pub with_command : App → KnownCommand → App
-with_command app command = with_subcommand app (command_told command)
+with_command app known = with_subcommand app (command_told known)
 
 -- and of these commands, one behind the other
 pub record IsToldAll (before after : App) (commands : List KnownCommand) : Type 0 where
   pub told : after ≡ fold with_command before commands
 
--- all commands: the word of each, its arguments and its options
-abbrev pub all_commands : List Shape
-all_commands =
-    shape_with (codes "load") (
-    needed (codes "TAPE") ∷ needed (codes "LINE") ∷ repeated (codes "MORE")
-    ∷ option (codes "record") ∷ tied_flag (codes "recheck") ∷ flag (codes "careful") ∷ flag (codes "fast") ∷ option (codes "start") ∷ tied_flag (codes "no-start")
-    ∷ numeric (codes "listen") 1 65_535 ∷ numeric (codes "patience") 0 1000 ∷ numeric (codes "quiet") 1 60_000 ∷ flag (codes "log") ∷ []
-    )
-    ∷ shape_with (codes "verify") (
-    needed (codes "TAPE") ∷ needed (codes "LINE") ∷ repeated (codes "MORE") ∷ flag (codes "careful")
-    ∷ numeric (codes "patience") 0 100_000 ∷ numeric (codes "quiet") 1 60_000 ∷ flag (codes "log") ∷ []
-    )
-    ∷ shape_with (codes "save") (
-    needed (codes "FILE") ∷ needed (codes "LINE") ∷ needed (codes "FROM") ∷ needed (codes "TO") ∷ option (codes "start") ∷ flag (codes "once")
-    ∷ numeric (codes "patience") 0 100_000 ∷ numeric (codes "quiet") 1 60_000 ∷ flag (codes "log") ∷ []
-    )
-    ∷ shape_with (codes "probe") (
-    needed (codes "LINE") ∷ option (codes "address")
-    ∷ numeric (codes "patience") 0 1000 ∷ numeric (codes "quiet") 1 60_000 ∷ flag (codes "log") ∷ []
-    )
-    ∷ shape_with (codes "memory") (
-    needed (codes "LINE") ∷ paired (codes "FROM") ∷ allowed (codes "TO") ∷ numeric (codes "every") 1 28_672
-    ∷ numeric (codes "patience") 0 1000 ∷ numeric (codes "quiet") 1 60_000 ∷ flag (codes "log") ∷ []
-    )
-    ∷ shape_with (codes "make") (needed (codes "FILE") ∷ allowed (codes "WORDS") ∷ option (codes "start") ∷ [])
-    ∷ shape_with (codes "check") (needed (codes "TAPE") ∷ repeated (codes "MORE") ∷ flag (codes "blocks") ∷ [])
-    ∷ shape_with (codes "dialogue") (
-    needed (codes "TAPE") ∷ repeated (codes "MORE")
-    ∷ option (codes "start") ∷ tied_flag (codes "no-start") ∷ numeric (codes "words") 0 28_672 ∷ numeric (codes "style") 0 7 ∷ []
-    )
-    ∷ shape_with (codes "rehearse") (needed (codes "TAPE") ∷ needed (codes "SCRIPT") ∷ repeated (codes "MORE") ∷ [])
-    ∷ shape_with (codes "type") (numeric (codes "words") 0 28_672 ∷ numeric (codes "style") 0 7 ∷ [])
-    ∷ []
-
 -- what the parser is told of all words that the program knows
 abbrev pub known_words : App
-known_words = fold with_subcommand program_told all_commands
+known_words = fold with_words (fold with_words program_told machine_commands) tape_commands
 
 -- a load, but for its tapes, is what the arguments and options of `load` say
 pub record SaysLoad (found : Found) (load : Load) : Type 0 where

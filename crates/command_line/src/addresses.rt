@@ -5,11 +5,11 @@ ghost use Rattle.clap.specs.Matches.{found_of, first_value};
 ghost use Rattle.command_line.specs.Addresses.{IsEvenText, IsOctalText, IsWordText};
 ghost use Rattle.command_line.specs.Options.{IsProbedWord, IsRangeOf, IsSavedStart, IsStartOf, IsTestedRange};
 
-use crate::names::{ADDRESS, FROM, NO_START, START, TO};
 use crate::no_request::NoRequest;
 use crate::refusals::invalid_value;
 use crate::values::text_of;
 use clap::ArgMatches;
+use command_tables::names::{ADDRESS, FROM, NO_START, START, TO};
 use octal::read_oct6;
 use request_values::AddressRange;
 use std::alloc::Global;

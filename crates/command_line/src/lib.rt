@@ -1,7 +1,7 @@
 //! The command line: which words ask for what.
 //!
-//! `known_words` tells the parser of all commands, arguments and options, and what help says of them. `parse` makes of
-//! the words after the program's name what is `Wanted`, a `Request`, as its contract says, or says why they ask for nothing:
+//! `known_words` tells the parser of all commands, arguments and options that `command_tables` has. `parse` makes of the
+//! words after the program's name what is `Wanted`, a `Request`, as its contract says, or says why they ask for nothing:
 //! help was asked for, or they are refused, by the text that is to be shown. `explain` shows that; `words_of` has the words
 //! that the process was started with. No other crate stands over `clap`. Used by `ldaodt`.
 #![tactic(auto)]
@@ -12,7 +12,6 @@ mod commands;
 mod explaining;
 mod help;
 mod machine_words;
-mod names;
 mod no_request;
 mod parsing;
 mod process_words;

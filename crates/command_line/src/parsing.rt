@@ -10,12 +10,12 @@ ghost use Rattle.command_line.specs.Wanted.{IsAskedBy, IsWantedBy, IsWantedOf, u
 use crate::commands::known_words;
 use crate::help::ask_for_help;
 use crate::machine_words::{loading_of, probing_of, saving_of, testing_of, verifying_of};
-use crate::names::LOG;
 use crate::no_request::NoRequest;
 use crate::shown_words::{have_control, shown_words};
 use crate::tape_words::tape_request_of;
 use crate::wanted::{Wanted, unlogged};
 use clap::ArgMatches;
+use command_tables::names::LOG;
 use request_values::{MachineRequest, PrintRequest, Request, TapeRequest};
 use std::alloc::Global;
 

@@ -1,5 +1,6 @@
 //! Words as a refusal shows them: control characters by their escapes.
 
+use endings::shown_character;
 use std::alloc::{AllocError, Global};
 
 /// Whether one of these words has a control character.
@@ -20,16 +21,7 @@ pub(crate) fn shown_words(alloc: Global, words: &[String]) -> Result<Vec<String>
 fn shown_word(alloc: Global, word: &str) -> Result<String, AllocError> {
     let mut shown = String::new(alloc);
     for character in word.chars() {
-        put_shown(&mut shown, character)?;
+        shown.push_str(&shown_character(character))?;
     }
     Ok(shown)
-}
-
-// Puts a character behind a text, as it is shown: a control character by its escape.
-fn put_shown(shown: &mut String, character: char) -> Result<(), AllocError> {
-    if character.is_control() {
-        write!(shown, "{}", character.escape_default())
-    } else {
-        shown.push(character)
-    }
 }

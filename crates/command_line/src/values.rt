@@ -4,10 +4,10 @@ ghost use Rattle.odt_machine.specs.Style.{style_number};
 ghost use Rattle.clap.specs.Matches.{first_value, found_of};
 ghost use Rattle.command_line.specs.Options.{NamesTapes, IsConsoleOf, IsNumberGiven, IsNumberOf, has_colon, is_line, more_in};
 
-use crate::names::{LINE, MORE, STYLE, TAPE, WORDS};
 use crate::no_request::NoRequest;
 use crate::refusals::invalid_value;
 use clap::ArgMatches;
+use command_tables::names::{LINE, MORE, STYLE, TAPE, WORDS};
 use console_lines::is_path;
 use odt_machine::{LARGEST_WORDS, PLAIN_STYLE, Style};
 use request_values::Console;

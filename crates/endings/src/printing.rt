@@ -1,11 +1,9 @@
 //! The line of a failure on standard error.
 //!
 //! It is gathered first and written in one write, so that nothing else can stand in its midst.
-ghost use Rattle.std.specs.Prelude.{◌≡◌, ◌<◌, OnOk, OnErr, IsTrue};
-ghost use Rattle.std.specs.Char.{is_control, digit_char};
-ghost use Rattle.std.specs.Char.Escape.{escape_default};
+ghost use Rattle.std.specs.Prelude.{◌≡◌, OnOk, OnErr};
 ghost use Rattle.endings.specs.FaultOutput.{IsSaidInPart, IsSaidWhole};
-ghost use Rattle.endings.specs.Failure.{status_of, failure_end, failure_name, fault_line, misplaced_end, shown_char, shown_name, stale_names};
+ghost use Rattle.endings.specs.Failure.{status_of, failure_end, failure_name, fault_line, misplaced_end, shown_name, stale_names};
 ghost use Rattle.endings.specs.Failure.{is_unheard, IsPrinted, IsPrintedUnless};
 
 use crate::failure::Failure;
@@ -13,13 +11,10 @@ use crate::fault_output::{FaultOutput, say};
 use crate::line_words::line_words;
 use crate::output::Output;
 use crate::place::Place;
+use crate::shown::shown_character;
 use crate::status::Status;
-use arrayvec::ArrayVec;
 use byte_io::{WriteFault, push_bytes};
 use std::alloc::Global;
-
-// A character as it is shown: four bytes, or an escape of six.
-type Shown = ArrayVec<u8, 6>;
 
 /// Prints the line of a failure, in one write, and answers the status that says so.
 ///
@@ -172,59 +167,8 @@ pub fn write_name<E: FaultOutput>(err: &mut E, name: &str) -> Result<(), WriteFa
         return say(err, b"''");
     }
     for character in name.chars() {
-        let piece = shown(character);
-        say(err, &piece)?;
+        let piece = shown_character(character);
+        say(err, piece.as_bytes())?;
     }
     Ok(())
-}
-
-// A character as a fault shows it.
-fn shown(character: char) -> Shown
-    ensures { result.items ≡ shown_char character }
-{
-    if character.is_control() {
-        return escape(character);
-    }
-    let mut bytes = [0u8; 4];
-    let text = character.encode_utf8(&mut bytes);
-    let mut shown = Shown::new();
-    shown.try_extend_from_slice(text.as_bytes()).unwrap();
-    shown
-}
-
-// The escape of a control character: `\n`, `\r`, `\t`, or its code in hexadecimal.
-fn escape(character: char) -> Shown
-    requires { IsTrue (is_control character) }
-    ensures { result.items ≡ escape_default character }
-{
-    let code = character as u32;
-    let mut escape = Shown::new();
-    escape.push(b'\\');
-    match code {
-        9 => escape.push(b't'),
-        10 => escape.push(b'n'),
-        13 => escape.push(b'r'),
-        _ => {
-            escape.push(b'u');
-            escape.push(b'{');
-            if code >= 16 {
-                escape.push(hex_digit(code / 16));
-            }
-            escape.push(hex_digit(code % 16));
-            escape.push(b'}');
-        }
-    }
-    escape
-}
-
-// The hexadecimal digit of a number below 16.
-fn hex_digit(number: u32) -> u8
-    requires { number < 16 }
-    ensures { result ≡ digit_char number }
-{
-    if number < 10 {
-        b'0' + number as u8
-    } else {
-        b'a' + (number - 10) as u8
-    }
 }

@@ -17,7 +17,7 @@ loop-character-preserved g c =
           (shown_text-char (chars_rest c.loop-character.character-iterator) (chars_rest c.next.new.self) c.in-Some.character utf8 step)
           c.loop-character.invariant.so_far)
           (subst (IsSaidWhole (at c.loop-character.err) (at c.say-in-loop-character.new.err))
-          (c.deref.ensures.0 ∙ c.shown-piece.ensures) c.in_ok-say.ensures.ok);
+          (c.as_bytes.ensures.value ∙ c.deref.ensures.0 ∙ c.shown_character-piece.ensures) c.in_ok-say.ensures.ok);
     }
 
 pub returns-in_err-say-clause-err : goal.returns-in_err-say-clause-err
@@ -33,7 +33,7 @@ returns-in_err-say-clause-err g c =
     (shown_text-char (chars_rest c.loop-character.character-iterator) (chars_rest c.next.new.self) c.in-Some.character utf8 step)
     c.loop-character.invariant.so_far)
     (subst (IsSaidInPart (at c.loop-character.err) (at c.say-in-loop-character.new.err))
-    (c.deref.ensures.0 ∙ c.shown-piece.ensures) c.in_err-say.ensures.err)))
+    (c.as_bytes.ensures.value ∙ c.deref.ensures.0 ∙ c.shown_character-piece.ensures) c.in_err-say.ensures.err)))
 
 pub returns-clause-ok : goal.returns-clause-ok
 returns-clause-ok g c =

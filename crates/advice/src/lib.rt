@@ -12,8 +12,10 @@ mod following;
 mod instead;
 mod loads;
 mod looks;
+mod probing;
 
 pub use following::say_what_follows;
 pub use instead::{Instead, say_instead};
 pub use loads::{PlanSize, advise_load};
-pub use looks::{advise_save, advise_test, say_probing};
+pub use looks::{advise_save, advise_test};
+pub use probing::say_probing;

@@ -1,4 +1,4 @@
-//! What is told at a terminal of a look, a probe and a test of memory.
+//! What is told at a terminal of a save and a test of memory.
 
 use crate::loads::ASK_PROBE;
 use machine_look::{LookFault, SaveEnd};
@@ -36,12 +36,5 @@ pub fn advise_test<C: Clock, T: Print>(
         && progress.done() == 0
     {
         progress.say(ASK_PROBE);
-    }
-}
-
-/// Tells whoever waits at a terminal that a probe is under way.
-pub fn say_probing<T: Print>(terminal: Option<&T>) {
-    if let Some(terminal) = terminal {
-        let _ = terminal.write_all(b"probing: mostly 8 seconds; 20 where nothing answers\n");
     }
 }

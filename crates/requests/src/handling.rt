@@ -8,7 +8,6 @@ use crate::changed_line::say_changed;
 use crate::loading::load_tapes;
 use crate::making::make_words;
 use crate::probing::probe_console;
-use crate::probing_line::say_probing;
 use crate::saving::save_words;
 use crate::system::{Kinds, System};
 use crate::testing::test_words;

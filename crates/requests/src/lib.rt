@@ -19,7 +19,6 @@ mod loading;
 mod making;
 mod planning;
 mod probing;
-mod probing_line;
 mod request_fault;
 mod saving;
 mod system;

@@ -13,7 +13,7 @@ const WAITS: u64 = 4;
 const WAITS_BESIDE: u64 = 2;
 
 /// Tells whoever waits at a terminal that a probe is under way, and for how long.
-pub(crate) fn say_probing<T: Print>(alloc: Global, terminal: Option<&T>, look: Look<'_>) {
+pub fn say_probing<T: Print>(alloc: Global, terminal: Option<&T>, look: Look<'_>) {
     let Some(terminal) = terminal else {
         return;
     };

@@ -1,5 +1,5 @@
 //! What each command about no machine asks for.
-ghost use Rattle.std.specs.Prelude.{◌≡◌, IfOk, codes};
+ghost use Rattle.std.specs.Prelude.{IfOk, codes};
 ghost use Rattle.clap.specs.Matches.{found_of};
 ghost use Rattle.command_line.specs.Commands.{IsMakeOf, IsPrintRequestOf, IsTapeRequestOf};
 

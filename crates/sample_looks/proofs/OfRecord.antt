@@ -1,5 +1,5 @@
 -- Samples are words of the record, and what was said of them is a look.
-use Rattle.std.proofs.Common.{◌≡◌, ℕ, zero, suc, ◌+◌, ◌-◌, ◌<◌, ◌≤◌, ◌++◌, ◌⊎◌, List, [], length, map, get_or, Some, inl, inr, arith, ap, sym, subst, ◌∙◌, append-nil}
+use Rattle.std.proofs.Common.{◌≡◌, ℕ, zero, suc, ◌+◌, ◌-◌, ◌<◌, ◌≤◌, ◌⊎◌, List, length, map, get_or, Some, inl, inr, arith, ap, sym, subst, ◌∙◌}
 use Rattle.std.specs.Prelude.{All}
 use Rattle.std.proofs.lemmas.List.{get_or-map, length-map}
 use Rattle.std.proofs.lemmas.List.Elements.{All-append}
@@ -13,7 +13,7 @@ use Rattle.load_lives.specs.Stops.{WentOut}
 use Rattle.looking_engine.specs.Session.{IsSaid}
 use Rattle.looking_engine.specs.Stopping.{LookStop}
 use Rattle.looking_engine.specs.declared.stop.Stop.TheVariants.{Ended, LineFailed, TurnsOver}
-use Rattle.sample_looks.specs.LooksFirst.{AreOfARecord, SampleLooks, SamplesAreOfTheRecord, WereMade, looked_at}
+use Rattle.sample_looks.specs.LooksFirst.{SamplesAreOfTheRecord, looked_at}
 use Rattle.sample_looks.specs.Samples.{AreSamples, AreSpread}
 use Rattle.tape_image.specs.Plan.{PlanValue}
 use Rattle.host_core.specs.declared.progress.Progress.{Progress}

@@ -116,20 +116,24 @@ class Advice(Told):
         self.makes(TAPE)
 
     def test_what_a_console_printed(self):
-        """Pasted into a file, and taken for words."""
-        self.put("pasted", b"@001000/ 011064 \r\n@001002/ 157255 \r\n@\r\n")
-        shown = self.shown("make b.lda pasted --start 1000")
-        self.does(shown, r"tr .*WORDS", FILE="pasted", WORDS="words")
-        self.ends(self.ldaodt("make b.lda words --start 1000"), 0, "")
-        self.makes(TAPE)
+        """Pasted into a file, and taken for words; from a prompt on, or from the end of the line before."""
+        for front in (b"", b"\r\n"):
+            self.put("pasted", front + b"@001000/ 011064 \r\n@001002/ 157255 \r\n@\r\n")
+            shown = self.shown("make b.lda pasted --start 1000")
+            self.does(shown, r"tr .*WORDS", FILE="pasted", WORDS="words")
+            self.ends(self.ldaodt("make b.lda words --start 1000"), 0, "")
+            self.makes(TAPE)
+            os.remove(self.path("b.lda"))
         self.put("wrong", b"1000 8\n")
         self.assertNotIn("tr ", self.shown("make c.lda wrong"))
 
     def test_a_record_of_another_tape(self):
-        """Another record begins anew."""
+        """Another record begins anew. Of what is no record at all that is not told."""
         self.put("first.lda", bytes_of(FIRST))
-        self.put("a.record", b"LDAODT 2\n001002 000000\n")
         peer = self.console_at(Console())
+        self.put("a.record", b"my notes\n")
+        self.is_so(self.shown(f"load first.lda {peer.address} --record a.record"), "ldaodt: record refused: NotARecord\n")
+        self.put("a.record", b"LDAODT 2\n001002 000000\n")
         shown = self.shown(f"load first.lda {peer.address} --record a.record")
         self.assertIn("with another --record FILE the load begins anew\n", shown)
         self.is_so(self.load(peer, "first.lda --record b.record").status, 0)

@@ -3,6 +3,7 @@ another program can be tried; and those that build it and call these, with an `r
 import os
 import re
 import shutil
+import signal
 import subprocess
 import time
 import unittest
@@ -126,6 +127,14 @@ class Tests(Tree):
         self.assertEqual(status, 1)
         self.closes(lines, "Ran 0 tests in 1 files, 5 left out, 0 wrong")
 
+    def test_files_that_are_named(self):
+        """They alone are tried, also beside a list."""
+        self.put("tests/test_other.py", SMALL.replace("class Small", "class Other").encode())
+        self.put("list", b"test_other.Other.test_right: not today\n")
+        for words, ran in (((), 5), (("--leave-out", self.path("list")), 4)):
+            status, lines, _ = self.runs("check-tests", *words, self.path("tests/test_other.py"))
+            self.assertEqual((status, [it.split(",")[0] for it in lines if it.startswith("right")]), (0, [f"right  tests/test_other.py: {ran} tests"]))
+
     def test_a_list_that_names_no_test(self):
         for name in (f"{NAME}.test_rig", "test_smal", "test_small.Big"):
             self.put("list", f"{name}: gone\n".encode())
@@ -159,6 +168,19 @@ class Tests(Tree):
         self.assertIn("TimeoutError: no end within 2 seconds", lines)
         self.assertIn("has not ended: sleep 50 ", lines)
         self.closes(lines, "Ran 5 tests in 1 files, 3 left out, 1 wrong")
+
+    def test_a_test_that_waits_again_is_ended_again(self):
+        """As one does whose end waits for what it began."""
+        self.set_line("tools/check-tests", "TIME = 600", "TIME = 1")
+        self.set_line("tools/check-tests", "AGAIN = 5", "AGAIN = 1")
+        self.put("tests/cases.py", b"PATIENT_QUIET = 1\nclass Case:\n    pass\n")
+        waits = "import subprocess, unittest\nclass Small(unittest.TestCase):\n    def test_it(self):\n"
+        self.put("tests/test_small.py", f"{waits}        self.addCleanup(subprocess.run, ['sleep', '30'])\n        subprocess.run(['sleep', '30'])\n".encode())
+        began = time.monotonic()
+        status, lines, _ = self.runs("check-tests")
+        self.assertEqual(status, 1)
+        self.closes(lines, "Ran 1 tests in 1 files, 0 left out, 1 wrong")
+        self.assertLess(time.monotonic() - began, 30)
 
     def test_a_file_without_a_test_is_wrong(self):
         self.put("tests/test_small.py", b"")
@@ -206,6 +228,31 @@ class Program(Tree):
         status, lines, _ = self.runs("check-program")
         self.assertEqual((status, lines[-1]), (1, f"{self.PASSED - 5} passed, 1 failed"))
         self.assertIn("WRONG  examples/check-losses: nothing was tried", lines)
+
+    def test_what_was_late_is_said(self):
+        """Though all of it is right in the end."""
+        self.put("tests/cases.py", b"PATIENT_QUIET = 1000\nclass Case:\n    quiet = 200\n")
+        self.put("tests/test_late.py", b"import cases, unittest\nclass Late(unittest.TestCase):\n    def test_it(self):\n        self.assertEqual(cases.Case.quiet, 1000)\n")
+        held_up = "held up: a.md:1, for 40 ms; once more"
+        self.put_script("tools/check-transcripts", f"echo '{held_up}'; {PARTS['tools/check-transcripts']}")
+        status, lines, _ = self.runs("check-program")
+        self.assertEqual((status, lines[-1]), (0, f"{self.PASSED + 1} passed, 0 failed"))
+        self.assertEqual([it for it in lines if it.startswith(("held up", "once more"))], [held_up, "once more, alone: test_late.Late.test_it, which failed beside others:"])
+
+    def test_an_interrupt(self):
+        """It leaves no process of any part behind."""
+        self.put_script("examples/check-losses", f"sleep 100 &\necho $! > {self.path('process')}\nwait")
+        ran = subprocess.Popen([self.path("tools/check-program")], stdin=subprocess.DEVNULL, stdout=subprocess.DEVNULL, start_new_session=True)
+        self.addCleanup(self.let_go, ran)
+        until = time.monotonic() + 20
+        while not (os.path.exists(self.path("process")) and bytes_of(self.path("process"))) and time.monotonic() < until:
+            time.sleep(0.05)
+        ran.send_signal(signal.SIGTERM)
+        self.assertEqual(ran.wait(60), 130)
+        path = f"/proc/{bytes_of(self.path('process')).decode().strip()}/cmdline"
+        while b"sleep" in words_of(path) and time.monotonic() < until:
+            time.sleep(0.05)
+        self.assertEqual(words_of(path), b"")
 
     def test_no_program_and_no_such_word(self):
         for words, why in (
@@ -266,6 +313,17 @@ class Transcripts(Tree):
         """As a machine that nobody switches off."""
         page = f"```\n$ (echo $BASHPID > {self.path('process')}; exec sleep 100) &\n$ until [ -s {self.path('process')} ]; do sleep 0.01; done\n```\n"
         self.assertEqual(self.verdicts(page)[0], 0)
+        path = f"/proc/{bytes_of(self.path('process')).decode().strip()}/cmdline"
+        until = time.monotonic() + 20
+        while b"sleep" in words_of(path) and time.monotonic() < until:
+            time.sleep(0.05)
+        self.assertEqual(words_of(path), b"")
+
+    def test_what_does_not_end(self):
+        """It is wrong, and ended with all that it began. Its time is made a second here."""
+        self.set_line("tools/check-transcripts", "SECONDS = 600", "SECONDS = 1")
+        page = f"```\n$ sh -c 'echo $$ > {self.path('process')}; sleep 100; true'\n```\n"
+        self.assertEqual(self.verdicts(page), (1, ["WRONG  docs/a.md:2"], "1 transcripts run, 0 left out, 1 wrong"))
         path = f"/proc/{bytes_of(self.path('process')).decode().strip()}/cmdline"
         until = time.monotonic() + 20
         while b"sleep" in words_of(path) and time.monotonic() < until:

@@ -225,6 +225,17 @@ class NotServed(FastCase):
     def test_too_few_words(self):
         self.is_ordinary(image_of(100), "too few words")
 
+    def test_words_that_the_record_has(self):
+        """No stub verified them: it is told why none serves."""
+        image = image_of(300)
+        self.put_tape("a.lda", image)
+        self.put("a.record", record_of(words_of(image)[:100]).encode())
+        peer = self.console_at(FastConsole(image))
+        peer.machine.words.set_all(memory_with(image, 4096))
+        given, told = self.at_a_terminal(lambda terminal: self.load(peer, "a.lda --fast --record a.record", stderr=terminal))
+        self.is_so(given.status, 0)
+        self.assertIn("\r100 of 300 by the record\r\n--fast did not serve: too few words\r\n", told.replace("\x1b[K", ""))
+
     def test_too_few_words_before_the_window(self):
         """There are enough words, but behind the last at which a stub could lie."""
         image = image_of(ONE_STRETCH + 50)

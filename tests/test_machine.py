@@ -17,7 +17,7 @@ import unittest.mock
 
 from cases import Case, LossyRunningConsole, RunningConsole
 from outside import TOP, bytes_of
-from programs import COMPUTING, ECHO, ENDLESS, HELLO_TEXT, WAITING, placed, words_of_hello
+from programs import COMPUTING, ECHO, ENDLESS, HELLO_TEXT, SILENT, WAITING, placed, words_of_hello
 from stub_listing import CHUNK, HALTED, answered, stub_words, typed
 
 # Some bytes of a chunk.
@@ -103,6 +103,26 @@ class Machine(Case):
         for _ in range(2):
             it.starts()
             self.is_so(it.hears("@"), f"{HELLO_TEXT}\r\n001040\r\n@")
+        # Elsewhere there is another program: a HALT.
+        it.starts(0o4000)
+        self.is_so(it.hears("@"), "\r\n004002\r\n@")
+
+    def test_how_much_memory(self):
+        for options, end in (("", 0o160000), ("--words 4096", 0o20000)):
+            it = self.switched_on(options)
+            self.is_so((self.looks(it, end - 2), self.looks(it, end)), (0, None))
+            self.switch_off()
+
+    def test_each_style(self):
+        """A space behind the `/`, a second CR, an illegal key that is echoed."""
+        for style in range(8):
+            it = self.switched_on(f"--style {style}")
+            prompt = "\r\r\n@" if style & 2 else "\r\n@"
+            it.types("Z")
+            self.is_so(it.hears("@"), f"{'Z?' if style & 4 else '?'}{prompt}")
+            it.types("1000/\r")
+            self.is_so(it.hears("@"), f"1000/{' ' if style & 1 else ''}000000 {prompt}")
+            self.switch_off()
 
     def test_a_program_that_is_interrupted(self):
         """It hears each key that is typed, prints it, and halts at Z; ODT then has the next key."""
@@ -261,6 +281,25 @@ class Machine(Case):
         it.types("Z")
         it.hears("@")
 
+    def test_keys_at_a_line_of_a_speed(self):
+        """Each takes its time, also where nothing answers it: thirty keys, and the eleven characters behind a HALT."""
+        it = self.switched_on("--speed 300")
+        it.puts(placed(SILENT))
+        it.starts()
+        began = time.monotonic()
+        it.types("A" * 29 + "Z")
+        self.is_so(it.hears("@"), "\r\n001022\r\n@")
+        self.assertGreaterEqual(time.monotonic() - began, 39 / 30)
+
+    def test_nobody_types_at_a_line_of_a_speed(self):
+        """It looks twice a second, and leaves this computer to others."""
+        it = self.switched_on("--speed 38400")
+        it.types("Z")
+        it.hears("@")
+        before = turns_of(self.process())
+        time.sleep(1)
+        self.assertLess(turns_of(self.process()) - before, 20)
+
     def test_a_program_at_a_line_of_a_speed(self):
         it = self.switched_on("--speed 1200")
         it.puts(placed(ENDLESS))
@@ -356,6 +395,10 @@ class Machine(Case):
         for word, address in enumerate((0, 0o4000, 2, 0o4002), 1):
             self.is_so(self.holds(it, address, word), word)
             self.is_so([self.looks(it, other) for other in (0, 2, 0o4000, 0o4002, 0o1000, 0o10000)], [word] * 4 + [0, 0])
+        self.switch_off()
+        # What is bad of one is bad of the other, by whichever address it was asked for.
+        it = self.switched_on("--alias 15 --stuck 102000:3:1")
+        self.is_so([self.holds(it, address, 0) for address in (0o2000, 0o102000, 0o2002)], [0o10, 0o10, 0])
 
     def test_a_program_in_bad_memory(self):
         """It meets what ODT does: a bit that is stuck, two addresses that are one, and no answer, which is a trap."""
@@ -418,6 +461,19 @@ class Machine(Case):
         told = subprocess.run([f"{TOP}/tools/machine", self.path("lsi11")], capture_output=True, text=True, timeout=60)
         self.is_so((told.returncode, told.stdout, told.stderr), (1, "", f"machine: {self.path('lsi11')} is there already, and is no link\n"))
         self.is_so(bytes_of(self.path("lsi11")), b"mine")
+
+    def test_a_link_that_leads_nowhere(self):
+        """As a machine leaves it that was killed."""
+        os.symlink("/dev/pts/nothing", self.path("lsi11"))
+        it = self.switched_on()
+        it.types("Z")
+        self.is_so(it.hears("@"), "?\r\n@")
+
+    def test_a_name_of_this_folder(self):
+        """It is told as it was given."""
+        self.addCleanup(self.switch_off)
+        told = subprocess.run([f"{TOP}/tools/machine", "lsi11"], cwd=self.room, capture_output=True, text=True, timeout=60, check=True)
+        self.is_so(told.stdout, "lsi11 is the console of a simulated LSI-11, until it is removed: rm lsi11\n")
 
     def test_a_name_that_is_another_machine_s(self):
         """That one is switched off by it, and the later one stays on."""
@@ -500,11 +556,14 @@ class Commands(Case):
         process, it = self.at_a_port("--says", "HI\\r\\n", "--style", "2", "--words", "256", "--console", "wide")
         it.types("776/\r1000/")
         self.is_so(it.hears("?\r\r\n@"), "776/00000000 \r\r\n@1000/?\r\r\n@")
+        # At an odd address nothing starts.
+        it.types("000101G")
+        self.is_so(it.hears("@"), "000101G?\r\r\n@")
         it.types("000100G")
         self.is_so(it.hears("\n"), "000100GHI\r\n")
         self.is_so(process.stdout.readline(), "started at 000100\n")
         it.end.close()
-        self.is_so(process.stdout.readline(), f"gone: 17 keys, {4 + 10 + 3 + 5 + 5 + 7 + 4} characters answered, 0 lost\n")
+        self.is_so(process.stdout.readline(), f"gone: 24 keys, {4 + 10 + 3 + 5 + 5 + 12 + 7 + 4} characters answered, 0 lost\n")
 
     def test_losses_and_changes(self):
         """Of a hundred characters so many, each way, by a chance that can be had again."""
@@ -524,6 +583,10 @@ class Commands(Case):
         self.is_so([(ord(it.read(1)) ^ ord(wanted)).bit_count() for wanted in "?\r\n@"], [1] * 4)
         it.end.close()
         self.is_so(process.stdout.readline(), "gone: 1 keys, 4 characters answered, 0 lost, 5 changed\n")
+        process, it = self.at_a_port("--change", "25")
+        it.types("Z" * 100)
+        changed = sum(it.read(1) != wanted.encode() for wanted in "?\r\n@" * 100)
+        self.assertTrue(60 < changed < 140, changed)
 
     def test_a_line_that_breaks(self):
         """Behind five keys and twelve characters it is over."""
@@ -604,6 +667,11 @@ def bytes_of_process(path):
         return bytes_of(path)
     except OSError:
         return b""
+
+
+def turns_of(process):
+    """How often a process has come to its turn on a processor because it had waited for something."""
+    return int(bytes_of(f"/proc/{process}/status").split(b"voluntary_ctxt_switches:")[1].split()[0])
 
 
 def processor_time(process):

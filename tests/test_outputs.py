@@ -164,14 +164,14 @@ class Descriptors(Case):
         """While a load that has its record waits for a console that says nothing."""
         self.put_tapes("first.lda")
         null = subprocess.DEVNULL
-        for closed in (0, 1, 2):
+        for closed in ((0,), (1,), (2,), (0, 1), (0, 2), (1, 2), (0, 1, 2)):
             with self.subTest(closed):
                 peer = self.console_at(DeafConsole())
                 load = subprocess.Popen([PROGRAM, "load", "first.lda", peer.address, "--quiet", "60000", "--record", "a.record"], cwd=self.room,
-                                        stdin=null, stdout=null, stderr=null, preexec_fn=lambda: os.close(closed))
+                                        stdin=null, stdout=null, stderr=null, preexec_fn=lambda closed=closed: [os.close(it) for it in closed])
                 self.addCleanup(self.let_go, load)
                 self.until(lambda: os.path.exists(self.path("a.record")))
-                self.is_so(os.readlink(f"/proc/{load.pid}/fd/{closed}"), "/dev/null")
+                self.is_so([os.readlink(f"/proc/{load.pid}/fd/{it}") for it in closed], ["/dev/null"] * len(closed))
                 self.let_go(load)
                 os.remove(self.path("a.record"))
 

@@ -47,6 +47,16 @@ COMP_WORDS=("$@") COMP_CWORD=$(($# - 1)) asked=($(complete -p "$1"))
 printf '%s\\n' "${COMPREPLY[@]}"
 """
 
+# The same of two commands, one after the other in one shell; of the second it is told.
+OFFERS_BEHIND = """
+. "$COMPLETION"
+COMP_WORDS=(ldaodt-serial 9600 it load '') COMP_CWORD=4
+_ldaodt_serial ldaodt-serial
+COMP_WORDS=(ldaodt load '') COMP_CWORD=2
+_ldaodt ldaodt
+printf '%s\\n' "${COMPREPLY[@]}"
+"""
+
 # The same in zsh, which completes at a terminal alone: each match that its own `compadd` would add goes to a file, and behind them a mark.
 ZSH_OFFERS = r"""
 PROMPT= fpath=($FOLDER $fpath)
@@ -135,6 +145,25 @@ class LaidOut(Case):
         self.lay_out("uninstall", usr)
         self.assertEqual(self.files_below(usr), {"share/doc/other/README", "share/doc/ldaodt/docs/my-machine.md"})
         self.assertEqual(os.listdir(f"{usr}/share/doc/ldaodt"), ["docs"])
+
+    def test_what_the_pages_point_to(self):
+        """It is there where they are installed."""
+        self.lay_out("install", f"{self.room}/usr")
+        pages = [it for it in self.files_below(f"{self.room}/usr/share/doc/ldaodt") if it.endswith(".md")]
+        self.assertIn("README.md", pages)
+        for page in pages:
+            path = f"{self.room}/usr/share/doc/ldaodt/{page}"
+            for link in re.findall(r"\]\(([^)#:]+)[^):]*\)", bytes_of(path).decode()):
+                self.assertTrue(os.path.exists(os.path.join(os.path.dirname(path), link)), f"{page} points to {link}")
+
+    def test_without_a_program(self):
+        """Nothing is laid out, and it is said what makes one."""
+        os.remove(f"{self.top}/ldaodt")
+        for words, name in ((("install", f"{self.room}/usr"), "ldaodt"), (("dist",), "ldaodt"), (("deb",), "ldaodt"), (("dist", "ldaodt-arm64"), "ldaodt-arm64")):
+            with self.assertRaises(subprocess.CalledProcessError) as raised:
+                self.lay_out(*words)
+            self.assertEqual((raised.exception.returncode, raised.exception.stderr), (1, f"there is no ./{name} yet: run make first\n"))
+        self.assertEqual((os.path.exists(f"{self.room}/usr"), [it for it in os.listdir(self.top) if it.startswith("ldaodt")]), (False, []))
 
     def test_nothing_stays_where_nothing_was(self):
         self.lay_out("install", f"{self.room}/usr")
@@ -227,6 +256,7 @@ class LaidOut(Case):
         package = f"{self.top}/{self.lay_out('deb').strip()}"
         version = subprocess.run([PROGRAM, "--version"], capture_output=True, text=True, check=True).stdout.split()[1]
         self.assertEqual(os.path.basename(package), f"ldaodt_{version}_{ARCHITECTURE}.deb")
+        self.assertEqual(self.told(package, "Package", "Version", "Architecture"), f"Package: ldaodt\nVersion: {version}\nArchitecture: {ARCHITECTURE}")
         listed = subprocess.run(["dpkg-deb", "-c", package], capture_output=True, text=True, check=True).stdout.splitlines()
         self.assertEqual({line.split()[1] for line in listed}, {"root/root"})
         names = {line.split()[5] for line in listed}
@@ -361,6 +391,11 @@ class Bash(Completion):
         for command in COMMANDS:
             offered = self.devices_of(self.offers("ldaodt", command, ""))
             self.assertEqual((command, offered), (command, DEVICES if command in MACHINES else []))
+
+    def test_behind_the_script(self):
+        """What it has made of a line is forgotten at the next."""
+        ran = subprocess.run(["bash", "-c", OFFERS_BEHIND], env=self.surroundings, cwd=self.room, stdin=subprocess.DEVNULL, capture_output=True, text=True, timeout=60)
+        self.assertEqual((ran.returncode, ran.stderr, self.devices_of(ran.stdout.splitlines())), (0, "", DEVICES))
 
     def test_beside_the_script(self):
         """Speed and device, a command at a machine, and its words but for LINE."""

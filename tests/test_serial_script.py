@@ -111,6 +111,15 @@ REFUSED = (
     ("scan DEVICE 9600", "scan takes DEVICE alone"),
 )
 
+# The statuses that are not ldaodt's or a terminal's, as help has them.
+STATUSES = [
+    ("0", "scan: an ODT answers"),
+    ("2", "the command line was refused"),
+    ("4", "the device can't be used"),
+    ("5", "scan: no ODT answers"),
+    ("127", "ldaodt, or a terminal for talk, is not installed"),
+]
+
 # What `stty` says of the device, what is told of it, and what a person is to do.
 TROUBLES = (
     ("stty: DEVICE: No such file or directory", "No such file or directory", "ls -l /dev/serial/by-id/"),
@@ -266,8 +275,9 @@ class Words(Script):
 
     def test_help_of_a_command_sets_nothing(self):
         """Nor does it ask for the device."""
-        self.ends(self.serial("9600 /dev/none probe --help"), 0, HELPS["probe"])
-        self.is_so(self.notes(), [])
+        for option in ("--help", "-h"):
+            self.ends(self.serial(f"9600 /dev/none probe {option}"), 0, HELPS["probe"])
+            self.is_so(self.notes(), [])
 
     def test_the_status_and_what_is_said_are_the_program_s(self):
         for status in range(8):
@@ -292,7 +302,9 @@ class Words(Script):
         for name in answers:
             self.ends(self.serial("9600 DEVICE probe"), 0, f"{name}\n")
             self.ends(self.serial("9600 DEVICE probe", script=self.path("bin/ldaodt-serial")), 0, f"{name}\n")
+            # A folder of that name is none.
             os.remove(self.path(name))
+            os.mkdir(self.path(name))
         given = self.serial("9600 DEVICE probe")
         self.is_so((given.status, given.out, given.err.split("\n")[0]),
                    (127, "", "ldaodt-serial: there is no ldaodt beside this script, nor on the PATH"))
@@ -310,6 +322,7 @@ class Words(Script):
         self.assertLess(max(map(len, given.out.split("\n"))), 80)
         for word in (*SPEEDS, *TERMINALS, "--talk", "7e1"):
             self.assertIn(word, given.out)
+        self.is_so(re.findall(r"^  (\d+) +(.*)$", given.out, re.MULTILINE), STATUSES)
         self.ends(self.serial(""), 2, "", given.out)
 
 
@@ -349,6 +362,8 @@ class Troubles(Script):
             ("./nothing", "No such file or directory", "by-id"),
             ("./gone", "No such file or directory", "by-id"),
             ("./plain/device", "Not a directory", "step 3"),
+            # As udev names an adapter by its place, which is unplugged here: no bridge's name has a slash.
+            ("./by-path/pci-0000:00:14.0-usb", "No such file or directory", "by-id"),
             ("./plain", "not a serial device", "/dev/ttyACM0"),
             ("/dev", "not a serial device", "/dev/ttyACM0"),
             ("/dev/null", "Inappropriate ioctl for device", "/dev/ttyACM0"),
@@ -438,6 +453,8 @@ SCANS = (
     # A line that fails is no matter of a speed; what was left in the machine is told.
     (300, BROKEN, 4, 2, 4, BROKEN, None),
     (300, "", 4, 2, 4, "", None),
+    # Nor is want of memory, or another program at the device: any end but a probe's own two.
+    (300, "", 7, 2, 7, "", None),
 )
 
 
@@ -455,7 +472,7 @@ class Scans(Script):
                 given = self.serial("scan DEVICE", env={f"report_{speed}": report, f"status_{speed}": str(status)})
                 self.is_so(self.notes(), [f"{it}: ldaodt probe --quiet 500 DEVICE" for it in SPEEDS[:count]])
                 lines = {it: f"{it}: no ODT, heard nothing\n" for it in SPEEDS[:count]}
-                lines[str(speed)] = said if ended == 4 else f"{speed}: {said}"
+                lines[str(speed)] = said if ended in (4, 7) else f"{speed}: {said}"
                 wanted = "".join(lines.values()) + (f"now write: {self.path('tools/serial')} {speed} {self.device} {written}\n" if written else "")
                 self.is_so((given.status, given.out), (ended, wanted))
                 kind = " of 16 bits" if report == OTHERS else ""
@@ -514,6 +531,13 @@ class Terminals(Script):
                 self.is_so((given.status, given.out, "leaves" in given.err and "BREAK" in given.err), (3, "", True))
                 self.is_so(self.notes()[-2:], ["DEVICE", TERMINAL_WORDS[name]])
             os.remove(self.path(f"bin/{name}"))
+
+    def test_what_tio_is_told(self):
+        """By words: none, odd or even, and how many bits."""
+        self.stand_in("bin/tio")
+        for speed, words in (("9600", "-b 9600 -d 8 -p none -s 1"), ("1200/7o2", "-b 1200 -d 7 -p odd -s 2"), ("300/7e1", "-b 300 -d 7 -p even -s 1")):
+            self.is_so(self.serial(f"{speed} DEVICE talk").status, 0)
+            self.is_so(self.notes()[-1], f"tio -n {words} -f none DEVICE")
 
     def test_where_there_is_none(self):
         """Nothing is set and nothing loaded."""

@@ -398,6 +398,28 @@ class Orders(Calls):
                     given = self.load(line, lambda call: call.fails(errno.EACCES) if fails(call) else None, f"--record {record}")
                     self.is_so((given, bytes_of(self.path(file)).decode(), line.machine.typed), (wanted, *left))
 
+    def test_a_record_that_can_not_be_brought_to_the_disk(self):
+        """The load ends there, and the key that was due is not sent: the first of all, the CR behind a word, and `G`."""
+        for record, names in WAYS:
+            for number, keys in ((1, 0), (2, 22), (3, 29)):
+                self.put("b.record", b"")
+                os.path.lexists(self.path("a.link")) or os.symlink("b.record", self.path("a.link"))
+                synced = []
+
+                def before(call):
+                    if call.name == "fdatasync" and call.file() in names:
+                        synced.append(call.name)
+                        if len(synced) == number:
+                            return call.fails(errno.EIO)
+
+                with self.subTest(record, number=number):
+                    line = self.console_at(Console())
+                    report = f"sent {keys + 1} spent 0 verified 1 of 1\nend KeepFailed\n" if keys else ""
+                    self.ends(self.load(line, before, f"--record {record}"), 4, report, fault(f"cannot write {record}", errno.EIO))
+                    self.is_so((len(line.machine.typed), len(synced)), (keys, number))
+                if os.path.exists(self.path("a.record")):
+                    os.remove(self.path("a.record"))
+
     def is_synced(self, names):
         """What to do before each call to find what is not yet on the disk, of files of these names, where a key goes out, and at
         the end."""

@@ -147,6 +147,14 @@ class SteadyConsole(Console):
         return answer
 
 
+class BurstingConsole(SteadyConsole):
+    """Before it answers its first key, and again twelve seconds later, it says far more than any console."""
+
+    def take(self, key):
+        answer = super().take(key)
+        return "x" * 100 + answer if len(self.typed) in (1, 300) else answer
+
+
 class BabblingConsole(Console):
     """Before it answers its first key it says far more than any console."""
 
@@ -278,8 +286,8 @@ class Terminal(Case):
             self.is_so((pace, "minutes" in shown), (pace, False))
 
     def test_what_is_short_is_not_said(self):
-        """From two minutes on it is: 500 words of eight keys take 160 seconds, of which the first ten tell the pace; 150 words take 48."""
-        for count, lines in ((500, 1), (150, 0)):
+        """From two minutes on it is: 500 words of eight keys take 160 seconds, of which the first ten tell the pace; 280 words take 90."""
+        for count, lines in ((500, 1), (280, 0)):
             self.put("some.lda", tape_of([(0o1000, bytes(2 * count))], 0o1000))
             _, shown = self.interrupted("verify some.lda LINE", SteadyConsole(), lambda machine: time.monotonic() > machine.begun + 13)
             self.is_so((count, len(re.findall(r"\rsome [2-9] minutes at this pace\x1b\[K\r\n", shown))), (count, lines))
@@ -312,6 +320,13 @@ class Terminal(Case):
         self.is_so((given.status, given.out.split("\n")[1]), (0, "end Started"))
         babble = SHOWN.format("0 of 1 words, 0%, listening, 1 mishap")
         self.assertTrue(shown.startswith(LISTENING + NO_WORD + babble), repr(shown))
+
+    def test_a_line_that_talks_now_and_then_is_not_told_as_endless(self):
+        """Between the two it was silent, and answered."""
+        self.put("many.lda", tape_of([(0o1000, bytes(8000))], 0o1000))
+        _, shown = self.interrupted("verify many.lda LINE", BurstingConsole(), lambda machine: time.monotonic() > machine.begun + 14)
+        self.assertRegex(shown, r"\d\d of 4000 words, 0%, 2 mishaps")
+        self.assertNotIn("never silent", shown)
 
     def test_a_line_that_is_never_silent_is_told(self):
         """A device that sends back what it hears, and a program that prints: once ten seconds are over, not before, and once only. Nothing but

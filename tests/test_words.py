@@ -1,5 +1,6 @@
 """Words of the command line that are no text, empty or odd; and those of each command, where one is missing or too many."""
 import errno
+import os
 import re
 import unittest
 
@@ -228,8 +229,10 @@ class Refusals(Case):
 
     def test_a_tape_where_a_command_belongs(self):
         """What is told to be typed then checks it, and loads it. A name that may be a command's says nothing of a tape."""
-        self.put("program", bytes_of(FIRST))
-        for name in ("first.lda", "./program"):
+        os.mkdir(self.path("tapes"))
+        for name in ("program", "tapes/program"):
+            self.put(name, bytes_of(FIRST))
+        for name in ("first.lda", "./program", "tapes/program"):
             self.is_refused(name, f"unrecognized subcommand '{name}'")
             check, load = re.findall(r"^  tip: to \w+ a tape, use 'ldaodt (.*)'$", self.ldaodt(name).err, re.MULTILINE)
             self.ends(self.ldaodt(check), 0, CHECKED)

@@ -475,6 +475,12 @@ class Machine(Case):
         told = subprocess.run([f"{TOP}/tools/machine", "lsi11"], cwd=self.room, capture_output=True, text=True, timeout=60, check=True)
         self.is_so(told.stdout, "lsi11 is the console of a simulated LSI-11, until it is removed: rm lsi11\n")
 
+    def test_a_name_with_a_space(self):
+        """What is to be written can be written."""
+        self.addCleanup(subprocess.run, ["rm", "-f", self.path("an lsi11")], check=True)
+        told = subprocess.run([f"{TOP}/tools/machine", "an lsi11"], cwd=self.room, capture_output=True, text=True, timeout=60, check=True)
+        self.is_so(told.stdout, "an lsi11 is the console of a simulated LSI-11, until it is removed: rm 'an lsi11'\n")
+
     def test_a_name_that_is_another_machine_s(self):
         """That one is switched off by it, and the later one stays on."""
         self.switched_on()

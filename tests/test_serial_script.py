@@ -87,6 +87,8 @@ PLACES = (
     # A tape that is standard input is no option.
     ("load -", "load - LINE"),
     ("load -- a.lda", "load -- a.lda LINE"),
+    ("load -- -a.lda --talk", "load -- -a.lda LINE --talk"),
+    ("load --log -- --record b.lda", "load --log -- --record LINE b.lda"),
     # What the program refuses, it has to see: no tape, no value, and an option of `load` alone.
     ("load", "load"),
     ("load a.lda --record", "load a.lda LINE --record"),
@@ -604,7 +606,8 @@ class Terminals(Script):
         """One that ended well, and has listened for a second or as long as it was told to; no option of that is the program's."""
         self.stand_in("bin/minicom")
         for words, called in (
-            ("load --talk a.lda", "load a.lda DEVICE --listen 1"),
+            ("load --talk a.lda", "load --listen 1 a.lda DEVICE"),
+            ("load --talk -- a.lda", "load --listen 1 -- a.lda DEVICE"),
             ("load a.lda b.lda --talk --listen 5", "load a.lda DEVICE b.lda --listen 5"),
             ("load a.lda --listen=5 --talk", "load a.lda DEVICE --listen=5"),
         ):
@@ -614,7 +617,7 @@ class Terminals(Script):
         # 130 is an interrupt, here of a load that started nothing.
         for status in (*range(1, 8), 130):
             self.ends(self.serial("9600 DEVICE load a.lda --talk", env={"ldaodt_ends": str(status)}), status)
-            self.is_so(self.notes()[-1], "ldaodt load a.lda DEVICE --listen 1")
+            self.is_so(self.notes()[-1], "ldaodt load --listen 1 a.lda DEVICE")
 
 
     def test_behind_a_load_at_a_slow_line(self):
@@ -622,7 +625,7 @@ class Terminals(Script):
         self.stand_in("bin/minicom")
         given = self.serial("110 DEVICE load a.lda --talk")
         self.is_so((given.status, given.err.split("\n")[0]), (0, "ldaodt-serial: --quiet 4100: at 110 baud 34 characters take 3400 ms"))
-        self.is_so(self.notes()[-2], "ldaodt load --quiet 4100 a.lda DEVICE --listen 1")
+        self.is_so(self.notes()[-2], "ldaodt load --listen 1 --quiet 4100 a.lda DEVICE")
 
 
 class Machines(Script):

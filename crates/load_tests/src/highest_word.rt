@@ -34,7 +34,7 @@ const CAREFUL: LoadOptions = LoadOptions {
 
 // What came of a load: its end, what was typed, the word at 000776, and the record.
 #[derive(Drop)]
-struct Loaded {
+struct Findings {
     end: LoadEnd,
     typed: Vec<u8>,
     word: Option<u16>,
@@ -53,7 +53,7 @@ fn typed_on(alloc: Global, line: &MemoryLine) -> Option<Vec<u8>> {
 }
 
 // A load with these options, at a machine of so many words; none for want of memory, or where it is not reported.
-fn loaded(alloc: Global, options: LoadOptions, words: u16) -> Option<Loaded> {
+fn loaded(alloc: Global, options: LoadOptions, words: u16) -> Option<Findings> {
     let (tape, _) = read_tape(alloc, &TWO_WORDS).ok()?;
     let plan = Plan::of(alloc, &tape).ok()?;
     let odt = Odt::new(alloc, words, PLAIN_STYLE).ok()?;
@@ -61,7 +61,7 @@ fn loaded(alloc: Global, options: LoadOptions, words: u16) -> Option<Loaded> {
     let mut report = Vec::new(alloc);
     let outcome = load_once(alloc, plan, options, &mut bench, &mut report).ok()?;
     let line = outcome.line?;
-    Some(Loaded {
+    Some(Findings {
         end: outcome.end,
         typed: typed_on(alloc, &line)?,
         word: line.odt().peek(0o776),

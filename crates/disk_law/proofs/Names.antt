@@ -3,8 +3,8 @@ use Rattle.std.proofs.Common.{◌≡◌, Bool, true, false, List, ℕ, [], ◌�
 use Rattle.std.specs.Prelude.{⊤}
 use Rattle.load_record.specs.Keeper.{Lasts}
 use Rattle.record_file.specs.Beginning.{Course, IsBeside, Whole, Unsynced, NotRenamed, Stopped, new_name}
-use Rattle.record_file.specs.DiskStep.{DiskStep, Did, Failed, Open, Hold, Link, Rename, Remove, Cut, LeaveAllBut}
-use Rattle.record_file.specs.declared.disk.Access.TheVariants.{New, Created}
+use Rattle.record_file.specs.DiskStep.{DiskStep, Did, Failed, FindFile, Open, Hold, Link, Rename, Remove, Cut, LeaveAllBut}
+use Rattle.record_file.specs.declared.disk.Access.TheVariants.{ReadWrite, New, Created}
 use Rattle.record_file.specs.declared.made.Made.{Made}
 
 -- a step makes, renames and removes the new file alone, which has the text when it is renamed over the record; and cuts none
@@ -50,6 +50,7 @@ pub each_leaves : (own : List ℕ) (held : Bool) (steps : List DiskStep) → Lea
 each_leaves own held [] leave = tt
 each_leaves own held (Did (Open New n) ∷ more) leave = (leave.0, each_leaves own false more leave.1)
 each_leaves own held (Did (Open Created n) ∷ more) leave = absurd leave
+each_leaves own held (Did (Open ReadWrite n) ∷ more) leave = (tt, each_leaves own held more leave)
 each_leaves own held (Did (Open access n) ∷ more) leave = (tt, each_leaves own false more leave)
 each_leaves own held (Did (Hold n) ∷ more) leave = (tt, each_leaves own true more leave.1)
 each_leaves own held (Did (Link from to) ∷ more) leave = absurd leave
@@ -57,6 +58,7 @@ each_leaves own held (Did (Rename from to left) ∷ more) leave = absurd leave
 each_leaves own held (Did (Remove n) ∷ more) leave = (leave.0, each_leaves own false more leave.2)
 each_leaves own held (Did (Cut wrote n) ∷ more) leave = absurd leave
 each_leaves own held (Failed (Remove n) ∷ more) leave = (tt, each_leaves own false more leave)
+each_leaves own held (Failed (FindFile n wrote) ∷ more) leave = (tt, each_leaves own false more leave)
 each_leaves own held (step ∷ more) leave = (tt, each_leaves own held more leave)
 
 has : (name text : List ℕ) (step : DiskStep) → LeavesAllBut (new_name name) step → HasNames name text step
@@ -79,5 +81,5 @@ beside name text was course is steps (Whole before left folder whole of) =
     (tt, both name text before _ (have name text before whole.0) (tt, ((refl, refl, whole.2), (tt, tt))))
 beside name text was course is steps (Unsynced before left folder whole) =
     (tt, both name text before _ (have name text before whole.0) (tt, ((refl, refl, whole.2), (tt, tt))))
-beside name text was course is steps (NotRenamed same leave failed) = have name text steps leave.0
-beside name text was course is steps (Stopped same leave) = have name text steps leave.0
+beside name text was course is steps (NotRenamed same leave failed) = have name text steps (leave.0 false)
+beside name text was course is steps (Stopped same leave) = have name text steps (leave.0 false)

@@ -1,7 +1,7 @@
 -- A load takes FILE away only where it made it.
 use Rattle.std.proofs.Common.{◌≡◌, ◌⊎◌, ℕ, Bool, true, false, List, [], ◌∷◌, ◌++◌, Option, inl, inr, refl, sym, ◌∙◌}
 use Rattle.record_file.specs.Beginning.{Course, Replaced, new_name, IsBeside, Whole, Unsynced, NotRenamed, Stopped, FolderOpened, FolderShut}
-use Rattle.record_file.specs.Beginning.{IsFileCut, CutAndSynced, NotCut, IsLetGo, Stays, StaysBehindLink, LeadsElsewhere, Goes, IsMadeReady, ReadyDevice, ReadyFile}
+use Rattle.record_file.specs.Beginning.{IsFileCut, CutAndSynced, NotCut, IsLetGo, Stays, StaysBehindLink, LeadsElsewhere, Goes, IsMadeReady, ReadyDevice}
 use Rattle.record_file.specs.Beginning.{IsWrittenOver, Device, PlainFile, IsNotWrittenOver, Unready, Unwritten, Uncut, IsBegun, Beside, InPlace, IsNotBegun, NotBeside, NotInPlace}
 use Rattle.record_file.specs.DiskStep.{DiskStep, Did, Failed, Look, Remove, Rename, SyncFolder, LeaveAllBut}
 use Rattle.record_file.specs.declared.made.Made.{Made}
@@ -47,15 +47,15 @@ beside_keeps name text was course is steps (Unsynced before left folder whole) (
   | inl front ↦ stay name before whole.0 front
   | inr back ↦ none_of name (Did (Look name)) (Did (Rename (new_name name) name left)) (Failed (SyncFolder folder)) (λ a. absurd a) (λ a. absurd a) (λ a. absurd a) back
 ]
-beside_keeps name text was course is steps (NotRenamed same leave f) away = stay name steps leave.0 away
-beside_keeps name text was course is steps (Stopped same leave) away = stay name steps leave.0 away
+beside_keeps name text was course is steps (NotRenamed same leave f) away = stay name steps (leave.0 false) away
+beside_keeps name text was course is steps (Stopped same leave) away = stay name steps (leave.0 false) away
 
 -- ---- in place
 
 ready : (name : List ℕ) (made : Made) (device : Bool) (steps : List DiskStep) → IsMadeReady name made device steps → TakeAway name steps → ⊥
 ready name made device steps ReadyDevice away = absurd away
-ready name made device steps (ReadyFile before (FolderOpened target folder f)) away = stay name steps tt away
-ready name made device steps (ReadyFile before (FolderShut target folder f was)) away = stay name steps tt away
+ready name made device steps (FolderOpened target folder f) away = stay name steps tt away
+ready name made device steps (FolderShut target folder f was) away = stay name steps tt away
 
 file_cut : (name : List ℕ) (before : Option (List ℕ)) (text : List ℕ) (done : Bool) (steps : List DiskStep) → IsFileCut before text done steps → TakeAway name steps → ⊥
 file_cut name before text done steps (CutAndSynced wrote true all) (inl a) = absurd a

@@ -2,12 +2,11 @@
 use Rattle.std.proofs.Common.{◌≡◌, ◌⊎◌, ℕ, ◌+◌, Bool, true, false, List, [], ◌∷◌, ◌++◌, length, take, Option, Some, None, inl, inr, refl, arith, ap, sym, subst, ◌∙◌, append-nil}
 use Rattle.std.specs.Prelude.{codes, ⊤}
 use Rattle.std.proofs.lemmas.List.{take_at}
-use Rattle.record_file.specs.DiskStep.{DiskStep, Did, Failed, LookAtName, Open, Link, Rename, Remove, SyncFolder, Cut, SyncFile, FindFile, step_by}
+use Rattle.record_file.specs.DiskStep.{DiskStep, Did, Failed, LedTo, LookAtName, Open, Link, Rename, Remove, SyncFolder, Cut, SyncFile, FindFile, step_by}
 use Rattle.record_file.specs.Folder.{IsFolderOf}
 use Rattle.record_file.specs.InPlace.{IsFrontOf}
 use Rattle.record_file.specs.declared.disk.Access.TheVariants.{New}
-use Rattle.tape_shelf.specs.ShelfDisk.{Place, Room, part_name, IsGone, Goes, HasAnother, IsSearch, Free, There, Unknown, NoFileName, IsOnDisk, Synced as SyncedRoom, Unsynced, Uncut}
-use Rattle.tape_shelf.specs.ShelfDisk.{IsNaming, Linked, NameTaken, Renamed, NotRenamed, NotFree, IsTakenBack, HasItsOwn, RenamedBack, IsSettling, Settled, Unsettled, IsNamed, NotOnDisk, Unnamed, Named}
+use Rattle.tape_shelf.specs.ShelfDisk.{Place, Room, part_name, IsGone, Goes, HasAnother, LeaveAll, IsNaming, Linked, Renamed, IsTakenBack, HasItsOwn, RenamedBack, IsNamed, Unnamed, Named, Unsettled}
 use Rattle.tape_shelf.specs.declared.shelf.ShelfFault.{ShelfFault}
 use Rattle.disk_law.specs.Disk.{Disk, Event, Asked, Written, Synced, Kind, History, Leaves, Nothing, File, disk_of, more, told, after, linked, renamed, file_synced, cut}
 use Rattle.disk_law.specs.Shelf.{IsSoOf, AreSoOf, IsWrittenBeside, ATapeComesWhole, ATapeStays}
@@ -69,36 +68,25 @@ both_name C own name (x ∷ xs) ys k l = (k.0, both_name C own name xs ys k.1 l)
 
 -- ---- the lists of a shelf
 
-found : (name : List ℕ) (wrote : Option (List ℕ)) (was : Bool) → Keeps (step_by (FindFile name wrote) was)
-found name wrote true = tt
-found name wrote false = tt
+leave_keeps : (steps : List DiskStep) → LeaveAll steps → AllKeep steps
+leave_keeps [] leave = tt
+leave_keeps (Did (Open New n) ∷ more) leave = absurd leave.0
+leave_keeps (Did (Link from to) ∷ more) leave = absurd leave.0
+leave_keeps (Did (Rename from to left) ∷ more) leave = absurd leave.0
+leave_keeps (Did (Remove n) ∷ more) leave = absurd leave.0
+leave_keeps (Did other ∷ more) leave = (tt, leave_keeps more leave.1)
+leave_keeps (Failed (Link from to) ∷ more) leave = (tt, leave_keeps more leave)
+leave_keeps (Failed (Rename from to left) ∷ more) leave = (tt, leave_keeps more leave)
+leave_keeps (Failed request ∷ more) leave = (tt, leave_keeps more leave.1)
+leave_keeps (LedTo name target ∷ more) leave = absurd leave
 
-on_disk_keeps : (room : Room) (was : Bool) (steps : List DiskStep) → IsOnDisk room was steps → AllKeep steps
-on_disk_keeps room was steps (SyncedRoom at) = (tt, (tt, (found room.name room.written at, tt)))
-on_disk_keeps room was steps Unsynced = (tt, (tt, tt))
-on_disk_keeps room was steps Uncut = (tt, tt)
+unnamed_keeps : (room : Room) (cut : Bool) (steps : List DiskStep) → LeaveAll steps → AllKeep (step_by (Cut room.written room.length) cut ∷ steps)
+unnamed_keeps room true steps leave = (tt, leave_keeps steps leave)
+unnamed_keeps room false steps leave = (tt, leave_keeps steps leave)
 
-search_keeps : (name : List ℕ) (fault : Option ShelfFault) (steps : List DiskStep) → IsSearch name fault steps → AllKeep steps
-search_keeps name fault steps Free = (tt, tt)
-search_keeps name fault steps There = (tt, tt)
-search_keeps name fault steps Unknown = (tt, tt)
-search_keeps name fault steps (NoFileName is) = tt
-
-unnamed_keeps : (own name : List ℕ) (fault : Option ShelfFault) (at : ShelfFault) (steps : List DiskStep) → fault ≡ Some at → IsNaming own name fault steps → AllKeep steps
-unnamed_keeps own name fault at steps is Linked = absurd (cc is)
-unnamed_keeps own name fault at steps is NameTaken = (tt, tt)
-unnamed_keeps own name fault at steps is (Renamed left) = absurd (cc is)
-unnamed_keeps own name fault at steps is (NotRenamed left) = (tt, (tt, (tt, tt)))
-unnamed_keeps own name fault at steps is (NotFree why search s) = (tt, search_keeps name (Some why) search s)
-
-naming_names : (own name : List ℕ) (fault : Option ShelfFault) (steps : List DiskStep) → IsNaming own name fault steps → AllName ⊥ own name steps
-naming_names own name fault steps Linked = ((refl, refl), tt)
-naming_names own name fault steps NameTaken = (tt, tt)
-naming_names own name fault steps (Renamed left) = (tt, (tt, (inl (refl, refl), tt)))
-naming_names own name fault steps (NotRenamed left) = (tt, (tt, (tt, tt)))
-naming_names own name fault steps (NotFree why search There) = (tt, (tt, tt))
-naming_names own name fault steps (NotFree why search Unknown) = (tt, (tt, tt))
-naming_names own name fault steps (NotFree why search (NoFileName is)) = (tt, tt)
+naming_names : (own name : List ℕ) (steps : List DiskStep) → IsNaming own name steps → AllName ⊥ own name steps
+naming_names own name steps Linked = ((refl, refl), tt)
+naming_names own name steps (Renamed left) = (tt, (tt, (inl (refl, refl), tt)))
 
 gone_names : (own name n : List ℕ) (wrote : Option (List ℕ)) (steps : List DiskStep) → (n ≡ own) ⊎ (n ≡ name) → IsGone n wrote steps → AllName ⊥ own name steps
 gone_names own name n wrote steps is (Goes true) = (tt, (is, tt))
@@ -110,18 +98,25 @@ back_names own name wrote steps (HasItsOwn taking gone) = (tt, gone_names own na
 back_names own name wrote steps (RenamedBack left true) = (tt, (inr (refl, refl), tt))
 back_names own name wrote steps (RenamedBack left false) = (tt, (tt, tt))
 
-settling_names : (place : Place) (room : Room) (fault : Option ShelfFault) (steps : List DiskStep) → IsSettling place room fault steps → AllName ⊥ room.name place.name steps
-settling_names place room fault steps (Settled going gone) = (tt, gone_names room.name place.name room.name room.written going (inl refl) gone)
-settling_names place room fault steps (Unsettled taking back) = (tt, back_names room.name place.name room.written taking back)
+settled_names : (place : Place) (room : Room) (naming going : List DiskStep) → IsNaming room.name place.name naming → IsGone room.name room.written going
+    → AllName ⊥ room.name place.name (naming ++ Did (SyncFolder place.folder) ∷ going)
+settled_names place room naming going n g =
+    both_name ⊥ room.name place.name naming (Did (SyncFolder place.folder) ∷ going) (naming_names room.name place.name naming n)
+    (tt, gone_names room.name place.name room.name room.written going (inl refl) g)
+
+unsettled_names : (place : Place) (room : Room) (naming taking : List DiskStep) → IsNaming room.name place.name naming → IsTakenBack room.name place.name room.written taking
+    → AllName ⊥ room.name place.name (naming ++ Failed (SyncFolder place.folder) ∷ taking)
+unsettled_names place room naming taking n t =
+    both_name ⊥ room.name place.name naming (Failed (SyncFolder place.folder) ∷ taking) (naming_names room.name place.name naming n)
+    (tt, back_names room.name place.name room.written taking t)
 
 named_names : (place : Place) (room : Room) (fault : Option ShelfFault) (steps : List DiskStep) → IsNamed place room fault steps → AllName ⊤ room.name place.name steps
-named_names place room fault steps (NotOnDisk syncing s) = all_keep_name room.name place.name steps (on_disk_keeps room false steps s)
-named_names place room fault steps (Unnamed why syncing naming s n) =
-    all_keep_name room.name place.name steps (both_keep syncing naming (on_disk_keeps room true syncing s) (unnamed_keeps room.name place.name (Some why) why naming refl n))
-named_names place room fault steps (Named why syncing naming settling s n t) =
-    both_name ⊤ room.name place.name syncing (naming ++ settling) (all_keep_name room.name place.name syncing (on_disk_keeps room true syncing s))
-    (all_uncut_name room.name place.name (naming ++ settling)
-    (both_name ⊥ room.name place.name naming settling (naming_names room.name place.name None naming n) (settling_names place room why settling t)))
+named_names place room fault steps (Unnamed why at idle leave) =
+    all_keep_name room.name place.name (step_by (Cut room.written room.length) at ∷ idle) (unnamed_keeps room at idle leave)
+named_names place room fault steps (Named naming going n g) =
+    (tt, (tt, (tt, all_uncut_name room.name place.name (naming ++ Did (SyncFolder place.folder) ∷ going) (settled_names place room naming going n g))))
+named_names place room fault steps (Unsettled naming taking n t) =
+    (tt, (tt, (tt, all_uncut_name room.name place.name (naming ++ Failed (SyncFolder place.folder) ∷ taking) (unsettled_names place room naming taking n t))))
 
 -- ---- the events of a list
 
@@ -503,17 +498,12 @@ not_there name text history part events so keep beside left (File j t may has) =
     none : Some j ≡ None → ⊥
     none e = cc e
 
-tape_of : (place : Place) (room : Room) (fault : Option ShelfFault) (text : List ℕ) (history : History) (part : ℕ) (later earlier : List Event) (steps : List DiskStep)
-    → told (later ++ earlier) ≡ steps → IsNamed place room fault steps → room.length ≡ length text → AreSoOf part history (later ++ earlier)
+-- where the file beside is brought to the disk, and then only names change
+tape_behind : (place : Place) (room : Room) (text : List ℕ) (history : History) (part : ℕ) (later earlier : List Event) (steps : List DiskStep)
+    → told (later ++ earlier) ≡ (Did (Cut room.written room.length) ∷ Did (SyncFile room.written) ∷ Did (FindFile room.name room.written) ∷ []) ++ steps
+    → AllName ⊥ room.name place.name steps → room.length ≡ length text → AreSoOf part history (later ++ earlier)
     → IsWrittenBeside (disk_of history) place.name part text → (left : Option (List ℕ)) → Leaves (disk_of (more history earlier)) place.name left → (left ≡ None) ⊎ (left ≡ Some text)
-tape_of place room fault text history part later earlier steps is (NotOnDisk syncing s) size so beside left leaves =
-    not_there place.name text history part earlier (earlier_so part history later earlier so)
-    (earlier_tell Keeps later earlier (of_told Keeps (later ++ earlier) (subst (Each Keeps) (sym is) (keep_each steps (on_disk_keeps room false steps s))))) beside left leaves
-tape_of place room fault text history part later earlier steps is (Unnamed why syncing naming s n) size so beside left leaves =
-    not_there place.name text history part earlier (earlier_so part history later earlier so)
-    (earlier_tell Keeps later earlier (of_told Keeps (later ++ earlier) (subst (Each Keeps) (sym is)
-    (keep_each steps (both_keep syncing naming (on_disk_keeps room true syncing s) (unnamed_keeps room.name place.name (Some why) why naming refl n)))))) beside left leaves
-tape_of place room fault text history part later earlier steps is (Named why syncing naming settling (SyncedRoom at) n t) size so beside left leaves =
+tape_behind place room text history part later earlier steps is names size so beside left leaves =
     elim (cut_off later earlier parts.then parts.first parts.all) [
       | inl in_two ↦
           left_whole (disk_of (more history earlier)) room.name place.name part text
@@ -525,8 +515,11 @@ tape_of place room fault text history part later earlier steps is (Named why syn
           (earlier_tell Keeps in_one.0 earlier (subst (TellAll Keeps) in_one.1 first_keeps)) beside left leaves
     ]
   where
-    parts : Split (later ++ earlier) syncing (naming ++ settling)
-    parts = split part history (later ++ earlier) syncing (naming ++ settling) so is
+    three : List DiskStep
+    three = Did (Cut room.written room.length) ∷ Did (SyncFile room.written) ∷ Did (FindFile room.name room.written) ∷ []
+
+    parts : Split (later ++ earlier) three steps
+    parts = split part history (later ++ earlier) three steps so is
 
     so_first : AreSoOf part history parts.first
     so_first = earlier_so part history parts.then parts.first (subst (AreSoOf part history) parts.all so)
@@ -535,12 +528,22 @@ tape_of place room fault text history part later earlier steps is (Named why syn
     there = brought room place.name text history part parts.first so_first parts.told_first size beside
 
     then_names : TellAll (Names ⊥ room.name place.name) parts.then
-    then_names = of_told (Names ⊥ room.name place.name) parts.then (subst (Each (Names ⊥ room.name place.name)) (sym parts.told_then)
-        (name_each ⊥ room.name place.name (naming ++ settling)
-        (both_name ⊥ room.name place.name naming settling (naming_names room.name place.name None naming n) (settling_names place room why settling t))))
+    then_names = of_told (Names ⊥ room.name place.name) parts.then (subst (Each (Names ⊥ room.name place.name)) (sym parts.told_then) (name_each ⊥ room.name place.name steps names))
 
     first_keeps : TellAll Keeps parts.first
     first_keeps = of_told Keeps parts.first (subst (Each Keeps) (sym parts.told_first) (tt, (tt, (tt, tt))))
+
+tape_of : (place : Place) (room : Room) (fault : Option ShelfFault) (text : List ℕ) (history : History) (part : ℕ) (later earlier : List Event) (steps : List DiskStep)
+    → told (later ++ earlier) ≡ steps → IsNamed place room fault steps → room.length ≡ length text → AreSoOf part history (later ++ earlier)
+    → IsWrittenBeside (disk_of history) place.name part text → (left : Option (List ℕ)) → Leaves (disk_of (more history earlier)) place.name left → (left ≡ None) ⊎ (left ≡ Some text)
+tape_of place room fault text history part later earlier steps is (Unnamed why at idle leave) size so beside left leaves =
+    not_there place.name text history part earlier (earlier_so part history later earlier so)
+    (earlier_tell Keeps later earlier (of_told Keeps (later ++ earlier) (subst (Each Keeps) (sym is)
+    (keep_each (step_by (Cut room.written room.length) at ∷ idle) (unnamed_keeps room at idle leave))))) beside left leaves
+tape_of place room fault text history part later earlier steps is (Named naming going n g) size so beside left leaves =
+    tape_behind place room text history part later earlier (naming ++ Did (SyncFolder place.folder) ∷ going) is (settled_names place room naming going n g) size so beside left leaves
+tape_of place room fault text history part later earlier steps is (Unsettled naming taking n t) size so beside left leaves =
+    tape_behind place room text history part later earlier (naming ++ Failed (SyncFolder place.folder) ∷ taking) is (unsettled_names place room naming taking n t) size so beside left leaves
 
 pub a_tape_comes_whole : ATapeComesWhole
 a_tape_comes_whole place room fault text history part later earlier list own size so beside = record {
@@ -637,12 +640,12 @@ own_led room name text history part events so is =
     let so' = subst (AreSoOf part history) finding.all so in
     subst (λ e. (x : Option ℕ) → (disk_of (more history e)).leads room.name x → x ≡ Some part) (sym finding.all) so'.1
 
-named_there : (place : Place) (room : Room) (text : List ℕ) (history : History) (part : ℕ) (events : List Event) (fault : Option ShelfFault) (naming : List DiskStep) → fault ≡ None
+named_there : (place : Place) (room : Room) (text : List ℕ) (history : History) (part : ℕ) (events : List Event) (naming : List DiskStep)
     → ((place.name ≡ room.name) → ⊥) → AreSoOf part history events
     → told events ≡ (Did (Cut room.written room.length) ∷ Did (SyncFile room.written) ∷ Did (FindFile room.name room.written) ∷ []) ++ naming
-    → IsNaming room.name place.name fault naming → room.length ≡ length text → IsWrittenBeside (disk_of history) place.name part text
+    → IsNaming room.name place.name naming → room.length ≡ length text → IsWrittenBeside (disk_of history) place.name part text
     → IsNamedThere (disk_of (more history events)) place.name part text
-named_there place room text history part events fault naming none other so is Linked size beside =
+named_there place room text history part events naming other so is Linked size beside =
     subst (λ e. IsNamedThere (disk_of (more history e)) place.name part text) (sym link.all)
     (by_link (disk_of (more history link.earlier)) room.name place.name part text (brought room place.name text history part link.earlier so'.0 link.before size beside)
     (own_led room place.name text history part link.earlier so'.0 link.before))
@@ -652,8 +655,7 @@ named_there place room text history part events fault naming none other so is Li
 
     so' : AreSoOf part history (Asked link.file (Did (Link room.name place.name)) ∷ link.earlier)
     so' = subst (AreSoOf part history) link.all so
-named_there place room text history part events fault naming none other so is NameTaken size beside = absurd (cc none)
-named_there place room text history part events fault naming none other so is (Renamed left) size beside =
+named_there place room text history part events naming other so is (Renamed left) size beside =
     subst (λ e. IsNamedThere (disk_of (more history e)) place.name part text) (sym whole)
     (by_rename (disk_of (more history linking.earlier)) room.name place.name part text other
     (brought room place.name text history part linking.earlier so3.0 linking.before size beside) (own_led room place.name text history part linking.earlier so3.0 linking.before))
@@ -681,13 +683,11 @@ named_there place room text history part events fault naming none other so is (R
 
     whole : events ≡ Asked rename.file (Did (Rename room.name place.name left)) ∷ Asked looking.file (Failed (LookAtName place.name)) ∷ Asked linking.file (Failed (Link room.name place.name)) ∷ linking.earlier
     whole = rename.all ∙ ap (λ l. Asked rename.file (Did (Rename room.name place.name left)) ∷ l) (looking.all ∙ ap (λ l. Asked looking.file (Failed (LookAtName place.name)) ∷ l) linking.all)
-named_there place room text history part events fault naming none other so is (NotRenamed left) size beside = absurd (cc none)
-named_there place room text history part events fault naming none other so is (NotFree why search s) size beside = absurd (cc none)
 
 -- behind the sync of the folder
 settled : (place : Place) (room : Room) (text : List ℕ) (history : History) (part : ℕ) (events : List Event) (xs naming : List DiskStep) → ((place.name ≡ room.name) → ⊥)
     → xs ≡ (Did (Cut room.written room.length) ∷ Did (SyncFile room.written) ∷ Did (FindFile room.name room.written) ∷ []) ++ naming → AreSoOf part history events
-    → told events ≡ xs ++ Did (SyncFolder place.folder) ∷ [] → IsNaming room.name place.name None naming → IsFolderOf place.name place.folder → room.length ≡ length text
+    → told events ≡ xs ++ Did (SyncFolder place.folder) ∷ [] → IsNaming room.name place.name naming → IsFolderOf place.name place.folder → room.length ≡ length text
     → IsWrittenBeside (disk_of history) place.name part text → IsTape (disk_of (more history events)) place.name part text
 settled place room text history part events xs naming other same so is n of size beside =
     subst (λ e. IsTape (disk_of (more history e)) place.name part text) (sym sync.all) (record { whole = named.whole; may = λ x may. named.leads x (may.1 of) })
@@ -699,15 +699,14 @@ settled place room text history part events xs naming other same so is n of size
     so' = subst (AreSoOf part history) sync.all so
 
     named : IsNamedThere (disk_of (more history sync.earlier)) place.name part text
-    named = named_there place room text history part sync.earlier None naming refl other so'.0 (sync.before ∙ same) n size beside
+    named = named_there place room text history part sync.earlier naming other so'.0 (sync.before ∙ same) n size beside
 
 stays_by : (place : Place) (room : Room) (text : List ℕ) (history : History) (part : ℕ) (events : List Event) (fault : Option ShelfFault) (steps : List DiskStep) → fault ≡ None
     → told events ≡ steps → IsNamed place room fault steps → ((place.name ≡ room.name) → ⊥) → room.length ≡ length text → IsFolderOf place.name place.folder
     → AreSoOf part history events → IsWrittenBeside (disk_of history) place.name part text → IsTape (disk_of (more history events)) place.name part text
-stays_by place room text history part events fault steps none is (NotOnDisk syncing s) other size of so beside = absurd (cc none)
-stays_by place room text history part events fault steps none is (Unnamed why syncing naming s n) other size of so beside = absurd (cc none)
-stays_by place room text history part events fault steps none is (Named why syncing naming settling (SyncedRoom at) n (Unsettled taking back)) other size of so beside = absurd (cc none)
-stays_by place room text history part events fault steps none is (Named why syncing naming settling (SyncedRoom at) n (Settled going gone)) other size of so beside =
+stays_by place room text history part events fault steps none is (Unnamed why at idle leave) other size of so beside = absurd (cc none)
+stays_by place room text history part events fault steps none is (Unsettled naming taking n t) other size of so beside = absurd (cc none)
+stays_by place room text history part events fault steps none is (Named naming going n gone) other size of so beside =
     subst (λ e. IsTape (disk_of (more history e)) place.name part text) (sym parts.all)
     (tape_all room.name place.name part text history parts.then parts.first other (subst (AreSoOf part history) parts.all so)
     (of_told (Spares room.name) parts.then (subst (Each (Spares room.name)) (sym parts.told_then) (gone_spares room.name room.written going gone)))

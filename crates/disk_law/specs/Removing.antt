@@ -1,7 +1,6 @@
 -- Which files a load takes away.
 use Rattle.std.specs.Prelude.{◌≡◌, ◌⊎◌, ℕ, List, [], ◌∷◌, Some}
-use Rattle.record_file.specs.Beginning.{IsBegun, IsNotBegun}
-use Rattle.record_file.specs.Closing.{IsRecordClosed}
+use Rattle.record_file.specs.Beginning.{IsBegun, IsNotBegun, IsRecordClosed}
 use Rattle.record_file.specs.DiskStep.{DiskStep, Did, Remove}
 use Rattle.record_file.specs.Known.{Known}
 use Rattle.record_file.specs.declared.made.Made.TheVariants.{Here}

@@ -4,17 +4,15 @@ use Rattle.byte_io.specs.Input.{IsTaken}
 use Rattle.std.specs.Io.KnownBytes.{Keeps}
 use Rattle.std.proofs.Math.Seq.{take-append-add}
 use Rattle.std.proofs.lemmas.List.{take_all}
-use Rattle.std.specs.Prelude.{IfSome, MatchOption, option_map}
+use Rattle.std.specs.Prelude.{IfSome, MatchOption, is_some, option_map}
 use Rattle.std.specs.Result.{IfOk, IfErr}
 use Rattle.host_devices.proofs.Told.{tells_join, tells_none}
-use Rattle.record_file.specs.Beginning.{Course, Replaced, GivenUp, course, IsBeside, Whole, Unsynced, NotRenamed, Stopped, IsLetGo, IsWrittenOver, IsNotWrittenOver, IsBegun, Beside, InPlace, IsNotBegun, NotBeside, NotInPlace}
-use Rattle.record_file.specs.Closing.{IsRecordClosed}
+use Rattle.record_file.specs.Beginning.{Course, Replaced, GivenUp, course, IsBeside, Whole, Unsynced, NotRenamed, Stopped, IsLetGo, IsWrittenOver, IsNotWrittenOver, IsBegun, Beside, InPlace, IsNotBegun, NotBeside, NotInPlace, IsRecordClosed}
 use Rattle.host_devices.specs.Told.{HasAsked}
 use Rattle.record_file.specs.DiskStep.{DiskStep}
 use Rattle.record_file.specs.Holding.{IsHolding}
-use Rattle.record_file.specs.Known.{Known, known_as, known_of}
+use Rattle.record_file.specs.Known.{Known, known_as, known_of, kind_of}
 use Rattle.record_file.specs.Reading.{kind_after, IsRead, IsReadOf, Held, Absent, IsNotRead, IsWayFound, LetGo}
-use Rattle.record_file.specs.Taking.{kind_of}
 use Rattle.record_file.specs.declared.held_file.HeldFile.{HeldFile}
 use Rattle.record_file.specs.declared.made.Made.{Made}
 use Rattle.record_file.specs.declared.made.Made.TheVariants.{Before}
@@ -28,28 +26,28 @@ pub known : {T : Type 0} (P : Known → Type 0) (Q : Type 0) (written : T → Op
 known P Q written before held is p = subst (λ b. MatchOption (option_map (known_of written) b) Q P) is p
 
 pub begun_beside : {K : Type 0} (name text : List ℕ) (known : Known) (after : Made) (a b : Option (List DiskStep)) (kept : Option K) (keeper : K)
-    → kept ≡ Some keeper → HasAsked a b (IsBeside name text known.made (course {E = RecordFault} (Ok kept)) after) → HasAsked a b (IsBegun name known text)
+    → kept ≡ Some keeper → HasAsked a b (IsBeside name text known.made (course {E = RecordFault} is_some (Ok kept)) after) → HasAsked a b (IsBegun name known text)
 begun_beside name text known after a b kept keeper is h =
-    (h.0, h.1, Beside after h.0 (subst (λ k. IsBeside name text known.made (course {E = RecordFault} (Ok k)) after h.0) is h.2))
+    (h.0, h.1, Beside after h.0 (subst (λ k. IsBeside name text known.made (course {E = RecordFault} is_some (Ok k)) after h.0) is h.2))
 
 pub begun_in_place : {K : Type 0} (name text : List ℕ) (known now : Known) (a b c : Option (List DiskStep)) (kept : Option K)
-    → kept ≡ None → now.device ≡ known.device → now.written ≡ known.written → HasAsked a b (IsBeside name text known.made (course {E = RecordFault} (Ok kept)) now.made)
+    → kept ≡ None → now.device ≡ known.device → now.written ≡ known.written → HasAsked a b (IsBeside name text known.made (course {E = RecordFault} is_some (Ok kept)) now.made)
     → HasAsked b c (IsWrittenOver name now.made now.written text now.device) → HasAsked a c (IsBegun name known text)
 begun_in_place name text known now a b c kept is same untouched h w = (
   h.0 ++ w.0,
   tells_join a b c h.0 w.0 h.1 w.1,
-  InPlace now.made h.0 w.0 (subst (λ k. IsBeside name text known.made (course {E = RecordFault} (Ok k)) now.made h.0) is h.2)
+  InPlace now.made h.0 w.0 (subst (λ k. IsBeside name text known.made (course {E = RecordFault} is_some (Ok k)) now.made h.0) is h.2)
       (subst (λ x. IsWrittenOver name now.made x text known.device w.0) untouched
       (subst (λ d. IsWrittenOver name now.made now.written text d w.0) same w.2)),
 )
 
 pub not_begun_in_place : {K : Type 0} (name text : List ℕ) (known now : Known) (a b c : Option (List DiskStep)) (kept : Option K)
-    → kept ≡ None → now.written ≡ known.written → HasAsked a b (IsBeside name text known.made (course {E = RecordFault} (Ok kept)) now.made)
+    → kept ≡ None → now.written ≡ known.written → HasAsked a b (IsBeside name text known.made (course {E = RecordFault} is_some (Ok kept)) now.made)
     → HasAsked b c (IsNotWrittenOver name now.made now.written text) → HasAsked a c (IsNotBegun name known text)
 not_begun_in_place name text known now a b c kept is untouched h w = (
   h.0 ++ w.0,
   tells_join a b c h.0 w.0 h.1 w.1,
-  NotInPlace now.made h.0 w.0 (subst (λ k. IsBeside name text known.made (course {E = RecordFault} (Ok k)) now.made h.0) is h.2)
+  NotInPlace now.made h.0 w.0 (subst (λ k. IsBeside name text known.made (course {E = RecordFault} is_some (Ok k)) now.made h.0) is h.2)
       (subst (λ x. IsNotWrittenOver name now.made x text w.0) untouched w.2),
 )
 
@@ -132,9 +130,9 @@ beside_remains name text made way after steps (Stopped same l) is = absurd (cc i
 
 -- a new record in the old one's place leaves that as one that was there
 pub replaced_remains : {K : Type 0} (name text : List ℕ) (made after : Made) (a b : Option (List DiskStep)) (kept : Option K) (keeper : K) → kept ≡ Some keeper
-    → HasAsked a b (IsBeside name text made (course {E = RecordFault} (Ok kept)) after) → after ≡ Before
+    → HasAsked a b (IsBeside name text made (course {E = RecordFault} is_some (Ok kept)) after) → after ≡ Before
 replaced_remains name text made after a b kept keeper is h =
-    beside_remains name text made (course {E = RecordFault} (Ok kept)) after h.0 h.2 (ap (λ k. course {E = RecordFault} (Ok k)) is)
+    beside_remains name text made (course {E = RecordFault} is_some (Ok kept)) after h.0 h.2 (ap (λ k. course {E = RecordFault} is_some (Ok k)) is)
 
 -- ---- closing
 

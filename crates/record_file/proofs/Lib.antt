@@ -1,3 +1,4 @@
+pub mod Aside
 pub mod Asking
 mod Begun
 mod Folders

@@ -1,5 +1,5 @@
 -- How a record is begun anew: so that FILE is at each moment the old one or the new one.
-use Rattle.std.specs.Prelude.{◌≡◌, List, [], ◌∷◌, ◌++◌, Bool, true, false, Option, Some, None, Result, Ok, Err, codes, length, ℕ}
+use Rattle.std.specs.Prelude.{◌≡◌, List, [], ◌∷◌, ◌++◌, Bool, true, false, Option, Some, None, Result, Ok, Err, codes, length, ℕ, if◌then◌else◌, ⊤}
 use Rattle.load_record.specs.Keeper.{Lasts}
 use Rattle.record_file.specs.DiskStep.{Look, FindSoleFile, Open, Rename, Remove, SyncFolder, Cut, SyncFile, DiskStep, Did, Failed, LedTo, step_by, HasFailed, AreAside, LeaveAllBut, held_behind}
 use Rattle.record_file.specs.Folder.{IsFolderOf}
@@ -20,11 +20,10 @@ pub data Course : Type 0 where
   NotReplaced : Course
   GivenUp : Course
 
--- what comes of it where there is a keeper of the new record, or none, or a fault
-abbrev pub course : {A E : Type 0} → Result (Option A) E → Course
-course (Ok (Some keeper)) = Replaced
-course (Ok None) = NotReplaced
-course (Err fault) = GivenUp
+-- what comes of it where it is known whether the new record was renamed, or there was a fault
+abbrev pub course : {A E : Type 0} → (A → Bool) → Result A E → Course
+course is_renamed (Ok value) = if is_renamed value then Replaced else NotReplaced
+course is_renamed (Err fault) = GivenUp
 
 -- while the name leads to the old record the new one is renamed over it, with so much of it on the disk
 abbrev pub renaming : List ℕ → Option (List ℕ) → List DiskStep
@@ -34,19 +33,15 @@ renaming name left = Did (Look name) ∷ Did (Rename (new_name name) name left) 
 abbrev pub IsNewReady : List ℕ → List ℕ → List DiskStep → Option (List ℕ) → Type 0
 IsNewReady name text before left = LeaveAllBut (new_name name) false before × (held_behind false before ≡ true) × Lasts left (Some text)
 
--- it is not: what was made of it was taken away again, or that failed
-abbrev pub IsNewLetGo : List ℕ → List DiskStep → Type 0
-IsNewLetGo name steps = LeaveAllBut (new_name name) false steps × (held_behind false steps ≡ false)
-
 -- first it is found out whether a rename reaches the record, and last the folder is synced. From the rename on FILE is none that this load made. Only where
--- something failed it is not renamed, unless the load gives up
+-- something failed it is not renamed, unless the load gives up; and then what was made of it was taken away again, or that failed
 pub data IsBeside (name text : List ℕ) (made : Made) : Course → Made → List DiskStep → Type 0 where
   Whole : (before : List DiskStep) (left : Option (List ℕ)) (folder : List ℕ) → IsNewReady name text before left → IsFolderOf name folder
       → IsBeside name text made Replaced Before (Did (FindSoleFile name) ∷ (before ++ (renaming name left ++ Did (SyncFolder folder) ∷ [])))
   Unsynced : (before : List DiskStep) (left : Option (List ℕ)) (folder : List ℕ) → IsNewReady name text before left
       → IsBeside name text made GivenUp Before (Did (FindSoleFile name) ∷ (before ++ (renaming name left ++ Failed (SyncFolder folder) ∷ [])))
-  NotRenamed : (steps : List DiskStep) → IsNewLetGo name steps → HasFailed steps → IsBeside name text made NotReplaced made steps
-  Stopped : (steps : List DiskStep) → IsNewLetGo name steps → IsBeside name text made GivenUp made steps
+  NotRenamed : (steps : List DiskStep) → AreAside (new_name name) false steps → HasFailed steps → IsBeside name text made NotReplaced made steps
+  Stopped : (steps : List DiskStep) → AreAside (new_name name) false steps → IsBeside name text made GivenUp made steps
 
 -- behind any steps by which the new file came to be held, these give it the old one's name, or do not
 abbrev pub Replaces : (name text : List ℕ) → Made → Course → Made → List DiskStep → Type 0
@@ -55,18 +50,14 @@ Replaces name text made course after steps =
 
 -- ---- the record written where it is
 
--- that the file stands in its folder is on the disk, whoever made it: in that of the name to which its own leads. One that was there before may stand in
--- a folder that can't be opened
-pub data IsPlaceSynced (name : List ℕ) (made : Made) : List DiskStep → Type 0 where
-  FolderOpened : (target folder : List ℕ) → IsFolderOf target folder
-      → IsPlaceSynced name made (LedTo name target ∷ Did (Open ReadOnly folder) ∷ Did (SyncFolder folder) ∷ [])
-  FolderShut : (target folder : List ℕ) → IsFolderOf target folder → made ≡ Before
-      → IsPlaceSynced name made (LedTo name target ∷ Failed (Open ReadOnly folder) ∷ [])
-
--- a device can be written without more, any other file once that is so and its name still leads to it
+-- a device can be written without more; any other file once it is on the disk that it stands in its folder, whoever made it: in that of the name to
+-- which its own leads; and its name still leads to it. One that was there before may stand in a folder that can't be opened
 pub data IsMadeReady (name : List ℕ) (made : Made) : Bool → List DiskStep → Type 0 where
   ReadyDevice : IsMadeReady name made true []
-  ReadyFile : (steps : List DiskStep) → IsPlaceSynced name made steps → IsMadeReady name made false (steps ++ Did (Look name) ∷ [])
+  FolderOpened : (target folder : List ℕ) → IsFolderOf target folder
+      → IsMadeReady name made false (LedTo name target ∷ Did (Open ReadOnly folder) ∷ Did (SyncFolder folder) ∷ Did (Look name) ∷ [])
+  FolderShut : (target folder : List ℕ) → IsFolderOf target folder → made ≡ Before
+      → IsMadeReady name made false (LedTo name target ∷ Failed (Open ReadOnly folder) ∷ Did (Look name) ∷ [])
 
 -- from its front on this text was written to a file, and nothing else, if nothing but that was written to it before
 abbrev pub IsAllWritten : Option (List ℕ) → List ℕ → Option (List ℕ) → Type 0
@@ -114,3 +105,15 @@ pub data IsNotBegun (name : List ℕ) (known : Known) (text : List ℕ) : List D
       → IsNotBegun name known text (before ++ going)
   NotInPlace : (after : Made) (before writing : List DiskStep) → IsBeside name text known.made NotReplaced after before
       → IsNotWrittenOver name after known.written text writing → IsNotBegun name known text (before ++ writing)
+
+-- ---- behind that
+
+-- the file of which this is known is let go; where none is held nothing is asked
+abbrev pub IsRecordClosed : List ℕ → Option Known → List DiskStep → Type 0
+IsRecordClosed name None steps = steps ≡ []
+IsRecordClosed name (Some known) steps = IsLetGo name known.made steps
+
+-- closing takes nothing away: no file is held, or one that counts as one that was there
+abbrev pub Remains : Option Known → Type 0
+Remains None = ⊤
+Remains (Some known) = known.made ≡ Before

@@ -4,7 +4,7 @@ use Rattle.std.specs.Io.KnownBytes.{Keeps}
 use Rattle.std.specs.Path.{path_buf_bytes}
 use Rattle.std.specs.declared.path.buf.PathBuf.{PathBuf}
 use Rattle.record_file.specs.declared.disk.Access.{Access}
-use Rattle.record_file.specs.declared.disk.Access.TheVariants.{New, Created}
+use Rattle.record_file.specs.declared.disk.Access.TheVariants.{ReadWrite, New, Created}
 
 -- what a name leads to is looked at, or what stands under it, or whether that is a plain file without another name, or an open file of which
 -- this much was written, or which name it leads to; a file is opened or made; it is held by this program alone, or given a second name, or
@@ -46,23 +46,20 @@ abbrev pub resolved : {A E : Type 0} → List ℕ → Result (PathBuf A) E → D
 resolved name (Ok target) = LedTo name (path_buf_bytes target)
 resolved name (Err error) = Failed (Resolve name)
 
--- a name was looked at, and found to be as it should be only where something is there
-pub data IsNameSeen (name : List ℕ) : Bool → List DiskStep → Type 0 where
-  Seen : IsNameSeen name true (Did (Look name) ∷ [])
-  Unseen : (found : Bool) → IsNameSeen name false (step_by (Look name) found ∷ [])
+-- something was looked at so, and found to be as it should be only where it is there
+pub data IsSeen (look : DiskRequest) : Bool → List DiskStep → Type 0 where
+  Seen : IsSeen look true (Did look ∷ [])
+  Unseen : (found : Bool) → IsSeen look false (step_by look found ∷ [])
 
--- the same of what stands under a name itself, which may be a link
-pub data IsLookAtName (name : List ℕ) : Bool → List DiskStep → Type 0 where
-  SeenThere : IsLookAtName name true (Did (LookAtName name) ∷ [])
-  UnseenThere : (found : Bool) → IsLookAtName name false (step_by (LookAtName name) found ∷ [])
-
--- whether the file that was opened last is held, and nobody tried to take it away
+-- whether the file that was opened last is held, which another opening to write it lets be, and nobody tried to take it away or found its name elsewhere
 abbrev pub held_behind : Bool → List DiskStep → Bool
 held_behind held [] = held
+held_behind held (Did (Open ReadWrite name) ∷ more) = held_behind held more
 held_behind held (Did (Open access name) ∷ more) = held_behind false more
 held_behind held (Did (Hold name) ∷ more) = held_behind true more
 held_behind held (Did (Remove name) ∷ more) = held_behind false more
 held_behind held (Failed (Remove name) ∷ more) = held_behind false more
+held_behind held (Failed (FindFile name written) ∷ more) = held_behind false more
 held_behind held (step ∷ more) = held_behind held more
 
 -- steps leave each file as it is but one of this name, which is made, held, and taken away only where nobody else holds it
@@ -70,6 +67,7 @@ abbrev pub LeaveAllBut : List ℕ → Bool → List DiskStep → Type 0
 LeaveAllBut own held [] = ⊤
 LeaveAllBut own held (Did (Open New name) ∷ more) = (name ≡ own) × LeaveAllBut own false more
 LeaveAllBut own held (Did (Open Created name) ∷ more) = ⊥
+LeaveAllBut own held (Did (Open ReadWrite name) ∷ more) = LeaveAllBut own held more
 LeaveAllBut own held (Did (Open access name) ∷ more) = LeaveAllBut own false more
 LeaveAllBut own held (Did (Hold name) ∷ more) = (name ≡ own) × LeaveAllBut own true more
 LeaveAllBut own held (Did (Link from to) ∷ more) = ⊥
@@ -77,6 +75,7 @@ LeaveAllBut own held (Did (Rename from to left) ∷ more) = ⊥
 LeaveAllBut own held (Did (Remove name) ∷ more) = (name ≡ own) × (held ≡ true) × LeaveAllBut own false more
 LeaveAllBut own held (Did (Cut written length) ∷ more) = ⊥
 LeaveAllBut own held (Failed (Remove name) ∷ more) = LeaveAllBut own false more
+LeaveAllBut own held (Failed (FindFile name written) ∷ more) = LeaveAllBut own false more
 LeaveAllBut own held (step ∷ more) = LeaveAllBut own held more
 
 -- so do these, whatever was held before; and behind them that file is held, or not

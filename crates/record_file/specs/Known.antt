@@ -10,6 +10,10 @@ pub record Known : Type 0 where
   pub device : Bool
   pub written : Option (List ℕ)
 
+-- whether a file that is held was made, and whether it is a device
+abbrev pub kind_of : {T : Type 0} → HeldFile T → Made × Bool
+kind_of held = (held.made, held.device)
+
 abbrev pub known_as : Made × Bool → Option (List ℕ) → Known
 known_as kind written = record { made = kind.0; device = kind.1; written = written }
 

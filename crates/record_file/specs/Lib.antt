@@ -1,7 +1,5 @@
 pub mod Access
 pub mod Beginning
-pub mod Closing
-pub mod Course
 pub mod DiskRecord
 pub mod DiskStep
 pub mod Folder
@@ -11,4 +9,3 @@ pub mod Known
 pub mod OldRecord
 pub mod Reading
 pub mod RecordFault
-pub mod Taking

@@ -2,7 +2,7 @@
 use Rattle.std.specs.Prelude.{◌≡◌, ℕ, List, [], ◌∷◌, ◌++◌, Bool, true, false, Option, Some, None, take, ⊤}
 use Rattle.record_file.specs.Beginning.{IsLetGo}
 use Rattle.record_file.specs.DiskStep.{DiskStep, FindSoleFile, Did, Failed}
-use Rattle.record_file.specs.Holding.{IsHeldAtLast, IsNotHeld}
+use Rattle.record_file.specs.Holding.{IsHolding}
 use Rattle.record_file.specs.Known.{Known, known_as}
 use Rattle.record_file.specs.declared.made.Made.{Made}
 use Rattle.record_file.specs.declared.made.Made.TheVariants.{Before}
@@ -38,11 +38,11 @@ IsReadOf (Some all) text = text ≡ take 1048577 all
 
 -- the file is held and read, it may be begun anew so, and from there on this is known of it; or there is none, and what was known stays so
 pub data IsRead (name : List ℕ) (found : OldText) (known : Option Known) : Option Known → List DiskStep → Type 0 where
-  Held : (kind : Made × Bool) (written : Option (List ℕ)) (steps finding : List DiskStep) → IsHeldAtLast name kind steps
+  Held : (kind : Made × Bool) (written : Option (List ℕ)) (steps finding : List DiskStep) → IsHolding name (Some kind) steps
       → IsWayFound name kind.1 found.writable finding → IsRead name found known (Some (known_as (kind_after found.text kind) written)) (steps ++ finding)
-  Absent : (steps : List DiskStep) → IsNotHeld name steps → found.text ≡ [] → found.writable ≡ No → IsRead name found known known steps
+  Absent : (steps : List DiskStep) → IsHolding name None steps → found.text ≡ [] → found.writable ≡ No → IsRead name found known known steps
 
 -- it is not held, or is held and let go
 pub data IsNotRead (name : List ℕ) : List DiskStep → Type 0 where
-  NotHeld : (steps : List DiskStep) → IsNotHeld name steps → IsNotRead name steps
-  LetGo : (kind : Made × Bool) (steps going : List DiskStep) → IsHeldAtLast name kind steps → IsLetGo name kind.0 going → IsNotRead name (steps ++ going)
+  NotHeld : (steps : List DiskStep) → IsHolding name None steps → IsNotRead name steps
+  LetGo : (kind : Made × Bool) (steps going : List DiskStep) → IsHolding name (Some kind) steps → IsLetGo name kind.0 going → IsNotRead name (steps ++ going)

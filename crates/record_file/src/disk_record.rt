@@ -1,19 +1,19 @@
 //! A record that is begun anew: the old one is replaced whole, or written over where it is.
-ghost use Rattle.std.specs.Prelude.{◌≡◌, [], ◌∷◌, ◌++◌, false, true, length, List, ℕ, None, Option, Some, IfOk, IfErr, IfSome, OnOk, OnSome};
+ghost use Rattle.std.specs.Prelude.{◌≡◌, [], ◌∷◌, ◌++◌, false, true, length, List, ℕ, None, Option, Some, IfOk, IfErr, IfSome, OnErr, OnOk, OnSome};
+ghost use Rattle.std.specs.Prelude.{is_ok, is_some};
 ghost use Rattle.std.specs.Io.KnownBytes.{Appends};
 ghost use Rattle.host_devices.specs.declared.fault.KeepFault.TheVariants as keep;
 ghost use Rattle.load_record.specs.declared.version.Version.TheVariants.{Second};
 ghost use Rattle.load_record.specs.Keeper.{Lasts};
 ghost use Rattle.load_record.specs.RecordText.{record_text};
-ghost use Rattle.record_file.specs.Beginning.{course, new_name, IsAllWritten, IsBeside, IsFileCut, IsMadeReady, IsPlaceSynced, IsWrittenOver, IsNotWrittenOver, Replaces};
-ghost use Rattle.record_file.specs.Course.{is_done, renamed, was_made};
+ghost use Rattle.record_file.specs.Beginning.{course, new_name, IsAllWritten, IsBeside, IsFileCut, IsMadeReady, IsWrittenOver, IsNotWrittenOver, Replaces};
 ghost use Rattle.record_file.specs.DiskRecord.{HasBegun};
-ghost use Rattle.record_file.specs.DiskStep.{DiskStep, AreAside, Did, FindSoleFile, HasFailed};
+ghost use Rattle.record_file.specs.DiskStep.{DiskStep, AreAside, Did, FindSoleFile, HasFailed, Look};
 ghost use Rattle.record_file.specs.Folder.{IsFolderOf};
 ghost use Rattle.host_devices.specs.Told.{HasAsked};
 ghost use Rattle.record_file.specs.InPlace.{ChangesNoByte, HasRead, MayBeWrittenOver};
 ghost use Rattle.record_file.specs.RecordFault.{IsUnbegun};
-ghost use Rattle.record_file.specs.Taking.{kind_of};
+ghost use Rattle.record_file.specs.Known.{kind_of};
 
 use crate::beside::{BESIDE, folder_of, make_new};
 use crate::disk::{Access, Disk};
@@ -54,7 +54,7 @@ pub(crate) fn begin_beside<D: Disk>(
     ensures standing { held.new.standing ≡ held.old.standing }
     ensures old_record { held.new.file ≡ held.old.file }
     ensures asked { HasAsked (D.asked disk.old) (D.asked disk.new)
-        (IsBeside name.now (record_text Second plan.now verified false) held.old.made (course result) held.new.made) }
+        (IsBeside name.now (record_text Second plan.now verified false) held.old.made (course is_some result) held.new.made) }
 {
     // A rename does not reach what a link leads to, and leaves the old record under another name.
     if !disk.is_sole_file(name) {
@@ -99,7 +99,7 @@ fn replace<D: Disk>(
     ensures old_record { held.new.file ≡ held.old.file }
     ensures asked { (dir text : List ℕ) → D.is_opened_as folder.now dir → IsFolderOf name.now dir
         → OnSome (D.asked disk.old) (Lasts (D.File.on_disk new.now) (Some text))
-        → HasAsked (D.asked disk.old) (D.asked disk.new) (Replaces name.now text held.old.made (renamed result) held.new.made) }
+        → HasAsked (D.asked disk.old) (D.asked disk.new) (Replaces name.now text held.old.made (course (λ is. is) result) held.new.made) }
 {
     if !is_named(disk, name, held) {
         let _ = disk.remove(beside);
@@ -217,7 +217,8 @@ fn sync_place<D: Disk>(
     made: Made,
 ) -> Result<(), RecordFault>
     ensures fault { IfErr result IsUnbegun }
-    ensures asked { OnOk result (HasAsked (D.asked disk.old) (D.asked disk.new) (IsPlaceSynced name.now made)) }
+    ensures asked { OnOk result (HasAsked (D.asked disk.old) (D.asked disk.new) (λ steps.
+        IsMadeReady name.now made false (steps ++ Did (Look name.now) ∷ []) × AreAside (new_name name.now) false steps)) }
     ensures failed { IfErr result (λ _. HasAsked (D.asked disk.old) (D.asked disk.new) (AreAside (new_name name.now) false)) }
 {
     let Ok(target) = disk.resolve(alloc, name) else {
@@ -248,7 +249,8 @@ fn without_folder(made: Made) -> Result<(), RecordFault>
 fn make_beside<D: Disk>(disk: &mut D, name: &str) -> Result<Option<D::File>, RecordFault>
     ensures fault { IfErr result IsUnbegun }
     ensures fresh { IfOk result (λ made. IfSome made (λ file. OnSome (D.asked disk.new) (D.File.contents file ≡ Some []))) }
-    ensures asked { HasAsked (D.asked disk.old) (D.asked disk.new) (AreAside name.now (was_made result)) }
+    ensures asked { IfOk result (λ made. HasAsked (D.asked disk.old) (D.asked disk.new) (AreAside name.now (is_some made))) }
+    ensures stopped { OnErr result (HasAsked (D.asked disk.old) (D.asked disk.new) (AreAside name.now false)) }
     ensures failed { IfOk result (λ made. made ≡ None → HasAsked (D.asked disk.old) (D.asked disk.new) (λ steps. AreAside name.now false steps × HasFailed steps)) }
 {
     match make_new(disk, name) {
@@ -291,7 +293,7 @@ fn cut_behind<D: Disk>(
 ) -> Result<(), RecordFault>
     ensures fault { IfErr result IsUnbegun }
     ensures asked { (before : Option (List ℕ)) (text : List ℕ) → IsAllWritten before text (D.File.contents writer.now.file) → size ≡ length text
-        → HasAsked (D.asked disk.old) (D.asked disk.new) (IsFileCut before text (is_done result)) }
+        → HasAsked (D.asked disk.old) (D.asked disk.new) (IsFileCut before text (is_ok result)) }
 {
     if disk.cut(&writer.file, size).is_err() {
         return Err(RecordFault::Write);

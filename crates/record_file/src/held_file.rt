@@ -1,12 +1,12 @@
 //! The file of a record, which one load at a time holds.
-ghost use Rattle.std.specs.Prelude.{◌≡◌, OnErr, ◌∷◌, [], IfErr, IfOk, IfSome, IsSome, OnSome, None, Some, option_map, true, false};
+ghost use Rattle.std.specs.Prelude.{◌≡◌, OnErr, ◌∷◌, [], IfErr, IfOk, IfSome, IsSome, OnSome, None, Some, option_map, false};
 ghost use Rattle.std.specs.Io.KnownBytes.{Keeps};
 ghost use Rattle.std.specs.Bool.{OnTrue};
 ghost use Rattle.record_file.specs.Beginning.{IsLetGo};
 ghost use Rattle.host_devices.specs.Told.{HasAsked, Tells};
-ghost use Rattle.record_file.specs.DiskStep.{HoldStill, IsNameSeen, IsLookAtName, Failed, Open};
-ghost use Rattle.record_file.specs.Holding.{IsFound, IsMade, IsOpened, hold_steps, IsHeld, IsTry, IsHolding, IsNotHeld};
-ghost use Rattle.record_file.specs.Taking.{made_of, OnOpened, OnHeld, kind_of, tried, device_of, IsMadeSo};
+ghost use Rattle.record_file.specs.DiskStep.{Did, Failed, HoldStill, IsSeen, Look, LookAtName, Open};
+ghost use Rattle.record_file.specs.Holding.{IsOpened, hold_steps, IsHeld, IsTry, IsHolding};
+ghost use Rattle.record_file.specs.Known.{kind_of};
 ghost use Rattle.byte_io.specs.Input.{IsTaken};
 ghost use Rattle.record_file.specs.InPlace.{ChangesNoByte, HasRead};
 ghost use Rattle.record_file.specs.Reading.{IsWayFound, kind_after};
@@ -36,16 +36,19 @@ pub(crate) struct Opened<T: Drop> {
     writable: bool,
 }
 
-/// What came of one try to open a record's file.
-#[derive(Drop)]
-pub(crate) enum OpenTry<T: Drop> {
-    Opened(Opened<T>),
-
-    /// Somebody made or removed the file at the same time.
+/// Why a try holds no file.
+pub(crate) enum NotHeld {
+    /// Somebody made, removed or replaced the file at the same time.
     Changed,
 
     /// It is not there, and can't be made.
     Nothing,
+
+    /// It can't be read, or is neither a plain file nor a character device.
+    Read,
+
+    /// Somebody else holds it.
+    InUse,
 }
 
 /// The file of a record, which is held until this value goes: no other load can hold it.
@@ -65,18 +68,6 @@ pub(crate) struct HeldFile<T: Drop> {
 
     /// Whether it may be written.
     writable: bool,
-}
-
-/// What came of one try to hold a record's file.
-#[derive(Drop)]
-pub(crate) enum Try<T: Drop> {
-    Held(HeldFile<T>),
-
-    /// Somebody made, removed or replaced the file at the same time.
-    Changed,
-
-    /// It is not there, and can't be made.
-    Nothing,
 }
 
 impl<T: DiskFile> HeldFile<T> {
@@ -137,32 +128,32 @@ pub(crate) fn hold<D: Disk>(
     ensures plain { IfOk result (λ found. IsSome (D.holds disk.old name.now) → IfSome found (λ held. held.device ≡ false)) }
     ensures untouched { IfOk result (λ found. IfSome found (λ held. OnSome (D.asked disk.new) (D.File.written held.file ≡ Some []))) }
     ensures asked { IfOk result (λ found. HasAsked (D.asked disk.old) (D.asked disk.new) (IsHolding name.now (option_map kind_of found))) }
-    ensures failed { IfErr result (λ _. HasAsked (D.asked disk.old) (D.asked disk.new) (IsNotHeld name.now)) }
+    ensures failed { OnErr result (HasAsked (D.asked disk.old) (D.asked disk.new) (IsHolding name.now None)) }
 {
     for _ in 0..ATTEMPTS {
-        match try_hold(disk, name)? {
-            Try::Held(held) => return Ok(Some(held)),
-            Try::Nothing => return Ok(None),
-            Try::Changed => {}
+        match try_hold(disk, name) {
+            Ok(held) => return Ok(Some(held)),
+            Err(NotHeld::Changed) => {}
+            Err(NotHeld::Nothing) => return Ok(None),
+            Err(NotHeld::Read) => return Err(RecordFault::Read),
+            Err(NotHeld::InUse) => return Err(RecordFault::InUse),
         }
     }
     Err(RecordFault::InUse)
 }
 
 // Tries once to open and hold the file of this name.
-fn try_hold<D: Disk>(disk: &mut D, name: &str) -> Result<Try<D::File>, RecordFault>
-    ensures fault { IfErr result IsUnread }
-    ensures text { IfOk result (OnHeld (λ file. Keeps (D.holds disk.old name.now) (D.File.unread file))) }
-    ensures plain { IfOk result (λ outcome. IsSome (D.holds disk.old name.now) → IfSome (device_of outcome) (λ device. device ≡ false)) }
-    ensures untouched { IfOk result (OnHeld (λ file. OnSome (D.asked disk.new) (D.File.written file ≡ Some []))) }
+fn try_hold<D: Disk>(disk: &mut D, name: &str) -> Result<HeldFile<D::File>, NotHeld>
+    ensures text { IfOk result (λ held. Keeps (D.holds disk.old name.now) (D.File.unread held.file)) }
+    ensures plain { IfOk result (λ held. IsSome (D.holds disk.old name.now) → held.device ≡ false) }
+    ensures untouched { IfOk result (λ held. OnSome (D.asked disk.new) (D.File.written held.file ≡ Some [])) }
     ensures kept { HoldStill (D.holds disk.old) (D.holds disk.new) }
-    ensures asked { IfOk result (λ outcome. HasAsked (D.asked disk.old) (D.asked disk.new) (IsTry name.now (tried outcome))) }
-    ensures failed { IfErr result (λ _. HasAsked (D.asked disk.old) (D.asked disk.new) (IsTry name.now None)) }
+    ensures asked { IfOk result (λ held. HasAsked (D.asked disk.old) (D.asked disk.new) (IsTry name.now (Some (kind_of held)))) }
+    ensures failed { OnErr result (HasAsked (D.asked disk.old) (D.asked disk.new) (IsTry name.now None)) }
 {
-    match open(disk, name)? {
-        OpenTry::Opened(opened) => hold_opened(disk, name, opened),
-        OpenTry::Changed => Ok(Try::Changed),
-        OpenTry::Nothing => Ok(Try::Nothing),
+    match open(disk, name) {
+        Ok(opened) => hold_opened(disk, name, opened),
+        Err(reason) => Err(reason),
     }
 }
 
@@ -173,36 +164,35 @@ fn hold_opened<D: Disk>(
     disk: &mut D,
     name: &str,
     opened: Opened<D::File>,
-) -> Result<Try<D::File>, RecordFault>
+) -> Result<HeldFile<D::File>, NotHeld>
     requires { D.is_opened_as opened.file name.now }
-    ensures fault { IfErr result IsUnread }
-    ensures made { IfOk result (IsMadeSo opened.made) }
-    ensures same { IfOk result (OnHeld (λ file. file ≡ opened.file)) }
-    ensures plain { IfOk result (λ outcome. IsSome (D.File.unread opened.file) → IfSome (device_of outcome) (λ device. device ≡ false)) }
+    ensures made { IfOk result (λ held. held.made ≡ opened.made) }
+    ensures same { IfOk result (λ held. held.file ≡ opened.file) }
+    ensures plain { IfOk result (λ held. IsSome (D.File.unread opened.file) → held.device ≡ false) }
     ensures kept { HoldStill (D.holds disk.old) (D.holds disk.new) }
-    ensures asked { IfOk result (λ outcome. HasAsked (D.asked disk.old) (D.asked disk.new) (IsHeld name.now (device_of outcome))) }
-    ensures failed { IfErr result (λ _. HasAsked (D.asked disk.old) (D.asked disk.new) (IsHeld name.now None)) }
+    ensures asked { IfOk result (λ held. HasAsked (D.asked disk.old) (D.asked disk.new) (IsHeld name.now (Some held.device))) }
+    ensures failed { OnErr result (HasAsked (D.asked disk.old) (D.asked disk.new) (IsHeld name.now None)) }
 {
     let metadata = match opened.file.metadata() {
         Ok(metadata) if can_be_read(&metadata) => metadata,
-        _ => return Err(RecordFault::Read),
+        _ => return Err(NotHeld::Read),
     };
     // What can be read to its end and is no plain file is one.
     let device = !metadata.is_file();
     if !is_free(disk, name, &opened.file, device) {
-        return Err(RecordFault::InUse);
+        return Err(NotHeld::InUse);
     }
     let id = FileId::from(&metadata);
     match disk.look(name) {
-        Ok(named) if FileId::from(&named) == id => Ok(Try::Held(HeldFile {
+        Ok(named) if FileId::from(&named) == id => Ok(HeldFile {
             file: opened.file,
             id,
             device,
             standing: None,
             made: opened.made,
             writable: opened.writable,
-        })),
-        _ => Ok(Try::Changed),
+        }),
+        _ => Err(NotHeld::Changed),
     }
 }
 
@@ -220,7 +210,7 @@ fn is_free<D: Disk>(disk: &mut D, name: &str, file: &D::File, device: bool) -> b
 
 /// Whether a name leads to a file that is held.
 pub(crate) fn is_named<D: Disk>(disk: &mut D, name: &str, held: &HeldFile<D::File>) -> bool
-    ensures asked { HasAsked (D.asked disk.old) (D.asked disk.new) (IsNameSeen name.now result) }
+    ensures asked { HasAsked (D.asked disk.old) (D.asked disk.new) (IsSeen (Look name.now) result) }
 {
     match disk.look(name) {
         Ok(metadata) => FileId::from(&metadata) == held.id,
@@ -267,92 +257,96 @@ fn can_be_read(metadata: &Metadata) -> bool {
 }
 
 // Opens the file of this name, or makes it where there is none. Nothing that can't be read to its end is opened.
-fn open<D: Disk>(disk: &mut D, name: &str) -> Result<OpenTry<D::File>, RecordFault>
-    ensures fault { IfErr result IsUnread }
-    ensures asked { IfOk result (λ opening. HasAsked (D.asked disk.old) (D.asked disk.new) (IsOpened name.now (made_of opening))) }
-    ensures named { IfOk result (OnOpened (λ file. D.is_opened_as file name.now)) }
-    ensures text { IfOk result (OnOpened (λ file. Keeps (D.holds disk.old name.now) (D.File.unread file))) }
-    ensures untouched { IfOk result (OnOpened (λ file. OnSome (D.asked disk.new) (D.File.written file ≡ Some []))) }
+fn open<D: Disk>(disk: &mut D, name: &str) -> Result<Opened<D::File>, NotHeld>
+    ensures asked { IfOk result (λ opened. HasAsked (D.asked disk.old) (D.asked disk.new) (IsOpened name.now (Some opened.made))) }
+    ensures named { IfOk result (λ opened. D.is_opened_as opened.file name.now) }
+    ensures text { IfOk result (λ opened. Keeps (D.holds disk.old name.now) (D.File.unread opened.file)) }
+    ensures untouched { IfOk result (λ opened. OnSome (D.asked disk.new) (D.File.written opened.file ≡ Some [])) }
     ensures kept { HoldStill (D.holds disk.old) (D.holds disk.new) }
-    ensures failed { IfErr result (λ _. HasAsked (D.asked disk.old) (D.asked disk.new) (IsOpened name.now None)) }
+    ensures failed { OnErr result (HasAsked (D.asked disk.old) (D.asked disk.new) (IsOpened name.now None)) }
 {
     match disk.look(name) {
         Ok(metadata) if can_be_read(&metadata) => open_found(disk, name),
-        Err(error) if error.kind() == ErrorKind::NotFound => Ok(make(disk, name)),
-        _ => Err(RecordFault::Read),
+        Err(error) if error.kind() == ErrorKind::NotFound => make(disk, name),
+        _ => Err(NotHeld::Read),
     }
 }
 
 // Opens a file that was there a moment ago, to be written if it may be.
-fn open_found<D: Disk>(disk: &mut D, name: &str) -> Result<OpenTry<D::File>, RecordFault>
-    ensures fault { IfErr result IsUnread }
-    ensures asked { IfOk result (λ opening. HasAsked (D.asked disk.old) (D.asked disk.new) (IsFound name.now (made_of opening))) }
-    ensures named { IfOk result (OnOpened (λ file. D.is_opened_as file name.now)) }
-    ensures text { IfOk result (OnOpened (λ file. Keeps (D.holds disk.old name.now) (D.File.unread file))) }
-    ensures untouched { IfOk result (OnOpened (λ file. OnSome (D.asked disk.new) (D.File.written file ≡ Some []))) }
+fn open_found<D: Disk>(disk: &mut D, name: &str) -> Result<Opened<D::File>, NotHeld>
+    ensures asked { IfOk result (λ opened. HasAsked (D.asked disk.old) (D.asked disk.new)
+        (λ steps. IsOpened name.now (Some opened.made) (Did (Look name.now) ∷ steps))) }
+    ensures named { IfOk result (λ opened. D.is_opened_as opened.file name.now) }
+    ensures text { IfOk result (λ opened. Keeps (D.holds disk.old name.now) (D.File.unread opened.file)) }
+    ensures untouched { IfOk result (λ opened. OnSome (D.asked disk.new) (D.File.written opened.file ≡ Some [])) }
     ensures kept { HoldStill (D.holds disk.old) (D.holds disk.new) }
-    ensures failed { IfErr result (λ _. HasAsked (D.asked disk.old) (D.asked disk.new) (IsFound name.now None)) }
+    ensures failed { OnErr result (HasAsked (D.asked disk.old) (D.asked disk.new) (λ steps. IsOpened name.now None (Did (Look name.now) ∷ steps))) }
 {
     if let Ok(file) = disk.open(Access::ReadWrite, name) {
-        return Ok(OpenTry::Opened(Opened {
+        return Ok(Opened {
             file,
             made: Made::Before,
             writable: true,
-        }));
+        });
     }
     match disk.open(Access::ReadOnly, name) {
-        Ok(file) => Ok(OpenTry::Opened(Opened {
+        Ok(file) => Ok(Opened {
             file,
             made: Made::Before,
             writable: false,
-        })),
-        Err(error) if error.kind() == ErrorKind::NotFound => Ok(OpenTry::Changed),
-        Err(_) => Err(RecordFault::Read),
+        }),
+        Err(error) if error.kind() == ErrorKind::NotFound => Err(NotHeld::Changed),
+        Err(_) => Err(NotHeld::Read),
     }
 }
 
 // Makes a file, also where a link leads to, if it can be made.
-fn make<D: Disk>(disk: &mut D, name: &str) -> OpenTry<D::File>
-    ensures asked { HasAsked (D.asked disk.old) (D.asked disk.new) (IsMade name.now (made_of result)) }
-    ensures named { OnOpened (λ file. D.is_opened_as file name.now) result }
-    ensures text { OnOpened (λ file. Keeps (D.holds disk.old name.now) (D.File.unread file)) result }
-    ensures untouched { OnOpened (λ file. OnSome (D.asked disk.new) (D.File.written file ≡ Some [])) result }
+fn make<D: Disk>(disk: &mut D, name: &str) -> Result<Opened<D::File>, NotHeld>
+    ensures asked { IfOk result (λ opened. HasAsked (D.asked disk.old) (D.asked disk.new)
+        (λ steps. IsOpened name.now (Some opened.made) (Failed (Look name.now) ∷ steps))) }
+    ensures named { IfOk result (λ opened. D.is_opened_as opened.file name.now) }
+    ensures text { IfOk result (λ opened. Keeps (D.holds disk.old name.now) (D.File.unread opened.file)) }
+    ensures untouched { IfOk result (λ opened. OnSome (D.asked disk.new) (D.File.written opened.file ≡ Some [])) }
     ensures kept { HoldStill (D.holds disk.old) (D.holds disk.new) }
+    ensures failed { OnErr result (HasAsked (D.asked disk.old) (D.asked disk.new) (λ steps. IsOpened name.now None (Failed (Look name.now) ∷ steps))) }
 {
     match disk.open(Access::New, name) {
-        Ok(file) => OpenTry::Opened(Opened {
+        Ok(file) => Ok(Opened {
             file,
             made: Made::Here,
             writable: true,
         }),
         Err(error) if error.kind() == ErrorKind::AlreadyExists => make_behind_link(disk, name),
-        Err(_) => OpenTry::Nothing,
+        Err(_) => Err(NotHeld::Nothing),
     }
 }
 
 // Makes the file that a link leads to. Where the name is no link, somebody has made the file just now.
-fn make_behind_link<D: Disk>(disk: &mut D, name: &str) -> OpenTry<D::File>
-    ensures asked { HasAsked (D.asked disk.old) (D.asked disk.new) (λ steps. IsMade name.now (made_of result) (Failed (Open Access.New name.now) ∷ steps)) }
-    ensures named { OnOpened (λ file. D.is_opened_as file name.now) result }
-    ensures text { OnOpened (λ file. Keeps (D.holds disk.old name.now) (D.File.unread file)) result }
-    ensures untouched { OnOpened (λ file. OnSome (D.asked disk.new) (D.File.written file ≡ Some [])) result }
+fn make_behind_link<D: Disk>(disk: &mut D, name: &str) -> Result<Opened<D::File>, NotHeld>
+    ensures asked { IfOk result (λ opened. HasAsked (D.asked disk.old) (D.asked disk.new)
+        (λ steps. IsOpened name.now (Some opened.made) (Failed (Look name.now) ∷ Failed (Open Access.New name.now) ∷ steps))) }
+    ensures named { IfOk result (λ opened. D.is_opened_as opened.file name.now) }
+    ensures text { IfOk result (λ opened. Keeps (D.holds disk.old name.now) (D.File.unread opened.file)) }
+    ensures untouched { IfOk result (λ opened. OnSome (D.asked disk.new) (D.File.written opened.file ≡ Some [])) }
     ensures kept { HoldStill (D.holds disk.old) (D.holds disk.new) }
+    ensures failed { OnErr result (HasAsked (D.asked disk.old) (D.asked disk.new)
+        (λ steps. IsOpened name.now None (Failed (Look name.now) ∷ Failed (Open Access.New name.now) ∷ steps))) }
 {
     if !is_link(disk, name) {
-        return OpenTry::Changed;
+        return Err(NotHeld::Changed);
     }
     match disk.open(Access::Created, name) {
-        Ok(file) => OpenTry::Opened(Opened {
+        Ok(file) => Ok(Opened {
             file,
             made: Made::BehindLink,
             writable: true,
         }),
-        Err(_) => OpenTry::Nothing,
+        Err(_) => Err(NotHeld::Nothing),
     }
 }
 
 fn is_link<D: Disk>(disk: &mut D, name: &str) -> bool
-    ensures asked { HasAsked (D.asked disk.old) (D.asked disk.new) (IsLookAtName name.now result) }
+    ensures asked { HasAsked (D.asked disk.old) (D.asked disk.new) (IsSeen (LookAtName name.now) result) }
     ensures kept { HoldStill (D.holds disk.old) (D.holds disk.new) }
 {
     match disk.look_at_name(name) {

@@ -1,8 +1,7 @@
 //! The record's file over a whole load.
 ghost use Rattle.std.specs.Prelude.{◌≡◌, None, false, IfErr, IfOk, IsSome, OnErr, OnOk, MatchOption, option_map};
 ghost use Rattle.record_file.specs.Known.{IsNoDevice, IsUntouched, known_of};
-ghost use Rattle.record_file.specs.Beginning.{IsBegun, IsNotBegun};
-ghost use Rattle.record_file.specs.Closing.{IsRecordClosed, Remains};
+ghost use Rattle.record_file.specs.Beginning.{IsBegun, IsNotBegun, IsRecordClosed, Remains};
 ghost use Rattle.record_file.specs.DiskRecord.{HasBegun};
 ghost use Rattle.host_devices.specs.Told.{HasAsked};
 ghost use Rattle.record_file.specs.InPlace.{HasRead, MayBeWrittenOver};

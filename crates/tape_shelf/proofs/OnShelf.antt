@@ -1,26 +1,30 @@
 -- What the disk of a shelf was asked, by what came of a call.
 use Rattle.std.proofs.Common.{◌≡◌, ℕ, ◌+◌, ◌-◌, List, [], ◌∷◌, ◌++◌, length, take, Bool, true, false, Option, Some, None, Result, Ok, Err, refl, sym, subst, ap, ◌∙◌, arith, inl, inr, OnOk, eqb}
 use Rattle.std.proofs.lemmas.Bool.{eqb-false, eqb-true}
-use Rattle.std.specs.Bool.{IsTrue}
+use Rattle.std.specs.Bool.{IsTrue, OnFalse, OnTrue}
 use Rattle.std.specs.Io.KnownBytes.{Appends}
 use Rattle.std.proofs.KnownBytes.{Appends-nil}
-use Rattle.std.specs.Prelude.{OnSome, option_map, is_err, replicate, IfErr, IsErrAnd, OnErr, ⊤}
+use Rattle.std.specs.Prelude.{OnSome, option_map, is_err, replicate, IfErr, IfSome, IsErrAnd, OnErr, MatchBool, ⊤}
 use Rattle.std.specs.String.{string_bytes}
 use Rattle.byte_io.specs.Output.{WritesPrefix}
 use Rattle.host_devices.specs.Failures.{fault_of}
+use Rattle.record_file.proofs.Aside.{GoesHeld, at_folder, but_join, held_aside}
 use Rattle.host_devices.specs.Told.{HasAsked, Tells}
-use Rattle.record_file.specs.DiskStep.{DiskStep, Did, Failed, LedTo, answered, step_by, LookAtName, FindSoleFile, FindFile, Open, Hold, Link, Rename, Remove, Cut, SyncFile}
+use Rattle.record_file.specs.DiskStep.{DiskStep, Did, Failed, LedTo, answered, step_by, LookAtName, FindFile, Open, Hold, Link, Rename, Remove, SyncFolder, Cut, SyncFile, AreAside, LeaveAllBut, held_behind}
 use Rattle.record_file.specs.Folder.{IsFolderOf}
-use Rattle.record_file.specs.declared.disk.Access.TheVariants.{ReadOnly, ReadWrite}
+use Rattle.record_file.specs.declared.disk.Access.TheVariants.{ReadOnly, ReadWrite, New}
 use Rattle.host_devices.proofs.Told.{tells_join, tells_none}
 use Rattle.request_values.specs.Change.{Change, ◌⇒◌}
-use Rattle.tape_shelf.specs.Room.{room_of, IsFolderOpened}
-use Rattle.tape_shelf.specs.ShelfDisk.{Closing, Place, Room, ShelfDisk, closing_in, HasNoPart, HasNoRoom, HasPart, HasRoom, LeaveAll, resuming, IsPutOn, IsPut, Written, IsNoFileName, IsSearch, Free, IsNotReserved, NoRoom, IsReserved, Reserved, IsMakingHeld, IsTaking, IsTakingHeld, Unmade, Taken, NotTaken, IsGone, Goes, IsLeftBehind, IsOnDisk, Synced, IsNaming, Renamed, NotRenamed, IsSettling, IsNamed, Named, Unnamed, IsClosed, part_name, IsAdded, IsNotAdded, IsUnadded, NoFile}
+use Rattle.tape_shelf.specs.ShelfDisk.{Place, Room, room_of, ShelfDisk, HasPart, HasRoom, IsAdding, IsGone, Goes, HasAnother, IsClosed, IsNaming, Renamed, IsNamed, Named, Unnamed, Unsettled, IsTakenBack, IsNotReserved, NotMade, IsPut, Put as PutWhole, Nowhere, NoRoom, IsNoFileName, IsSearch, Free, There, Unknown, NoFileName, LeaveAll, making, taking_left, syncing, part_name}
 use Rattle.tape_shelf.specs.Shelf.{add_step, put_step}
 use Rattle.tape_shelf.specs.ShelfTold.{AsksFor}
 use Rattle.tape_shelf.specs.declared.new_file.Part.{Part}
 use Rattle.tape_shelf.specs.declared.shelf.ShelfFault.{ShelfFault}
 use Rattle.tape_shelf.specs.declared.shelf.ShelfFault.TheVariants.{Write}
+
+-- the folder of a room is open, and was opened under this name
+abbrev pub IsFolderOpened : {T : Type 0} → (T → List ℕ → Type 0) → Option (Part T) → List ℕ → Type 0
+IsFolderOpened opened part folder = IfSome part (λ files. opened files.folder folder)
 
 -- ---- what is known of an answer
 
@@ -84,12 +88,27 @@ folder_name name false some h = (λ e. absurd (cc e), either) where
   either (inr folder) = absurd (cc (h.1 folder.0 folder.1))
 
 pub renamed : (own name : List ℕ) (left : Option (List ℕ)) (steps : List DiskStep) → IsSearch name None steps
-    → IsNaming own name None (Failed (Link own name) ∷ (steps ++ Did (Rename own name left) ∷ []))
+    → IsNaming own name (Failed (Link own name) ∷ (steps ++ Did (Rename own name left) ∷ []))
 renamed own name left steps Free = Renamed left
 
-pub not_renamed : (own name : List ℕ) (left : Option (List ℕ)) (steps : List DiskStep) → IsSearch name None steps
-    → IsNaming own name (Some Write) (Failed (Link own name) ∷ (steps ++ Failed (Rename own name left) ∷ []))
-not_renamed own name left steps Free = NotRenamed left
+-- a search changes nothing
+pub search_idle : (name : List ℕ) (fault : Option ShelfFault) (steps : List DiskStep) → IsSearch name fault steps → LeaveAll steps
+search_idle name fault steps Free = (tt, tt)
+search_idle name fault steps There = (tt, tt)
+search_idle name fault steps Unknown = (tt, tt)
+search_idle name fault steps (NoFileName is) = tt
+
+-- nothing was changed
+pub idle_join : (one two : List DiskStep) → LeaveAll one → LeaveAll two → LeaveAll (one ++ two)
+idle_join [] two i j = j
+idle_join (Did request ∷ one) two i j = (i.0, idle_join one two i.1 j)
+idle_join (Failed (Link from to) ∷ one) two i j = idle_join one two i j
+idle_join (Failed (Rename from to left) ∷ one) two i j = idle_join one two i j
+idle_join (Failed request ∷ one) two i j = (i.0, idle_join one two i.1 j)
+idle_join (LedTo name target ∷ one) two i j = absurd i
+
+pub still_idle : (a b c : Option (List DiskStep)) (steps : List DiskStep) → Tells a b steps → LeaveAll steps → HasAsked b c LeaveAll → HasAsked a c LeaveAll
+still_idle a b c steps g idle h = (steps ++ h.0, tells_join a b c steps h.0 g h.1, idle_join steps h.0 idle h.2)
 
 -- ---- room
 
@@ -110,73 +129,81 @@ filled_with before after zeros steps (Some items) (Some told) fresh t g = held b
     held (Some xs) None zeros is g = absurd g
     held (Some xs) (Some ys) zeros is g = let none : xs ≡ [] = cc is in ap (λ (list : List ℕ). Some list) (g ∙ ap (λ list. list ++ zeros) none)
 
-pub taken_held : (own dir : List ℕ) (filled : Option (List ℕ)) (a b c : Option (List DiskStep)) → HasAsked a b (IsMakingHeld own None) → HasAsked b c (IsTaking own dir filled true)
-    → HasAsked a c (IsTakingHeld own dir filled None)
-taken_held own dir filled a b c making taking =
-    (making.0 ++ taking.0, tells_join a b c making.0 taking.0 making.1 taking.1, Taken making.0 taking.0 making.2 taking.2)
+abbrev pub made_steps : List ℕ → List DiskStep
+made_steps own = Did (Open New own) ∷ Did (Hold own) ∷ []
 
-pub not_taken : (own dir : List ℕ) (filled : Option (List ℕ)) (a b c d : Option (List DiskStep)) → HasAsked a b (IsMakingHeld own None)
-    → HasAsked b c (IsTaking own dir filled false) → HasAsked c d (IsGone own filled)
-    → (zeros : Option (List ℕ)) × HasAsked a d (IsTakingHeld own dir zeros (Some Write))
-not_taken own dir filled a b c d making taking going = (
-  filled,
-  (
-    making.0 ++ (taking.0 ++ going.0),
-    tells_join a b d making.0 (taking.0 ++ going.0) making.1 (tells_join b c d taking.0 going.0 taking.1 going.1),
-    NotTaken making.0 taking.0 going.0 making.2 taking.2 going.2,
-  ),
+abbrev pub room_steps : List ℕ → List ℕ → Option (List ℕ) → List DiskStep
+room_steps own dir filled = Did (SyncFile filled) ∷ Did (SyncFolder dir) ∷ Did (Open ReadWrite own) ∷ []
+
+-- the file that was filled still has its name
+pub room_made : (own dir : List ℕ) (filled : Option (List ℕ)) (a b c d : Option (List DiskStep)) → HasAsked a b (λ steps. steps ≡ made_steps own)
+    → HasAsked b c (λ steps. steps ≡ room_steps own dir filled) → Tells c d (Did (FindFile own filled) ∷ []) → HasAsked a d (λ steps. steps ≡ making own dir filled)
+room_made own dir filled a b c d made taken found = let last : List DiskStep = Did (FindFile own filled) ∷ [] in (
+  made.0 ++ (taken.0 ++ last),
+  tells_join a b d made.0 (taken.0 ++ last) made.1 (tells_join b c d taken.0 last taken.1 found),
+  ap (λ steps. steps ++ (taken.0 ++ last)) made.2 ∙ ap (λ steps. Did (Open New own) ∷ Did (Hold own) ∷ (steps ++ last)) taken.2,
 )
 
-pub not_made_held : (own dir : List ℕ) (fault : ShelfFault) (a b : Option (List DiskStep)) → HasAsked a b (IsMakingHeld own (Some fault))
-    → (zeros : Option (List ℕ)) × HasAsked a b (IsTakingHeld own dir zeros (Some fault))
-not_made_held own dir fault a b making = (None, (making.0, making.1, Unmade fault making.0 making.2))
+-- or has it no more
+pub room_lost : (own dir : List ℕ) (filled : Option (List ℕ)) (a b c d : Option (List DiskStep)) → HasAsked a b (λ steps. steps ≡ made_steps own)
+    → HasAsked b c (λ steps. steps ≡ room_steps own dir filled) → Tells c d (Failed (FindFile own filled) ∷ []) → HasAsked a d (AreAside own false)
+room_lost own dir filled a b c d made taken found = let last : List DiskStep = Failed (FindFile own filled) ∷ [] in (
+  made.0 ++ (taken.0 ++ last),
+  tells_join a b d made.0 (taken.0 ++ last) made.1 (tells_join b c d taken.0 last taken.1 found),
+  subst (λ steps. AreAside own false (steps ++ (taken.0 ++ last))) (sym made.2)
+      (subst (λ steps. AreAside own false (made_steps own ++ (steps ++ last))) (sym taken.2) ((λ held. (refl, (refl, tt))), refl)),
+)
+
+-- what goes is this load's own
+gone_held : (own : List ℕ) (written : Option (List ℕ)) (steps : List DiskStep) → IsGone own written steps → GoesHeld own steps
+gone_held own written steps (Goes true) = ((refl, refl, tt), refl)
+gone_held own written steps (Goes false) = (tt, refl)
+gone_held own written steps HasAnother = (tt, refl)
+
+-- one that could not be filled goes
+pub not_filled : (own : List ℕ) (filled : Option (List ℕ)) (a b c d : Option (List DiskStep)) → HasAsked a b (λ steps. steps ≡ made_steps own)
+    → HasAsked b c (λ steps. LeaveAllBut own true steps × (held_behind true steps ≡ true)) → HasAsked c d (IsGone own filled) → HasAsked a d (AreAside own false)
+not_filled own filled a b c d made taken going = (
+  (made.0 ++ taken.0) ++ going.0,
+  tells_join a c d (made.0 ++ taken.0) going.0 (tells_join a b c made.0 taken.0 made.1 taken.1) going.1,
+  held_aside own (made.0 ++ taken.0) going.0
+      (subst (λ steps. AreAside own true (steps ++ taken.0)) (sym made.2) ((λ held. (refl, (refl, taken.2.0))), taken.2.1)) (gone_held own filled going.0 going.2),
+)
 
 pub reserved : (name folder own : List ℕ) (filled : Option (List ℕ)) (a b c : Option (List DiskStep)) → own ≡ part_name name → Tells a b (Did (Open ReadOnly folder) ∷ [])
-    → HasAsked b c (IsTakingHeld own folder filled None) → HasAsked a c (λ steps. IsReserved name folder filled (Failed (LookAtName name) ∷ steps))
-reserved name folder own filled a b c is opened making = (
-  Did (Open ReadOnly folder) ∷ making.0,
-  tells_join a b c (Did (Open ReadOnly folder) ∷ []) making.0 opened making.1,
-  Reserved making.0 (subst (λ n. IsTakingHeld n folder filled None making.0) is making.2),
+    → HasAsked b c (λ steps. steps ≡ making own folder filled) → HasAsked a c (λ steps. steps ≡ Did (Open ReadOnly folder) ∷ making (part_name name) folder filled)
+reserved name folder own filled a b c is opened made = (
+  Did (Open ReadOnly folder) ∷ made.0,
+  tells_join a b c (Did (Open ReadOnly folder) ∷ []) made.0 opened made.1,
+  ap (λ steps. Did (Open ReadOnly folder) ∷ steps) (made.2 ∙ ap (λ n. making n folder filled) is),
 )
 
-pub not_made : (name folder own : List ℕ) (fault : ShelfFault) (a b c : Option (List DiskStep)) → IsFolderOf name folder → own ≡ part_name name
-    → Tells a b (Did (Open ReadOnly folder) ∷ []) → (filled : Option (List ℕ)) × HasAsked b c (IsTakingHeld own folder filled (Some fault))
-    → HasAsked a c (λ steps. IsNotReserved name fault (Failed (LookAtName name) ∷ steps))
-not_made name folder own fault a b c of is opened made = let making = made.1 in (
-  Did (Open ReadOnly folder) ∷ making.0,
-  tells_join a b c (Did (Open ReadOnly folder) ∷ []) making.0 opened making.1,
-  NoRoom folder made.0 fault making.0 of (subst (λ n. IsTakingHeld n folder made.0 (Some fault) making.0) is making.2),
-)
+pub not_made : (name folder own : List ℕ) (a b c : Option (List DiskStep)) → own ≡ part_name name → Tells a b (Did (Open ReadOnly folder) ∷ [])
+    → HasAsked b c (AreAside own false) → HasAsked a c (AreAside (part_name name) false)
+not_made name folder own a b c is opened aside = subst (λ n. HasAsked a c (AreAside n false)) is (but_join own false a b c (at_folder own folder a b opened) aside)
 
 -- nothing had the name, and then the room was made, or not
-then_reserved : (name folder : List ℕ) (filled : Option (List ℕ)) (a b c : Option (List DiskStep)) → HasAsked a b (IsSearch name None)
-    → HasAsked b c (λ steps. IsReserved name folder filled (Failed (LookAtName name) ∷ steps)) → HasAsked a c (IsReserved name folder filled)
-then_reserved name folder filled a b c search making =
-    (search.0 ++ making.0, tells_join a b c search.0 making.0 search.1 making.1, behind name folder filled search.0 making.0 search.2 making.2) where
-      behind : (name folder : List ℕ) (filled : Option (List ℕ)) (front back : List DiskStep) → IsSearch name None front
-          → IsReserved name folder filled (Failed (LookAtName name) ∷ back) → IsReserved name folder filled (front ++ back)
-      behind name folder filled front back Free r = r
+then_reserved : (name : List ℕ) (more : List DiskStep) (a b c : Option (List DiskStep)) → HasAsked a b (IsSearch name None) → HasAsked b c (λ steps. steps ≡ more)
+    → HasAsked a c (λ steps. steps ≡ Failed (LookAtName name) ∷ more)
+then_reserved name more a b c search made = (search.0 ++ made.0, tells_join a b c search.0 made.0 search.1 made.1, behind name more search.0 made.0 search.2 made.2) where
+  behind : (name : List ℕ) (more front back : List DiskStep) → IsSearch name None front → back ≡ more → front ++ back ≡ Failed (LookAtName name) ∷ more
+  behind name more front back Free is = ap (λ steps. Failed (LookAtName name) ∷ steps) is
 
 pub then_not_reserved : (name : List ℕ) (fault : ShelfFault) (a b c : Option (List DiskStep)) → HasAsked a b (IsSearch name None)
-    → HasAsked b c (λ steps. IsNotReserved name fault (Failed (LookAtName name) ∷ steps)) → HasAsked a c (IsNotReserved name fault)
-then_not_reserved name fault a b c search making =
-    (search.0 ++ making.0, tells_join a b c search.0 making.0 search.1 making.1, behind name fault search.0 making.0 search.2 making.2) where
+    → HasAsked b c (AreAside (part_name name) false) → HasAsked a c (IsNotReserved name fault)
+then_not_reserved name fault a b c search made =
+    (search.0 ++ made.0, tells_join a b c search.0 made.0 search.1 made.1, behind name fault search.0 made.0 search.2 made.2) where
       behind : (name : List ℕ) (fault : ShelfFault) (front back : List DiskStep) → IsSearch name None front
-          → IsNotReserved name fault (Failed (LookAtName name) ∷ back) → IsNotReserved name fault (front ++ back)
-      behind name fault front back Free r = r
-
--- how that is called of a shelf
-pub no_room_on : (name : List ℕ) (room : Option Room) (fault : ShelfFault) (a b : Option (List DiskStep)) → HasAsked a b (IsNotReserved name fault)
-    → HasAsked a b (HasNoRoom fault (disk_at a name room ⇒ disk_at b name room))
-no_room_on name room fault a b h = (h.0, h.1, record { refused = h.2; room = refl; name = refl })
+          → AreAside (part_name name) false back → IsNotReserved name fault (front ++ back)
+      behind name fault front back Free aside = NotMade fault back aside
 
 pub has_room_on : {T : Type 0} (opened : T → List ℕ → Type 0) (size : ℕ) (contents : T → Option (List ℕ)) (name : List ℕ) (room : Option Room) (part : Part T) (a b c : Option (List DiskStep))
     → string_bytes part.name ≡ part_name name → (part.length ≡ 0) × (part.kept ≡ false) → OnSome c (contents part.file ≡ Some []) → OnSome c (contents part.held ≡ Some (replicate size 0)) → HasAsked a b (IsSearch name None)
-    → (folder : List ℕ) × opened part.folder folder × IsFolderOf name folder × HasAsked b c (λ steps. IsReserved name folder (contents part.held) (Failed (LookAtName name) ∷ steps))
+    → (folder : List ℕ) × opened part.folder folder × IsFolderOf name folder × HasAsked b c (λ steps. steps ≡ Did (Open ReadOnly folder) ∷ making (part_name name) folder (contents part.held))
     → (folder : List ℕ) × IsFolderOpened opened (Some part) folder
     × HasAsked a c (HasRoom folder size (disk_at a name room ⇒ disk_at c name (Some (room_of contents part))))
 has_room_on opened size contents name room part a b c own new fresh filled search made =
-    let h = then_reserved name made.0 (contents part.held) a b c search made.3 in (
+    let h = then_reserved name (Did (Open ReadOnly made.0) ∷ making (part_name name) made.0 (contents part.held)) a b c search made.3 in (
       made.0,
       made.1,
       (
@@ -187,59 +214,29 @@ has_room_on opened size contents name room part a b c own new fresh filled searc
           filled = contents part.held;
           taken = filled;
           reserved = h.2;
-          written = contents part.file;
-          room = λ i. Some (record { name = own i; written = contents part.file; length = new.0 i; kept = new.1 i });
-          fresh = fresh;
-          name = refl;
+          room = (contents part.file, (λ i. Some (record { name = own i; written = contents part.file; length = new.0 i; kept = new.1 i })), fresh);
         },
       ),
     )
 
 -- ---- a block
 
--- a text was added to the room that there is
-pub added_on : {T : Type 0} (contents : T → Option (List ℕ)) (name text : List ℕ) (before : Option (Part T)) (part part' : Part T) (a b : Option (List DiskStep))
-    → Some part ≡ before → string_bytes part'.name ≡ string_bytes part.name → Appends (contents part.file) (contents part'.file) text → part'.length ≡ part.length + length text → part'.kept ≡ true
-    → HasAsked a b (λ steps. steps ≡ Did (SyncFile (contents part'.file)) ∷ [])
-    → HasAsked a b (IsAdded text (disk_at a name (option_map (room_of contents) before) ⇒ disk_at b name (Some (room_of contents part'))))
-added_on contents name text before part part' a b is own appends longer kept synced = (
-  synced.0,
-  synced.1,
-  record {
-    earlier = room_of contents part;
-    had = ap (option_map (room_of contents)) (sym is);
-    written = contents part'.file;
-    appends = appends;
-    synced = synced.2;
-    room = λ i. Some (record { name = own i; written = contents part'.file; length = longer i; kept = kept i });
-    name = refl;
-  },
-)
-
--- or it was not
-pub not_added_on : {T : Type 0} (contents : T → Option (List ℕ)) (name text : List ℕ) (before : Option (Part T)) (part part' : Part T) (a b : Option (List DiskStep)) → Some part ≡ before
-    → HasAsked a b (IsUnadded text (Some (room_of contents part)) (Some (room_of contents part')))
-    → HasAsked a b (IsNotAdded text (disk_at a name (option_map (room_of contents) before) ⇒ disk_at b name (Some (room_of contents part'))))
-not_added_on contents name text before part part' a b is unadded = (
-  unadded.0,
-  unadded.1,
-  record {
-    unadded = subst (λ room. IsUnadded text room (Some (room_of contents part')) unadded.0) (ap (option_map (room_of contents)) is) unadded.2;
-    name = refl;
-  },
-)
+-- a text was added to the room that there is, or it was not
+pub add_answer : {T : Type 0} (contents : T → Option (List ℕ)) (folder name text : List ℕ) (before : Option (Part T)) (part part' : Part T) (answer : Result ⊤ ShelfFault) (a b : Option (List DiskStep))
+    → Some part ≡ before → OnOk answer (HasAsked a b (IsAdding text true (Some (room_of contents part)) (Some (room_of contents part'))))
+    → OnErr answer (HasAsked a b (IsAdding text false (Some (room_of contents part)) (Some (room_of contents part'))))
+    → HasAsked a b (AsksFor folder (add_step text answer) (disk_at a name (option_map (room_of contents) before) ⇒ disk_at b name (Some (room_of contents part'))))
+add_answer contents folder name text before part part' (Ok done) a b is added unadded =
+    subst (λ o. HasAsked a b (IsAdding text true (option_map (room_of contents) o) (Some (room_of contents part')))) is added
+add_answer contents folder name text before part part' (Err fault) a b is added unadded =
+    subst (λ o. HasAsked a b (IsAdding text false (option_map (room_of contents) o) (Some (room_of contents part')))) is unadded
 
 -- nor without room
-pub not_added_nowhere : {T : Type 0} (contents : T → Option (List ℕ)) (name text : List ℕ) (before after : Option (Part T)) (a : Option (List DiskStep)) → None ≡ before → after ≡ None
-    → HasAsked a a (IsNotAdded text (disk_at a name (option_map (room_of contents) before) ⇒ disk_at a name (option_map (room_of contents) after)))
-not_added_nowhere contents name text before after a is none = (
-  [],
-  tells_none a,
-  record {
-    unadded = subst (λ room. IsUnadded text (option_map (room_of contents) room) (option_map (room_of contents) after) []) is (subst (λ room. IsUnadded text None (option_map (room_of contents) room) []) (sym none) NoFile);
-    name = refl;
-  },
-)
+pub not_added_nowhere : {T : Type 0} (contents : T → Option (List ℕ)) (text : List ℕ) (before after : Option (Part T)) (a : Option (List DiskStep)) → None ≡ before → after ≡ None
+    → HasAsked a a (IsAdding text false (option_map (room_of contents) before) (option_map (room_of contents) after))
+not_added_nowhere contents text before after a is none =
+    subst (λ o. HasAsked a a (IsAdding text false (option_map (room_of contents) o) (option_map (room_of contents) after))) is
+    (subst (λ o. HasAsked a a (IsAdding text false None (option_map (room_of contents) o))) (sym none) ([], tells_none a, NoRoom))
 
 -- the folder is the same
 pub opened_still : {T : Type 0} (opened : T → List ℕ → Type 0) (before : Option (Part T)) (part part' : Part T) (folder : List ℕ) → Some part ≡ before → part'.folder ≡ part.folder
@@ -248,109 +245,133 @@ opened_still opened before part part' folder is same h = subst (λ f. opened f f
 
 -- ---- the tape
 
-pub on_disk : (room : Room) (name : List ℕ) (found : Bool) (a b c : Option (List DiskStep)) → name ≡ room.name
-    → Tells a b (Did (Cut room.written room.length) ∷ Did (SyncFile room.written) ∷ []) → Tells b c (step_by (FindFile name room.written) found ∷ []) → HasAsked a c (IsOnDisk room found)
-on_disk room name found a b c is synced looked = (
-  Did (Cut room.written room.length) ∷ Did (SyncFile room.written) ∷ step_by (FindFile room.name room.written) found ∷ [],
-  tells_join a b c (Did (Cut room.written room.length) ∷ Did (SyncFile room.written) ∷ []) (step_by (FindFile room.name room.written) found ∷ []) synced
-      (subst (λ n. Tells b c (step_by (FindFile n room.written) found ∷ [])) is looked),
-  Synced found,
+pub synced : (room : Room) (name : List ℕ) (a b c : Option (List DiskStep)) → name ≡ room.name
+    → Tells a b (Did (Cut room.written room.length) ∷ Did (SyncFile room.written) ∷ []) → Tells b c (Did (FindFile name room.written) ∷ [])
+    → HasAsked a c (λ steps. steps ≡ syncing room)
+synced room name a b c is brought found = (
+  Did (Cut room.written room.length) ∷ Did (SyncFile room.written) ∷ Did (FindFile name room.written) ∷ [],
+  tells_join a b c (Did (Cut room.written room.length) ∷ Did (SyncFile room.written) ∷ []) (Did (FindFile name room.written) ∷ []) brought found,
+  ap (λ n. Did (Cut room.written room.length) ∷ Did (SyncFile room.written) ∷ Did (FindFile n room.written) ∷ []) is,
 )
 
-pub not_named : (place : Place) (room : Room) (own : List ℕ) (fault : ShelfFault) (a b c : Option (List DiskStep)) → own ≡ room.name
-    → HasAsked a b (IsOnDisk room true) → HasAsked b c (IsNaming own place.name (Some fault)) → HasAsked a c (IsNamed place room (Some fault))
-not_named place room own fault a b c is disk naming = (
-  disk.0 ++ naming.0,
-  tells_join a b c disk.0 naming.0 disk.1 naming.1,
-  Unnamed fault disk.0 naming.0 disk.2 (subst (λ n. IsNaming n place.name (Some fault) naming.0) is naming.2),
+-- the file beside was cut and synced, and then its name was still its own, or not
+pub found_or_not : (room : Room) (name : List ℕ) (found : Bool) (a b c : Option (List DiskStep)) → name ≡ room.name
+    → Tells a b (Did (Cut room.written room.length) ∷ Did (SyncFile room.written) ∷ []) → Tells b c (step_by (FindFile name room.written) found ∷ [])
+    → OnTrue found (HasAsked a c (λ steps. steps ≡ syncing room)) × ((place : Place) → OnFalse found (HasAsked a c (IsNamed place room (Some Write))))
+found_or_not room name true a b c is brought found = (synced room name a b c is brought found, λ place. tt)
+found_or_not room name false a b c is brought found = (
+  tt,
+  λ place. (
+    Did (Cut room.written room.length) ∷ Did (SyncFile room.written) ∷ Failed (FindFile name room.written) ∷ [],
+    tells_join a b c (Did (Cut room.written room.length) ∷ Did (SyncFile room.written) ∷ []) (Failed (FindFile name room.written) ∷ []) brought found,
+    Unnamed Write true (Did (SyncFile room.written) ∷ Failed (FindFile name room.written) ∷ []) (tt, (tt, tt)),
+  ),
 )
 
-pub named : (place : Place) (room : Room) (own : List ℕ) (fault : Option ShelfFault) (a b c d : Option (List DiskStep)) → own ≡ room.name
-    → HasAsked a b (IsOnDisk room true) → HasAsked b c (IsNaming own place.name None) → HasAsked c d (IsSettling place room fault) → HasAsked a d (IsNamed place room fault)
-named place room own fault a b c d is disk naming settling = (
-  disk.0 ++ (naming.0 ++ settling.0),
-  tells_join a b d disk.0 (naming.0 ++ settling.0) disk.1 (tells_join b c d naming.0 settling.0 naming.1 settling.1),
-  Named fault disk.0 naming.0 settling.0 disk.2 (subst (λ n. IsNaming n place.name None naming.0) is naming.2) settling.2,
+-- it could not be linked, and was renamed, or not
+pub link_or_rename : {A E : Type 0} (own name : List ℕ) (a b c : Option (List DiskStep)) (result : Result A E) → Tells a b (Failed (Link own name) ∷ [])
+    → OnOk result (HasAsked b c (λ steps. IsNaming own name (Failed (Link own name) ∷ steps))) → OnErr result (HasAsked b c LeaveAll)
+    → OnOk result (HasAsked a c (IsNaming own name)) × OnErr result (HasAsked a c LeaveAll)
+link_or_rename own name a b c (Ok value) linked asked failed =
+    ((Failed (Link own name) ∷ asked.0, tells_join a b c (Failed (Link own name) ∷ []) asked.0 linked asked.1, asked.2), tt)
+link_or_rename own name a b c (Err fault) linked asked failed = (tt, still_idle a b c (Failed (Link own name) ∷ []) linked tt failed)
+
+pub not_named : (place : Place) (room : Room) (fault : ShelfFault) (a b c : Option (List DiskStep)) → HasAsked a b (λ steps. steps ≡ syncing room)
+    → HasAsked b c LeaveAll → HasAsked a c (IsNamed place room (Some fault))
+not_named place room fault a b c disk idle = (
+  disk.0 ++ idle.0,
+  tells_join a b c disk.0 idle.0 disk.1 idle.1,
+  subst (λ steps. IsNamed place room (Some fault) (steps ++ idle.0)) (sym disk.2)
+      (Unnamed fault true (Did (SyncFile room.written) ∷ Did (FindFile room.name room.written) ∷ idle.0) (tt, (tt, idle.2))),
 )
 
-pub put_written : (closing : Closing) (room : Room) (written : Option (List ℕ)) (all : ℕ) (fault : Option ShelfFault) (a b : Option (List DiskStep))
-    → Appends room.written written closing.text → all ≡ room.length + length closing.text → HasAsked a b (IsNamed closing.place (record room { written = written; length = all }) fault)
-    → HasAsked a b (IsPut closing room fault)
-put_written closing room written all fault a b appends is naming =
-    (naming.0, naming.1, Written written fault naming.0 appends (subst (λ n. IsNamed closing.place (record room { written = written; length = n }) fault naming.0) is naming.2))
+-- behind its new name
+behind_name : (place : Place) (room : Room) (fault : Option ShelfFault) (own : List ℕ) (last : List DiskStep) (a b c d : Option (List DiskStep)) → own ≡ room.name
+    → HasAsked a b (λ steps. steps ≡ syncing room) → HasAsked b c (IsNaming own place.name) → Tells c d last
+    → ((naming : List DiskStep) → IsNaming room.name place.name naming → IsNamed place room fault (syncing room ++ (naming ++ last))) → HasAsked a d (IsNamed place room fault)
+behind_name place room fault own last a b c d is disk naming told by = (
+  disk.0 ++ (naming.0 ++ last),
+  tells_join a b d disk.0 (naming.0 ++ last) disk.1 (tells_join b c d naming.0 last naming.1 told),
+  subst (λ steps. IsNamed place room fault (steps ++ (naming.0 ++ last))) (sym disk.2) (by naming.0 (subst (λ n. IsNaming n place.name naming.0) is naming.2)),
+)
 
--- what holds of the room that there is
+pub named : (place : Place) (room : Room) (own own' : List ℕ) (a b c d e : Option (List DiskStep)) → own ≡ room.name → own' ≡ room.name
+    → HasAsked a b (λ steps. steps ≡ syncing room) → HasAsked b c (IsNaming own place.name) → Tells c d (Did (SyncFolder place.folder) ∷ [])
+    → HasAsked d e (IsGone own' room.written) → HasAsked a e (IsNamed place room None)
+named place room own own' a b c d e is is' disk naming sync going =
+    behind_name place room None own (Did (SyncFolder place.folder) ∷ going.0) a b c e is disk naming
+    (tells_join c d e (Did (SyncFolder place.folder) ∷ []) going.0 sync going.1)
+    (λ front n. Named front going.0 n (subst (λ m. IsGone m room.written going.0) is' going.2))
+
+pub unsettled : (place : Place) (room : Room) (own own' : List ℕ) (a b c d e : Option (List DiskStep)) → own ≡ room.name → own' ≡ room.name
+    → HasAsked a b (λ steps. steps ≡ syncing room) → HasAsked b c (IsNaming own place.name) → Tells c d (Failed (SyncFolder place.folder) ∷ [])
+    → HasAsked d e (IsTakenBack own' place.name room.written) → HasAsked a e (IsNamed place room (Some Write))
+unsettled place room own own' a b c d e is is' disk naming sync taking =
+    behind_name place room (Some Write) own (Failed (SyncFolder place.folder) ∷ taking.0) a b c e is disk naming
+    (tells_join c d e (Failed (SyncFolder place.folder) ∷ []) taking.0 sync taking.1)
+    (λ front n. Unsettled front taking.0 n (subst (λ m. IsTakenBack m place.name room.written taking.0) is' taking.2))
+
+pub put_written : (place : Place) (text : List ℕ) (room : Room) (written : Option (List ℕ)) (all : ℕ) (fault : Option ShelfFault) (a b : Option (List DiskStep))
+    → Appends room.written written text → all ≡ room.length + length text → HasAsked a b (IsNamed place (record room { written = written; length = all }) fault)
+    → HasAsked a b (IsPut place text (Some room) fault)
+put_written place text room written all fault a b appends is naming =
+    (naming.0, naming.1, PutWhole room written fault naming.0 appends (subst (λ n. IsNamed place (record room { written = written; length = n }) fault naming.0) is naming.2))
+
+-- what a put asks where there is room, and where there is none
+abbrev IsPutOn : {T : Type 0} → (T → Option (List ℕ)) → List ℕ → List ℕ → List ℕ → Option ShelfFault → Option (Part T) → Option (Part T) → List DiskStep → Type 0
+IsPutOn contents folder name text fault before after steps =
+    IsPut (record { folder = folder; name = name }) text (option_map (room_of contents) before) fault steps × (option_map (room_of contents) after ≡ None)
+
 pub in_room : {T : Type 0} (opened : T → List ℕ → Type 0) (contents : T → Option (List ℕ)) (name text folder : List ℕ) (fault : Option ShelfFault) (before : Option (Part T))
     (part : Part T) (after : Option (Part T)) (a b : Option (List DiskStep)) → Some part ≡ before → after ≡ None
-    → ((dir : List ℕ) → opened part.folder dir → HasAsked a b (IsPut (record { place = record { folder = dir; name = name }; text = text }) (room_of contents part) fault)) → IsFolderOpened opened before folder
-    → HasAsked a b (IsPutOn (record { place = record { folder = folder; name = name }; text = text }) fault (disk_at a name (option_map (room_of contents) before) ⇒ disk_at b name (option_map (room_of contents) after)))
-in_room opened contents name text folder fault before part after a b is none put = subst
-    (λ room. IsFolderOpened opened room folder → HasAsked a b (IsPutOn (record { place = record { folder = folder; name = name }; text = text }) fault (disk_at a name (option_map (room_of contents) room) ⇒ disk_at b name (option_map (room_of contents) after))))
-    is
-    (λ open_so. let h = put folder open_so in (h.0, h.1, record { put = h.2; room = subst (λ room. option_map (room_of contents) room ≡ None) (sym none) refl; name = refl }))
+    → ((dir : List ℕ) → opened part.folder dir → HasAsked a b (IsPut (record { folder = dir; name = name }) text (Some (room_of contents part)) fault)) → IsFolderOpened opened before folder
+    → HasAsked a b (IsPutOn contents folder name text fault before after)
+in_room opened contents name text folder fault before part after a b is none put =
+    subst (λ room. IsFolderOpened opened room folder → HasAsked a b (IsPutOn contents folder name text fault room after)) is
+    (λ open_so. let h = put folder open_so in (h.0, h.1, (h.2, ap (option_map (room_of contents)) none)))
 
--- without room nothing is asked
 pub in_no_room : {T : Type 0} (contents : T → Option (List ℕ)) (name text folder : List ℕ) (before after : Option (Part T)) (a : Option (List DiskStep)) → None ≡ before → after ≡ None
-    → HasAsked a a (IsPutOn (record { place = record { folder = folder; name = name }; text = text }) (Some Write) (disk_at a name (option_map (room_of contents) before) ⇒ disk_at a name (option_map (room_of contents) after)))
-in_no_room contents name text folder before after a is none = subst
-    (λ room. HasAsked a a (IsPutOn (record { place = record { folder = folder; name = name }; text = text }) (Some Write) (disk_at a name (option_map (room_of contents) room) ⇒ disk_at a name (option_map (room_of contents) after))))
-    is
-    ([], tells_none a, record { put = (refl, refl); room = subst (λ room. option_map (room_of contents) room ≡ None) (sym none) refl; name = refl })
+    → HasAsked a a (IsPutOn contents folder name text (Some Write) before after)
+in_no_room contents name text folder before after a is none =
+    subst (λ room. HasAsked a a (IsPutOn contents folder name text (Some Write) room after)) is ([], tells_none a, (Nowhere, ap (option_map (room_of contents)) none))
 
 -- ---- what is let go
 
-pub left : (own own' : List ℕ) (kept : Bool) (written : Option (List ℕ)) (a b : Option (List DiskStep)) → own ≡ own' → kept ≡ false → HasAsked a b (IsGone own written)
-    → HasAsked a b (IsLeftBehind kept own' written)
-left own own' kept written a b is not h = subst (λ k. HasAsked a b (IsLeftBehind k own' written)) (sym not) (gone_as own own' written a b is h)
+pub left : (room : Room) (own : List ℕ) (a b : Option (List DiskStep)) → own ≡ room.name → room.kept ≡ false → HasAsked a b (IsGone own room.written)
+    → HasAsked a b (IsClosed (Some room))
+left room own a b is not h =
+    subst (λ k. HasAsked a b (λ steps. MatchBool k (steps ≡ []) (IsGone room.name room.written steps))) (sym not) (gone_as own room.name room.written a b is h)
 
-pub stays : (own : List ℕ) (kept : Bool) (written : Option (List ℕ)) (a : Option (List DiskStep)) → kept ≡ true → HasAsked a a (IsLeftBehind kept own written)
-stays own kept written a is = subst (λ k. HasAsked a a (IsLeftBehind k own written)) (sym is) ([], tells_none a, refl)
+pub stays : (room : Room) (a : Option (List DiskStep)) → room.kept ≡ true → HasAsked a a (IsClosed (Some room))
+stays room a is = subst (λ k. HasAsked a a (λ steps. MatchBool k (steps ≡ []) (IsGone room.name room.written steps))) (sym is) ([], tells_none a, refl)
 
 pub closed : {T : Type 0} (contents : T → Option (List ℕ)) (before : Option (Part T)) (part : Part T) (a b : Option (List DiskStep)) → before ≡ Some part
-    → HasAsked a b (IsLeftBehind (room_of contents part).kept (room_of contents part).name (room_of contents part).written) → HasAsked a b (IsClosed (option_map (room_of contents) before))
+    → HasAsked a b (IsClosed (Some (room_of contents part))) → HasAsked a b (IsClosed (option_map (room_of contents) before))
 closed contents before part a b is h = subst (λ room. HasAsked a b (IsClosed (option_map (room_of contents) room))) (sym is) h
 
 -- ---- what was answered
 
-pub put_answer : (folder text : List ℕ) (answer : Result ⊤ ShelfFault) (a b : Option (List DiskStep)) (disk : Change ShelfDisk) → HasAsked a b (IsPutOn (closing_in folder text disk.before) (fault_of answer) disk)
-    → HasAsked a b (AsksFor folder (put_step text answer) disk)
-put_answer folder text (Ok done) a b disk h = h
-put_answer folder text (Err fault) a b disk h = h
-
-pub add_answer : {T : Type 0} (contents : T → Option (List ℕ)) (folder name text : List ℕ) (before : Option (Part T)) (part part' : Part T) (answer : Result ⊤ ShelfFault) (a b : Option (List DiskStep))
-    → Some part ≡ before → string_bytes part'.name ≡ string_bytes part.name → OnOk answer (Appends (contents part.file) (contents part'.file) text) → OnOk answer (part'.length ≡ part.length + length text)
-    → OnOk answer (part'.kept ≡ true) → OnOk answer (HasAsked a b (λ steps. steps ≡ Did (SyncFile (contents part'.file)) ∷ []))
-    → IfErr answer (λ _. HasAsked a b (IsUnadded text (Some (room_of contents part)) (Some (room_of contents part'))))
-    → HasAsked a b (AsksFor folder (add_step text answer) (disk_at a name (option_map (room_of contents) before) ⇒ disk_at b name (Some (room_of contents part'))))
-add_answer contents folder name text before part part' (Ok done) a b is own appends longer kept synced unadded = added_on contents name text before part part' a b is own appends longer kept synced
-add_answer contents folder name text before part part' (Err fault) a b is own appends longer kept synced unadded = not_added_on contents name text before part part' a b is unadded
+pub put_answer : {T : Type 0} (contents : T → Option (List ℕ)) (folder name text : List ℕ) (answer : Result ⊤ ShelfFault) (before after : Option (Part T)) (a b : Option (List DiskStep))
+    → HasAsked a b (IsPutOn contents folder name text (fault_of answer) before after)
+    → HasAsked a b (AsksFor folder (put_step text answer) (disk_at a name (option_map (room_of contents) before) ⇒ disk_at b name (option_map (room_of contents) after)))
+put_answer contents folder name text (Ok done) before after a b h = h
+put_answer contents folder name text (Err fault) before after a b h = h
 
 -- ---- a part that was left
 
--- nothing was changed
-idle_join : (one two : List DiskStep) → LeaveAll one → LeaveAll two → LeaveAll (one ++ two)
-idle_join [] two i j = j
-idle_join (Did request ∷ one) two i j = (i.0, idle_join one two i.1 j)
-idle_join (Failed request ∷ one) two i j = (i.0, idle_join one two i.1 j)
-idle_join (LedTo name target ∷ one) two i j = absurd i
-
-pub still_idle : (a b c : Option (List DiskStep)) (steps : List DiskStep) → Tells a b steps → LeaveAll steps → HasAsked b c LeaveAll → HasAsked a c LeaveAll
-still_idle a b c steps g idle h = (steps ++ h.0, tells_join a b c steps h.0 g h.1, idle_join steps h.0 idle h.2)
-
 -- the folder is opened, and the part is taken up
 pub resumed : (name own folder : List ℕ) (held : Option (List ℕ)) (a b c : Option (List DiskStep)) → own ≡ part_name name → Tells a b (Did (Open ReadOnly folder) ∷ [])
-    → HasAsked b c (λ steps. steps ≡ Did (FindSoleFile own) ∷ Did (Open ReadWrite own) ∷ Did (Hold own) ∷ Did (Open ReadOnly own) ∷ Did (Open ReadWrite own) ∷ Did (FindFile own held) ∷ [])
-    → HasAsked a c (λ steps. steps ≡ resuming (part_name name) folder held)
+    → HasAsked b c (λ steps. steps ≡ taking_left own held) → HasAsked a c (λ steps. steps ≡ Did (Open ReadOnly folder) ∷ taking_left (part_name name) held)
 resumed name own folder held a b c is opened taken = (
   Did (Open ReadOnly folder) ∷ taken.0,
   tells_join a b c (Did (Open ReadOnly folder) ∷ []) taken.0 opened taken.1,
-  ap (λ steps. Did (Open ReadOnly folder) ∷ steps) taken.2 ∙ ap (λ n. resuming n folder held) is,
+  ap (λ steps. Did (Open ReadOnly folder) ∷ steps) (taken.2 ∙ ap (λ n. taking_left n held) is),
 )
 
 -- how a part that was taken up is called of a shelf
 pub has_part_on : {T : Type 0} (opened : T → List ℕ → Type 0) (contents : T → Option (List ℕ)) (name numbers : List ℕ) (room : Option Room) (part : Part T) (a b : Option (List DiskStep))
     → string_bytes part.name ≡ part_name name → part.length ≡ 0 → (part.kept ≡ false → numbers ≡ []) → OnSome b (contents part.file ≡ Some []) → OnSome b (contents part.held ≡ Some [])
-    → (folder : List ℕ) × opened part.folder folder × IsFolderOf name folder × HasAsked a b (λ steps. steps ≡ resuming (part_name name) folder (contents part.held))
+    → (folder : List ℕ) × opened part.folder folder × IsFolderOf name folder × HasAsked a b (λ steps. steps ≡ Did (Open ReadOnly folder) ∷ taking_left (part_name name) (contents part.held))
     → (folder : List ℕ) × IsFolderOpened opened (Some part) folder
     × HasAsked a b (HasPart folder numbers (disk_at a name room ⇒ disk_at b name (Some (room_of contents part))))
 has_part_on opened contents name numbers room part a b own empty stays fresh untouched taken = (
@@ -364,16 +385,9 @@ has_part_on opened contents name numbers room part a b own empty stays fresh unt
       held = contents part.held;
       untouched = untouched;
       resumed = taken.3.2;
-      written = contents part.file;
       kept = part.kept;
       stays = stays;
-      room = λ i. Some (record { name = own i; written = contents part.file; length = empty i; kept = part.kept });
-      fresh = fresh;
-      name = refl;
+      room = (contents part.file, (λ i. Some (record { name = own i; written = contents part.file; length = empty i; kept = part.kept })), fresh);
     },
   ),
 )
-
-pub no_part_on : (name : List ℕ) (room : Option Room) (a b : Option (List DiskStep)) → HasAsked a b LeaveAll
-    → HasAsked a b (HasNoPart (disk_at a name room ⇒ disk_at b name room))
-no_part_on name room a b h = (h.0, h.1, record { idle = h.2; room = refl; name = refl })

@@ -1,5 +1,4 @@
 pub mod FoundPart
-pub mod Room
 pub mod SavedSteps
 pub mod SavedTape
 pub mod Shelf

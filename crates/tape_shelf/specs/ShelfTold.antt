@@ -1,10 +1,10 @@
 -- What a shelf tells of the steps that were done on it, and what each of them asks of its disk.
-use Rattle.std.specs.Prelude.{◌≡◌, ℕ, List, [], ◌∷◌, Option, Some, None}
+use Rattle.std.specs.Prelude.{◌≡◌, ℕ, true, false, List, [], ◌∷◌, Option, Some, None}
 use Rattle.host_devices.specs.Told.{Gains}
 use Rattle.record_file.specs.DiskStep.{DiskStep}
 use Rattle.request_values.specs.Change.{Change}
 use Rattle.tape_shelf.specs.Shelf.{ShelfStep, Reserve, NotReserved, Resume, NotResumed, Add, NotAdded, Put, NotPut}
-use Rattle.tape_shelf.specs.ShelfDisk.{ShelfDisk, ShelfAsked, HasRoom, HasNoRoom, HasPart, HasNoPart, IsAdded, IsNotAdded, IsPutOn, closing_in}
+use Rattle.tape_shelf.specs.ShelfDisk.{ShelfDisk, ShelfAsked, HasRoom, HasPart, IsAdding, IsNotReserved, IsPut, LeaveAll}
 
 -- what was asked of it so far, in its order; the disk on which its tape goes, if on any; and the text that an earlier save left there. Each is None
 -- where its type doesn't tell
@@ -17,16 +17,18 @@ pub record ShelfTold : Type 0 where
 abbrev pub untold_shelf : ShelfTold
 untold_shelf = record { steps = None; disk = None; left = None }
 
--- what a step asks of the disk, where the folder of the tape has this name
+-- what a step asks of the disk, where the folder of the tape has this name, and what comes of the room there
 abbrev pub AsksFor : List ℕ → ShelfStep → Change ShelfDisk → List DiskStep → Type 0
-AsksFor folder (Reserve length) disk = HasRoom folder length disk
-AsksFor folder (NotReserved length fault) disk = HasNoRoom fault disk
-AsksFor folder (Resume numbers) disk = HasPart folder numbers disk
-AsksFor folder (NotResumed fault) disk = HasNoPart disk
-AsksFor folder (Add text) disk = IsAdded text disk
-AsksFor folder (NotAdded text) disk = IsNotAdded text disk
-AsksFor folder (Put text) disk = IsPutOn (closing_in folder text disk.before) None disk
-AsksFor folder (NotPut text fault) disk = IsPutOn (closing_in folder text disk.before) (Some fault) disk
+AsksFor folder (Reserve length) disk steps = HasRoom folder length disk steps
+AsksFor folder (NotReserved length fault) disk steps = IsNotReserved disk.before.name fault steps × (disk.after.room ≡ disk.before.room)
+AsksFor folder (Resume numbers) disk steps = HasPart folder numbers disk steps
+AsksFor folder (NotResumed fault) disk steps = LeaveAll steps × (disk.after.room ≡ disk.before.room)
+AsksFor folder (Add text) disk steps = IsAdding text true disk.before.room disk.after.room steps
+AsksFor folder (NotAdded text) disk steps = IsAdding text false disk.before.room disk.after.room steps
+AsksFor folder (Put text) disk steps =
+    IsPut (record { folder = folder; name = disk.before.name }) text disk.before.room None steps × (disk.after.room ≡ None)
+AsksFor folder (NotPut text fault) disk steps =
+    IsPut (record { folder = folder; name = disk.before.name }) text disk.before.room (Some fault) steps × (disk.after.room ≡ None)
 
 -- a step was done on a shelf
 abbrev pub IsDone : List ℕ → ShelfStep → ShelfTold → ShelfTold → Type 0

@@ -1,16 +1,17 @@
 //! The file of a saved tape, which comes to its name whole and replaces nothing.
-ghost use Rattle.std.specs.Prelude.{◌≡◌, ◌+◌, ◌∷◌, List, ℕ, Option, None, Some, [], IfErr, IfOk, IfSome, OnOk, OnSome, length, is_some, option_map};
-ghost use Rattle.std.specs.Prelude.{◌↔◌, IsTrue, false, replicate, true};
+ghost use Rattle.std.specs.Prelude.{◌≡◌, ◌+◌, ◌∷◌, List, ℕ, Option, None, Some, [], IfErr, IfOk, IfSome, MatchOption, OnErr, OnOk, OnSome, length, option_map};
+ghost use Rattle.std.specs.Prelude.{◌↔◌, IsTrue, false, replicate, true, ⊤};
+ghost use Rattle.std.specs.Bool.{OnFalse, OnTrue};
 ghost use Rattle.std.specs.Io.KnownBytes.{Appends};
 ghost use Rattle.std.specs.String.{string_bytes};
 ghost use Rattle.host_devices.specs.Failures.{fault_of};
 ghost use Rattle.host_devices.specs.Told.{HasAsked};
-ghost use Rattle.record_file.specs.DiskStep.{Did, Failed, HoldStill, Link, LookAtName, SyncFile};
+ghost use Rattle.record_file.specs.DiskStep.{AreAside, Did, Failed, Hold, HoldStill, LeaveAllBut, Link, Open, SyncFile, SyncFolder};
+ghost use Rattle.record_file.specs.DiskStep.{held_behind};
 ghost use Rattle.record_file.specs.Folder.{IsFolderOf};
-ghost use Rattle.tape_shelf.specs.Room.{IsFolderOpened, room_of};
 ghost use Rattle.tape_shelf.specs.Shelf.{IsPutFault};
-ghost use Rattle.tape_shelf.specs.ShelfDisk.{part_name, IsReserved, IsNotReserved, IsNoFileName, IsSearch, IsMakingHeld, IsTaking, IsTakingHeld};
-ghost use Rattle.tape_shelf.specs.ShelfDisk.{Place, IsClosed, IsGone, IsLeftBehind, IsNamed, IsNaming, IsOnDisk, IsPut, IsSettling, IsTakenBack, IsUnadded};
+ghost use Rattle.tape_shelf.specs.ShelfDisk.{part_name, making, room_of, syncing, IsNoFileName, IsSearch};
+ghost use Rattle.tape_shelf.specs.ShelfDisk.{Place, IsAdding, IsClosed, IsGone, IsNamed, IsNaming, IsPut, IsTakenBack, LeaveAll};
 
 use crate::left_part::take_left;
 use crate::shelf::{Shelf, ShelfFault};
@@ -102,7 +103,7 @@ impl<D: Disk> Shelf for NewFile<'_, D> {
       left = D.holds shelf.disk (part_name shelf.name.now);
     } };
 
-    ghost is_opened_as = { λ shelf. IsFolderOpened D.is_opened_as shelf.part };
+    ghost is_opened_as = { λ shelf folder. IfSome shelf.part (λ files. D.is_opened_as files.folder folder) };
 
     // `PartIsThere` also comes where another save writes the tape of this name.
     fn reserve(&mut self, alloc: Global, length: usize) -> Result<(), ShelfFault> {
@@ -152,10 +153,9 @@ fn make_part<D: Disk>(
     ensures filled { IfOk result (λ part. OnSome (D.asked disk.new) (D.File.contents part.held ≡ Some (replicate length 0))) }
     ensures asked { IfOk result (λ part. (folder : List ℕ) × D.is_opened_as part.folder folder × IsFolderOf name.now folder
         × HasAsked (D.asked disk.old) (D.asked disk.new)
-        (λ steps. IsReserved name.now folder (D.File.contents part.held) (Failed (LookAtName name.now) ∷ steps))) }
+        (λ steps. steps ≡ Did (Open Access.ReadOnly folder) ∷ making (part_name name.now) folder (D.File.contents part.held))) }
     ensures left { IfErr result (λ fault. fault ≡ ShelfFault.PartIsThere → HoldStill (D.holds disk.old) (D.holds disk.new)) }
-    ensures failed { IfErr result (λ fault.
-        HasAsked (D.asked disk.old) (D.asked disk.new) (λ steps. IsNotReserved name.now fault (Failed (LookAtName name.now) ∷ steps))) }
+    ensures failed { OnErr result (HasAsked (D.asked disk.old) (D.asked disk.new) (AreAside (part_name name.now) false)) }
 {
     let Ok(folder) = disk.open(Access::ReadOnly, folder_of(name)) else {
         return Err(ShelfFault::Write);
@@ -180,7 +180,8 @@ fn make_part<D: Disk>(
 }
 
 // Makes a file, holds it, takes room by filling it, and opens it once more, to be written from its front on.
-// One that can't be filled goes. The fault is `PartIsThere` or `Write`.
+// One that can't be filled goes, and one whose name somebody has taken is left to him. The fault is `PartIsThere`
+// or `Write`.
 fn make_filled<D: Disk>(
     disk: &mut D,
     name: &str,
@@ -191,14 +192,20 @@ fn make_filled<D: Disk>(
         → OnSome (D.asked disk.new) (D.File.contents files.0 ≡ Some zeros.now)) }
     ensures fresh { IfOk result (λ files. OnSome (D.asked disk.new) (D.File.contents files.1 ≡ Some [])) }
     ensures made { IfOk result (λ files. (dir : List ℕ) → D.is_opened_as folder.now dir
-        → HasAsked (D.asked disk.old) (D.asked disk.new) (IsTakingHeld name.now dir (D.File.contents files.0) None)) }
+        → HasAsked (D.asked disk.old) (D.asked disk.new) (λ steps. steps ≡ making name.now dir (D.File.contents files.0))) }
     ensures left { IfErr result (λ fault. fault ≡ ShelfFault.PartIsThere → HoldStill (D.holds disk.old) (D.holds disk.new)) }
-    ensures not_made { IfErr result (λ fault. (dir : List ℕ) → D.is_opened_as folder.now dir
-        → (zeros : Option (List ℕ)) × HasAsked (D.asked disk.old) (D.asked disk.new) (IsTakingHeld name.now dir zeros (Some fault))) }
+    ensures not_made { OnErr result ((dir : List ℕ) → D.is_opened_as folder.now dir
+        → HasAsked (D.asked disk.old) (D.asked disk.new) (AreAside name.now false)) }
 {
     match make_held(disk, name) {
         Ok(mut held) => match take_room(disk, name, folder, &mut held, zeros) {
-            Some(file) => Ok((held, file)),
+            Some(file) => {
+                if disk.has_name(name, &held) {
+                    Ok((held, file))
+                } else {
+                    Err(ShelfFault::Write)
+                }
+            }
             None => {
                 let_go(disk, name, &held);
                 Err(ShelfFault::Write)
@@ -209,7 +216,7 @@ fn make_filled<D: Disk>(
 }
 
 // Fills a file that was made under a name with these bytes, brings it and its name to the disk, and opens it
-// once more. None where that can't be, or somebody has taken its name.
+// once more. None where that can't be.
 fn take_room<D: Disk>(
     disk: &mut D,
     name: &str,
@@ -219,8 +226,10 @@ fn take_room<D: Disk>(
 ) -> Option<D::File>
     ensures filled { OnSome result (Appends (D.File.contents held.old) (D.File.contents held.new) zeros.now) }
     ensures fresh { IfSome result (λ file. OnSome (D.asked disk.new) (D.File.contents file ≡ Some [])) }
-    ensures asked { (dir : List ℕ) → D.is_opened_as folder.now dir
-        → HasAsked (D.asked disk.old) (D.asked disk.new) (IsTaking name.now dir (D.File.contents held.new) (is_some result)) }
+    ensures asked { (dir : List ℕ) → D.is_opened_as folder.now dir → IfSome result (λ _. HasAsked (D.asked disk.old) (D.asked disk.new) (λ steps.
+        steps ≡ Did (SyncFile (D.File.contents held.new)) ∷ Did (SyncFolder dir) ∷ Did (Open Access.ReadWrite name.now) ∷ [])) }
+    ensures failed { (dir : List ℕ) → D.is_opened_as folder.now dir → MatchOption result
+        (HasAsked (D.asked disk.old) (D.asked disk.new) (λ steps. LeaveAllBut name.now true steps × (held_behind true steps ≡ true))) (λ _. ⊤) }
 {
     if write_and_flush(held, zeros).is_err() {
         return None;
@@ -232,13 +241,7 @@ fn take_room<D: Disk>(
         return None;
     }
     match disk.open(Access::ReadWrite, name) {
-        Ok(file) => {
-            if disk.has_name(name, held) {
-                Some(file)
-            } else {
-                None
-            }
-        }
+        Ok(file) => Some(file),
         Err(_) => None,
     }
 }
@@ -247,7 +250,8 @@ fn take_room<D: Disk>(
 // can't be made, or somebody else holds it.
 fn make_held<D: Disk>(disk: &mut D, name: &str) -> Result<D::File, ShelfFault>
     ensures fresh { IfOk result (λ file. OnSome (D.asked disk.new) (D.File.contents file ≡ Some [])) }
-    ensures asked { HasAsked (D.asked disk.old) (D.asked disk.new) (IsMakingHeld name.now (fault_of result)) }
+    ensures asked { OnOk result (HasAsked (D.asked disk.old) (D.asked disk.new) (λ steps. steps ≡ Did (Open Access.New name.now) ∷ Did (Hold name.now) ∷ [])) }
+    ensures failed { OnErr result (HasAsked (D.asked disk.old) (D.asked disk.new) (AreAside name.now false)) }
     ensures left { HoldStill (D.holds disk.old) (D.holds disk.new) }
 {
     match disk.open(Access::New, name) {
@@ -268,13 +272,10 @@ fn make_held<D: Disk>(disk: &mut D, name: &str) -> Result<D::File, ShelfFault>
 fn add_to<D: Disk>(disk: &mut D, beside: &mut Part<D::File>, text: &[u8]) -> Result<(), ShelfFault>
     ensures fault { IfErr result (λ fault. fault ≡ ShelfFault.Write) }
     ensures folder { beside.new.folder ≡ beside.old.folder }
-    ensures name { string_bytes beside.new.name ≡ string_bytes beside.old.name }
-    ensures appends { OnOk result (Appends (D.File.contents beside.old.file) (D.File.contents beside.new.file) text.now) }
-    ensures length { OnOk result (beside.new.length ≡ beside.old.length + length text.now) }
-    ensures kept { OnOk result (beside.new.kept ≡ true) }
-    ensures synced { OnOk result (HasAsked (D.asked disk.old) (D.asked disk.new) (λ steps. steps ≡ Did (SyncFile (D.File.contents beside.new.file)) ∷ [])) }
-    ensures not_added { IfErr result (λ _. HasAsked (D.asked disk.old) (D.asked disk.new)
-        (IsUnadded text.now (Some (room_of D.File.contents beside.old)) (Some (room_of D.File.contents beside.new)))) }
+    ensures added { OnOk result (HasAsked (D.asked disk.old) (D.asked disk.new)
+        (IsAdding text.now true (Some (room_of D.File.contents beside.old)) (Some (room_of D.File.contents beside.new)))) }
+    ensures not_added { OnErr result (HasAsked (D.asked disk.old) (D.asked disk.new)
+        (IsAdding text.now false (Some (room_of D.File.contents beside.old)) (Some (room_of D.File.contents beside.new)))) }
 {
     let Some(length) = beside.length.checked_add(text.len() as u64) else {
         return Err(ShelfFault::Write);
@@ -301,7 +302,7 @@ fn put_into<D: Disk>(
     ensures fault { IfErr result IsPutFault }
     ensures asked { (folder : List ℕ) → D.is_opened_as part.folder folder
         → HasAsked (D.asked disk.old) (D.asked disk.new)
-        (IsPut (record { place = record { folder = folder; name = name.now }; text = text.now }) (room_of D.File.contents part) (fault_of result)) }
+        (IsPut (record { folder = folder; name = name.now }) text.now (Some (room_of D.File.contents part)) (fault_of result)) }
 {
     let Some(length) = part.length.checked_add(text.len() as u64) else {
         leave(disk, &part);
@@ -315,7 +316,8 @@ fn put_into<D: Disk>(
     name_written(disk, &part, name)
 }
 
-// Brings the file beside to the disk, and then gives it its name.
+// Brings the file beside to the disk, and then gives it its name, and takes its own away once the folder is on the
+// disk, too. Where that fails the new name goes.
 fn name_written<D: Disk>(disk: &mut D, part: &Part<D::File>, name: &str) -> Result<(), ShelfFault>
     ensures fault { IfErr result IsPutFault }
     ensures asked { (folder : List ℕ) → D.is_opened_as part.now.folder folder
@@ -326,32 +328,9 @@ fn name_written<D: Disk>(disk: &mut D, part: &Part<D::File>, name: &str) -> Resu
         return Err(ShelfFault::Write);
     }
     match give_name(disk, part.name.as_str(), &part.file, name) {
-        Ok(()) => settle(disk, part, name),
-        Err(fault) => Err(fault),
+        Ok(()) => {}
+        Err(fault) => return Err(fault),
     }
-}
-
-// Cuts the file beside behind what was written to it, and brings it to the disk. False where that fails, or
-// somebody has taken its name.
-fn is_on_disk<D: Disk>(disk: &mut D, part: &Part<D::File>) -> bool
-    ensures asked { HasAsked (D.asked disk.old) (D.asked disk.new) (IsOnDisk (room_of D.File.contents part.now) result) }
-{
-    if disk.cut(&part.file, part.length).is_err() {
-        return false;
-    }
-    if disk.sync_file(&part.file).is_err() {
-        return false;
-    }
-    disk.has_name(part.name.as_str(), &part.file)
-}
-
-// Brings the folder to the disk, and takes the file's own name away. Where that fails the new name goes.
-fn settle<D: Disk>(disk: &mut D, part: &Part<D::File>, name: &str) -> Result<(), ShelfFault>
-    ensures fault { IfErr result IsPutFault }
-    ensures asked { (folder : List ℕ) → D.is_opened_as part.now.folder folder
-        → HasAsked (D.asked disk.old) (D.asked disk.new)
-        (IsSettling (record { folder = folder; name = name.now }) (room_of D.File.contents part.now) (fault_of result)) }
-{
     match disk.sync_folder(&part.folder) {
         Ok(()) => {
             let_go(disk, part.name.as_str(), &part.file);
@@ -362,6 +341,22 @@ fn settle<D: Disk>(disk: &mut D, part: &Part<D::File>, name: &str) -> Result<(),
             Err(ShelfFault::Write)
         }
     }
+}
+
+// Cuts the file beside behind what was written to it, and brings it to the disk. False where that fails, or
+// somebody has taken its name.
+fn is_on_disk<D: Disk>(disk: &mut D, part: &Part<D::File>) -> bool
+    ensures asked { OnTrue result (HasAsked (D.asked disk.old) (D.asked disk.new) (λ steps. steps ≡ syncing (room_of D.File.contents part.now))) }
+    ensures failed { (place : Place) → OnFalse result
+        (HasAsked (D.asked disk.old) (D.asked disk.new) (IsNamed place (room_of D.File.contents part.now) (Some ShelfFault.Write))) }
+{
+    if disk.cut(&part.file, part.length).is_err() {
+        return false;
+    }
+    if disk.sync_file(&part.file).is_err() {
+        return false;
+    }
+    disk.has_name(part.name.as_str(), &part.file)
 }
 
 // Takes the new name away from a file, which has its own again. No byte of it is lost.
@@ -379,7 +374,8 @@ fn take_back<D: Disk>(disk: &mut D, own: &str, file: &D::File, name: &str)
 // for right before.
 fn give_name<D: Disk>(disk: &mut D, own: &str, file: &D::File, name: &str) -> Result<(), ShelfFault>
     ensures fault { IfErr result IsPutFault }
-    ensures asked { HasAsked (D.asked disk.old) (D.asked disk.new) (IsNaming own.now name.now (fault_of result)) }
+    ensures asked { OnOk result (HasAsked (D.asked disk.old) (D.asked disk.new) (IsNaming own.now name.now)) }
+    ensures failed { OnErr result (HasAsked (D.asked disk.old) (D.asked disk.new) LeaveAll) }
 {
     match disk.link(own, name) {
         Ok(()) => Ok(()),
@@ -396,8 +392,8 @@ fn rename_to_free<D: Disk>(
     name: &str,
 ) -> Result<(), ShelfFault>
     ensures fault { IfErr result IsPutFault }
-    ensures asked { HasAsked (D.asked disk.old) (D.asked disk.new)
-        (λ steps. IsNaming own.now name.now (fault_of result) (Failed (Link own.now name.now) ∷ steps)) }
+    ensures asked { OnOk result (HasAsked (D.asked disk.old) (D.asked disk.new) (λ steps. IsNaming own.now name.now (Failed (Link own.now name.now) ∷ steps))) }
+    ensures failed { OnErr result (HasAsked (D.asked disk.old) (D.asked disk.new) LeaveAll) }
 {
     match find_free(disk, name) {
         Ok(()) => match disk.rename(file, own, name) {
@@ -410,8 +406,7 @@ fn rename_to_free<D: Disk>(
 
 // Lets the file beside go. It stays, where there is a block in it.
 fn leave<D: Disk>(disk: &mut D, part: &Part<D::File>)
-    ensures asked { HasAsked (D.asked disk.old) (D.asked disk.new)
-        (IsLeftBehind part.now.kept (string_bytes part.now.name) (D.File.contents part.now.file)) }
+    ensures asked { HasAsked (D.asked disk.old) (D.asked disk.new) (IsClosed (Some (room_of D.File.contents part.now))) }
 {
     if !part.kept {
         let_go(disk, part.name.as_str(), &part.file);

@@ -1,5 +1,6 @@
+use Rattle.record_file.proofs.Aside.{but_join}
 use Rattle.record_file.proofs.Asking.{asked_one}
-use Rattle.record_file.proofs.Rows.{but_join, failed_join, not_held_then, then_held}
+use Rattle.record_file.proofs.Rows.{failed_join, not_held_then, then_held}
 use Rattle.record_file.proofs.disk_record.make_beside.Goals as goal
 
 pub returns-then-hold-clause-asked : goal.returns-then-hold-clause-asked

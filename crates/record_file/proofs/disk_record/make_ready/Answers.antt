@@ -24,7 +24,7 @@ returns-then-is_named-clause-asked g c = ready_file _ _ _ _ _ _ c.if-held.false
     (same_place _ _ _ _ _ c.in_ok-size.ensures.kind c.in_ok-sync_place.ensures.asked) c.if-is_named.ensures.asked
 
 pub returns-else-is_named-clause-failed : goal.returns-else-is_named-clause-failed
-returns-else-is_named-clause-failed g c = unready_file _ _ _ _ _ _ (same_place _ _ _ _ _ c.in_ok-size.ensures.kind c.in_ok-sync_place.ensures.asked)
+returns-else-is_named-clause-failed g c = unready_file _ _ _ _ _ (same_place _ _ _ _ _ c.in_ok-size.ensures.kind c.in_ok-sync_place.ensures.asked)
     c.if-is_named.ensures.asked
 
 pub returns-then-held-clause-size : goal.returns-then-held-clause-size

@@ -20,7 +20,7 @@ returns-in_default-open-clause-failed g c = on_err c.without_folder.result
 pub returns-in-Ok-sync_folder-clause-asked : goal.returns-in-Ok-sync_folder-clause-asked
 returns-in-Ok-sync_folder-clause-asked g c = asked_one _ _ _ (tells_join _ _ _ _ _ c.in-Ok.ensures.asked
     (tells_join _ _ _ _ _ c.in-Ok-open.ensures.asked (c.in-Ok-sync_folder.ensures.asked _ c.in-Ok-open.ensures.opened)))
-    (FolderOpened _ _ (subst (λ target. IsFolderOf target c.folder_of.result.now) c.as_str.ensures c.folder_of.ensures))
+    (FolderOpened _ _ (subst (λ target. IsFolderOf target c.folder_of.result.now) c.as_str.ensures c.folder_of.ensures), ((λ held. tt), refl))
 
 pub returns-clause-failed : goal.returns-clause-failed
 returns-clause-failed g c = asked_one _ _ _ (tells_join _ _ _ _ _ c.in-Ok.ensures.asked

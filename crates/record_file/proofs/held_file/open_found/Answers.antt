@@ -9,8 +9,8 @@ returns-in-Ok-clause-asked g c = asked_one _ _ _ c.in-Ok.ensures.asked Writable
 pub returns-in-Ok-open-clause-asked : goal.returns-in-Ok-open-clause-asked
 returns-in-Ok-open-clause-asked g c = asked_one _ _ _ (tells_join _ _ _ _ _ c.in_default.ensures.asked c.in-Ok-open.ensures.asked) Protected
 
-pub returns-in-Err-clause-asked : goal.returns-in-Err-clause-asked
-returns-in-Err-clause-asked g c = asked_one _ _ _ (tells_join _ _ _ _ _ c.in_default.ensures.asked c.in-Err.ensures.asked) Refused
+pub returns-in-Err-clause-failed : goal.returns-in-Err-clause-failed
+returns-in-Err-clause-failed g c = asked_one _ _ _ (tells_join _ _ _ _ _ c.in_default.ensures.asked c.in-Err.ensures.asked) Refused
 
 pub returns-in-Err-2-clause-failed : goal.returns-in-Err-2-clause-failed
 returns-in-Err-2-clause-failed g c = asked_one _ _ _ (tells_join _ _ _ _ _ c.in_default.ensures.asked c.in-Err.ensures.asked) Refused

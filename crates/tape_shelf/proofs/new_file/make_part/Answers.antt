@@ -1,17 +1,16 @@
-use Rattle.std.proofs.Common.{◌∙◌, rules}
+use Rattle.std.proofs.Common.{◌∙◌, refl, rules}
 use Rattle.record_file.proofs.Asking.{asked_one}
-use Rattle.tape_shelf.specs.ShelfDisk.{NoFolder, NoMemory}
 use Rattle.tape_shelf.proofs.OnShelf.{reserved, not_made}
 use Rattle.tape_shelf.proofs.new_file.make_part.Goals as goal
 
 pub returns-in_default-clause-failed : goal.returns-in_default-clause-failed
-returns-in_default-clause-failed g c = asked_one _ _ _ c.in_default.ensures.asked (NoFolder _ c.folder_of.ensures)
+returns-in_default-clause-failed g c = asked_one _ _ _ c.in_default.ensures.asked ((λ held. tt), refl)
 
 pub returns-in_default-format-clause-failed : goal.returns-in_default-format-clause-failed
-returns-in_default-format-clause-failed g c = asked_one _ _ _ c.in-Ok.ensures.asked (NoMemory _ c.folder_of.ensures)
+returns-in_default-format-clause-failed g c = asked_one _ _ _ c.in-Ok.ensures.asked ((λ held. tt), refl)
 
 pub returns-in_default-vec-clause-failed : goal.returns-in_default-vec-clause-failed
-returns-in_default-vec-clause-failed g c = asked_one _ _ _ c.in-Ok.ensures.asked (NoMemory _ c.folder_of.ensures)
+returns-in_default-vec-clause-failed g c = asked_one _ _ _ c.in-Ok.ensures.asked ((λ held. tt), refl)
 
 pub returns-in-Ok-make_filled-clause-named : goal.returns-in-Ok-make_filled-clause-named
 returns-in-Ok-make_filled-clause-named g c = c.in-Ok-format.ensures.ok
@@ -22,7 +21,7 @@ returns-in-Ok-make_filled-clause-asked g c =
 
 pub returns-in-Err-clause-failed : goal.returns-in-Err-clause-failed
 returns-in-Err-clause-failed g c =
-    not_made _ _ _ _ _ _ _ c.folder_of.ensures (c.as_str.ensures.value ∙ c.in-Ok-format.ensures.ok) c.in-Ok.ensures.asked (c.in-Err.ensures.not_made _ c.in-Ok.ensures.opened)
+    not_made _ _ _ _ _ _ (c.as_str.ensures.value ∙ c.in-Ok-format.ensures.ok) c.in-Ok.ensures.asked (c.in-Err.ensures.not_made _ c.in-Ok.ensures.opened)
 
 pub returns-in-Ok-make_filled-clause-filled : goal.returns-in-Ok-make_filled-clause-filled
 returns-in-Ok-make_filled-clause-filled g c =

@@ -2,7 +2,7 @@
 """A simulated LSI-11 console behind a TCP port or a serial device, with a line that may lose or change characters, or break.
 
     tools/odt_peer.py [--port N | --device [--stty "SETTING.."]] [--console KIND] [--words N] [--style N]
-                      [--says TEXT] [--loss PERCENT] [--seed N] [--baud N] [--break-after N]
+                      [--says TEXT] [--loss PERCENT] [--seed N] [--baud N] [--break-after N] [--at-once]
 
 It is a second console, written from docs/CONSOLE.md alone, for trying `ldaodt` from outside: the built
 program meets a machine that shares no line of text with it. --console names one that is none as ldaodt
@@ -433,11 +433,12 @@ def main():
     words.add_argument("--seed", type=int, default=0)
     words.add_argument("--baud", type=int)
     words.add_argument("--break-after", type=int, help="characters, keys and answers together, after which the line is dead")
+    words.add_argument("--at-once", action="store_true", help="each answer as a whole, as a bridge may send it; alone")
     asked = words.parse_args()
     tell = lambda text: print(text, flush=True)
     says = asked.says.encode("latin-1").decode("unicode_escape")
     machine = CONSOLES[asked.console](asked.words, asked.style, [(0, says)])
-    named = {"loss": asked.loss / 100, "change": asked.change / 100, "seed": asked.seed, "close_after": asked.break_after, "baud": asked.baud, "tell": tell}
+    named = {"loss": asked.loss / 100, "change": asked.change / 100, "seed": asked.seed, "close_after": asked.break_after, "baud": asked.baud, "at_once": asked.at_once, "tell": tell}
     line = Device(machine, asked.stty, **named) if asked.device else Peer(machine, asked.port, **named)
     try:
         tell(line.name)

@@ -1,5 +1,5 @@
 -- What was heard so far, and then more.
-use Rattle.std.proofs.Common.{◌≡◌, ◌⊎◌, inl, inr, ℕ, ◌+◌, List, [], ◌∷◌, ◌++◌, length, map, Option, Some, None, Result, Ok, Err, OnErr, refl, sym, subst, ap, ◌∙◌, arith, length-append, append_assoc}
+use Rattle.std.proofs.Common.{◌≡◌, ◌⊎◌, inl, inr, ℕ, ◌+◌, List, [], ◌∷◌, ◌++◌, length, map, Option, Result, Ok, Err, OnErr, refl, sym, subst, ap, ◌∙◌, arith, length-append, append_assoc}
 use Rattle.std.proofs.lemmas.List.{map-append}
 use Rattle.std.proofs.KnownBytes.{Appends-trans}
 use Rattle.std.specs.Io.KnownBytes.{Appends}
@@ -9,7 +9,6 @@ use Rattle.host_core.specs.declared.heard.Heard.TheVariants.{Got, Quiet}
 use Rattle.host_devices.specs.Dialogue.{characters_of}
 use Rattle.host_devices.proofs.Told.{gains_join}
 use Rattle.host_devices.specs.Told.{Gains}
-use Rattle.host_devices.specs.declared.item.Item.{Item}
 use Rattle.host_devices.specs.declared.item.Item.TheVariants.{Heard as Came}
 use Rattle.console_lines.specs.Listening.{Copying, IsCopied, IsCopiedInPart, silences_behind}
 

@@ -1,3 +1,4 @@
+mod Ahead
 pub mod Asked
 mod Copied
 mod Dropping

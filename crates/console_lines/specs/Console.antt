@@ -1,7 +1,7 @@
 -- What a console and an output tell, before and after something was done there.
 use Rattle.std.specs.Prelude.{ℕ, List, Option}
 use Rattle.std.specs.declared.io.Write.{Ghosts as Write}
-use Rattle.console_lines.specs.declared.reach.Reach.{Ghosts as Reach}
+use Rattle.console_lines.specs.declared.consoles.Consoles.{Ghosts as Consoles}
 use Rattle.host_devices.specs.Devices.{LineTold}
 use Rattle.console_lines.specs.Dialling.{Call, LineRequest}
 
@@ -12,7 +12,7 @@ pub record ConsoleTold : Type 0 where
   pub lines : Option (List LineTold)
   pub out : Option (List ℕ)
 
--- what this console and this output tell
-abbrev pub console_told : {R L W : Type 0} → Reach R L → Write W → R → W → ConsoleTold
-console_told tell write console out =
-    record { asked = tell.asked console; call = tell.call console; lines = tell.lines console; out = write.contents out }
+-- what these consoles, of which this one is called, and this output tell
+abbrev pub console_told : {C L W : Type 0} → Consoles C L → Write W → Call → C → W → ConsoleTold
+console_told tell write call consoles out =
+    record { asked = tell.asked consoles; call = call; lines = tell.lines consoles; out = write.contents out }

@@ -7,4 +7,5 @@ pub mod Listening
 pub mod Looking
 pub mod Path
 pub mod Reached
+pub mod ReadAhead
 pub mod StreamLine

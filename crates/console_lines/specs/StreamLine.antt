@@ -1,11 +1,12 @@
 -- A line over a stream as one value.
-use Rattle.std.specs.Prelude.{◌≡◌, ℕ, Bool, List, Option, Some, None}
+use Rattle.std.specs.Prelude.{◌≡◌, ℕ, Bool, List, [], Option, Some, None}
 use Rattle.host_devices.specs.declared.fault.LineFault.{LineFault}
 use Rattle.host_devices.specs.Failures.{one_more}
 
--- the bytes that are still to come, those that went out, how often the time limit was met and whether the stream is at its end, where
--- the stream tells; how many calls failed, and how the last did
+-- what was read of the stream and is not heard yet; the bytes that are still to come, those first, which went out, how often the time limit
+-- was met and whether the stream is at its end, where the stream tells; how many calls failed, and how the last did
 pub record StreamLineValue : Type 0 where
+  pub ahead : List ℕ
   pub to_come : Option (List ℕ)
   pub gone_out : Option (List ℕ)
   pub silences : Option ℕ
@@ -13,10 +14,10 @@ pub record StreamLineValue : Type 0 where
   pub failures : ℕ
   pub fault : Option LineFault
 
--- a line on which nothing has been said
+-- a line on which nothing has been said, and of which nothing was read
 abbrev pub fresh_line : Option (List ℕ) → Option (List ℕ) → Option ℕ → Bool → StreamLineValue
 fresh_line to_come gone_out silences is_over =
-    record { to_come = to_come; gone_out = gone_out; silences = silences; is_over = is_over; failures = 0; fault = None }
+    record { ahead = []; to_come = to_come; gone_out = gone_out; silences = silences; is_over = is_over; failures = 0; fault = None }
 
 -- no call of the line has failed
 pub record IsFreshLine (line : StreamLineValue) : Type 0 where

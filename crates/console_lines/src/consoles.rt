@@ -2,10 +2,11 @@
 ghost use Rattle.std.specs.Prelude.{◌≡◌, [], ◌∷◌, List, Option, None, IfOk, IfErr};
 ghost use Rattle.host_devices.specs.Told.{Gains};
 ghost use Rattle.console_lines.specs.Dialling.{LineRequest, asked_for};
-ghost use Rattle.console_lines.specs.Path.{call_to};
+ghost use Rattle.console_lines.specs.Path.{call_of};
 ghost use Rattle.host_devices.specs.Devices.{LineTold, line_told};
 ghost use Rattle.console_lines.specs.Reached.{IsUnused, IsReachFault};
 
+use crate::dial::Dial;
 use host_devices::{Line, LineFault};
 
 /// The consoles of a system, each of which is reached by its name.
@@ -20,15 +21,14 @@ pub trait Consoles {
     ghost lines: { Self → Option (List LineTold) } = { λ _. None };
 
     /// Reaches the console that a name stands for, and gives a line on which nothing was said: of the serial device at
-    /// a path, where the name has a slash, else of whoever answers at HOST:PORT. No other console is asked for. The
-    /// quiet time is in milliseconds.
+    /// a path, where the name has a slash, else of whoever answers at HOST:PORT. No other console is asked for.
     ///
     /// `Connect` where the console can't be reached, and `Receive` where its line takes no such quiet
     /// time; it is then closed.
-    fn reach(&mut self, name: &str, quiet_ms: u32) -> Result<Self::Line, LineFault>
+    fn reach(&mut self, dial: Dial<'_>) -> Result<Self::Line, LineFault>
         ensures fresh { IfOk result (λ line. IsUnused (Self.Line.told line) (Self.Line.fault_count line) (Self.Line.last_fault line)) }
         ensures fault { IfErr result IsReachFault }
-        ensures asked { Gains (asked self.old) (asked self.new) (asked_for (call_to name.now quiet_ms) result) }
+        ensures asked { Gains (asked self.old) (asked self.new) (asked_for (call_of dial.entry) result) }
         ensures lines { lines self.new ≡ lines self.old };
 
     /// Takes a line back that it gave. What the line tells then is told from there on.

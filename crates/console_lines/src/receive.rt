@@ -1,7 +1,8 @@
-ghost use Rattle.std.specs.Prelude.{◌≡◌, ℕ, List, Option, None, Bool, true, false, IfOk, IfErr, Ok, Err};
+ghost use Rattle.std.specs.Prelude.{◌≡◌, ℕ, List, [], Option, None, Bool, true, false, IfOk, IfErr, Ok, Err};
 ghost use Rattle.std.specs.Io.{ReadsAtMost};
 ghost use Rattle.std.specs.Io.KnownBytes.{ReadConsumes};
-ghost use Rattle.console_lines.specs.Hearing.{GoesUpBy, IsReceipt, IsReceiptFault, limits_met, limits_of};
+ghost use Rattle.std.specs.IoError.{error_kind};
+ghost use Rattle.console_lines.specs.Hearing.{GoesUpBy, IsReceipt, IsReceiptFault, ends_waiting, limits_met, limits_of};
 
 use host_devices::LineFault;
 use std::io;
@@ -19,6 +20,9 @@ pub trait TimedStream: Write + OpenStream {
     /// The bytes that are still to come; None where the type doesn't tell.
     ghost to_come: { Self → Option (List ℕ) } = { λ _. None };
 
+    /// What of it was read and is not given yet.
+    ghost ahead: { Self → List ℕ } = { λ _. [] };
+
     /// How often the time limit was met; None where the type doesn't tell.
     ghost silences: { Self → Option ℕ } = { λ _. None };
 
@@ -33,6 +37,7 @@ pub trait TimedStream: Write + OpenStream {
         ensures bound { ReadsAtMost result buf.new }
         ensures bytes { ReadConsumes (to_come self.old) (to_come self.new) result buf.new }
         ensures limit { GoesUpBy (silences self.old) (silences self.new) (limits_of result) }
+        ensures none_ahead { IfErr result (λ error. ends_waiting (error_kind error) ≡ true → ahead self.new ≡ []) }
         ensures over { is_over self.old ≡ true → result ≡ Ok 0 };
 }
 
@@ -52,6 +57,7 @@ pub(crate) fn receive<S: TimedStream>(stream: &mut S) -> Result<Option<u8>, Line
     ensures received { IfOk result (IsReceipt (S.to_come stream.old) (S.to_come stream.new)) }
     ensures fault { IfErr result (IsReceiptFault (S.to_come stream.old) (S.to_come stream.new)) }
     ensures silence { GoesUpBy (S.silences stream.old) (S.silences stream.new) (limits_met result) }
+    ensures none_ahead { result ≡ Ok None → S.ahead stream.new ≡ [] }
     ensures over { S.is_over stream.old ≡ true → result ≡ Err LineFault.Closed }
 {
     let mut byte = [0u8; 1];

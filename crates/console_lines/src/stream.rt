@@ -1,5 +1,6 @@
 //! What is made of the bytes of a stream.
-ghost use Rattle.std.specs.Prelude.{◌≡◌, true, IfOk, IfErr, Err};
+ghost use Rattle.std.specs.Prelude.{◌≡◌, [], true, IfOk, IfErr, Ok, Err};
+ghost use Rattle.host_core.specs.declared.heard.Heard.TheVariants.{Quiet};
 ghost use Rattle.console_lines.specs.Hearing.{GoesUpBy, IsHearing, IsHearingFault, silences_of};
 
 use crate::receive::{TimedStream, receive};
@@ -18,6 +19,7 @@ pub(crate) fn hear_from<S: TimedStream>(stream: &mut S) -> Result<Heard, LineFau
     ensures heard { IfOk result (IsHearing (S.to_come stream.old) (S.to_come stream.new)) }
     ensures fault { IfErr result (IsHearingFault (S.to_come stream.old) (S.to_come stream.new)) }
     ensures silence { GoesUpBy (S.silences stream.old) (S.silences stream.new) (silences_of result) }
+    ensures none_ahead { result ≡ Ok Quiet → S.ahead stream.new ≡ [] }
     ensures over { S.is_over stream.old ≡ true → result ≡ Err LineFault.Closed }
 {
     for _ in 0..MOST_DROPPED {

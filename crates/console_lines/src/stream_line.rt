@@ -1,8 +1,10 @@
-ghost use Rattle.std.specs.Prelude.{◌≡◌, [], ◌∷◌, true, None, IfOk, IfErr, OnOk, Err};
+ghost use Rattle.std.specs.Prelude.{◌≡◌, [], ◌∷◌, true, None, IfOk, IfErr, OnOk, Ok, Err};
 ghost use Rattle.std.specs.Io.KnownBytes.{Appends};
 ghost use Rattle.host_devices.specs.Failures.{count_after, fault_of};
+ghost use Rattle.host_core.specs.declared.heard.Heard.TheVariants.{Quiet};
 ghost use Rattle.console_lines.specs.Hearing.{GoesUpBy, IsCharacter, IsHearing, IsHearingFault, IsSentInPart, silences_of};
 
+use crate::read_ahead::ReadAhead;
 use crate::receive::TimedStream;
 use crate::stream::hear_from;
 use host_core::Heard;
@@ -13,26 +15,29 @@ use std::time::Duration;
 
 /// A line over a stream: the console is behind its other end.
 ///
-/// Contracts see the bytes that are still to come, those that went out, how often the time limit was
-/// met and whether the stream is at its end, where the stream tells them, and how the line's calls
-/// failed.
+/// Contracts see what was read of the stream and not heard yet; the bytes that are still to come, those first, which went
+/// out, how often the time limit was met and whether the stream is at its end, where the stream tells them; and how the
+/// line's calls failed.
 #[derive(Drop)]
 pub struct StreamLine<S: TimedStream> {
-    stream: S,
+    stream: ReadAhead<S>,
     failures: u64,
     fault: Option<LineFault>,
 }
 
 impl<S: TimedStream> Model for StreamLine<S> {
+    ghost use Rattle.std.specs.Io.KnownBytes.{prepend_known};
+    ghost use Rattle.console_lines.specs.ReadAhead.{is_over_behind, left_ahead};
     ghost use Rattle.console_lines.specs.StreamLine.{StreamLineValue};
 
     ghost Value = { StreamLineValue };
 
     ghost view = { λ l. record {
-      to_come = S.to_come l.stream;
-      gone_out = S.contents l.stream;
-      silences = S.silences l.stream;
-      is_over = S.is_over l.stream;
+      ahead = left_ahead l.stream.bytes l.stream.given l.stream.filled;
+      to_come = prepend_known (left_ahead l.stream.bytes l.stream.given l.stream.filled) (S.to_come l.stream.stream);
+      gone_out = S.contents l.stream.stream;
+      silences = S.silences l.stream.stream;
+      is_over = is_over_behind (left_ahead l.stream.bytes l.stream.given l.stream.filled) (S.is_over l.stream.stream);
       failures = l.failures;
       fault = l.fault;
     } };
@@ -63,7 +68,7 @@ impl<S: TimedStream + Drop> StreamLine<S> {
         // no such delay, and no such setting either.
         let _ = stream.set_nodelay(true);
         StreamLine {
-            stream,
+            stream: ReadAhead::new(stream),
             failures: 0,
             fault: None,
         }
@@ -94,6 +99,7 @@ impl<S: TimedStream> Line for StreamLine<S> {
     fn send(&mut self, key: u8) -> Result<(), LineFault>
         ensures gone_out { OnOk result (Appends self.old.gone_out self.new.gone_out (key ∷ [])) }
         ensures failed { IfErr result (IsSentInPart self.old.gone_out self.new.gone_out key) }
+        ensures ahead { self.new.ahead ≡ self.old.ahead }
         ensures counted { self.new.failures ≡ count_after self.old.failures result }
         ensures fault { self.new.fault ≡ fault_of result }
     {
@@ -114,6 +120,7 @@ impl<S: TimedStream> Line for StreamLine<S> {
         ensures taken { IfOk result (IsHearing self.old.to_come self.new.to_come) }
         ensures failed { IfErr result (IsHearingFault self.old.to_come self.new.to_come) }
         ensures silence { GoesUpBy self.old.silences self.new.silences (silences_of result) }
+        ensures none_ahead { result ≡ Ok Quiet → self.new.ahead ≡ [] }
         ensures over { self.old.is_over ≡ true → result ≡ Err LineFault.Closed }
         ensures counted { self.new.failures ≡ count_after self.old.failures result }
         ensures fault { self.new.fault ≡ fault_of result }

@@ -4,6 +4,7 @@ ghost use Rattle.console_lines.specs.Path.{has_slash};
 
 use crate::consoles::Consoles;
 use crate::device_line::{DeviceLine, open_line};
+use crate::dial::Dial;
 use crate::outlets::Outlets;
 use crate::socket::SocketLine;
 use host_core::Heard;
@@ -74,9 +75,9 @@ impl<'c, O: Outlets, C: Clock> Consoles for SystemConsoles<'c, O, C> {
 
     fn reach(
         &mut self,
-        name: &str,
-        quiet_ms: u32,
+        dial: Dial<'_>,
     ) -> Result<ConsoleLine<SocketLine<O::Stream>, DeviceLine<'c, O::Terminal, C>>, LineFault> {
+        let Dial { name, quiet_ms } = dial;
         if is_path(name) {
             match open_line(&mut self.outlets, self.clock, name, quiet_ms) {
                 Ok(line) => Ok(ConsoleLine::Device(line)),

@@ -4,7 +4,7 @@ use crate::brittle_writer::Brittle;
 use crate::streams::{Faulty, Notes, Spoken};
 use crate::terminals::{Bench, PATH, Pace, Turn};
 use console_lines::{
-    Consoles, Devices, StreamLine, SystemConsoles, is_path, listen, silences_within,
+    Consoles, Devices, Dial, StreamLine, SystemConsoles, is_path, listen, silences_within,
 };
 use host_devices::{Line, LineFault};
 use std::alloc::Global;
@@ -124,7 +124,11 @@ fn is_heard_out<D: Devices + Net + Clock>(
         outlets: system,
         clock: system,
     };
-    let Ok(mut line) = consoles.reach(PATH, 1) else {
+    let dial = Dial {
+        name: PATH,
+        quiet_ms: 1,
+    };
+    let Ok(mut line) = consoles.reach(dial) else {
         return false;
     };
     let mut out = Brittle::new(alloc, 8, 0);
@@ -275,7 +279,11 @@ fn fault_of<D: Devices + Net + Clock>(system: &D, path: &str, quiet_ms: u32) -> 
         outlets: system,
         clock: system,
     };
-    match consoles.reach(path, quiet_ms) {
+    let dial = Dial {
+        name: path,
+        quiet_ms,
+    };
+    match consoles.reach(dial) {
         Ok(line) => {
             consoles.let_go(line);
             None

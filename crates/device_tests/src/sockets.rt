@@ -1,9 +1,10 @@
 //! Lines over sockets of 127.0.0.1, both ends in one thread, and over streams that fail as they are told.
 
-use crate::streams::{Faulty, Notes, TwoAddresses};
+use crate::streams::{Bursting, Faulty, Notes, TwoAddresses};
 use console_lines::SocketLine;
 use host_core::Heard;
 use host_devices::{Line, LineFault};
+use std::cell::Cell;
 use std::io::{ErrorKind, Read, Write};
 use std::net::{SocketAddr, TcpListener, TcpStream};
 use std::time::Duration;
@@ -233,5 +234,43 @@ fn a_key_that_failed_is_not_sent_again(rt: HostRuntime) {
     for row in &SENDINGS {
         let (kind, first) = *row;
         assert!(rt; is_not_sent_again(kind, first), "{kind:?}, call {first}");
+    }
+}
+
+// What comes at once, and by how many reads it is heard: 64 characters by one.
+const ANSWERS: [(&[u8], u32); 4] = [
+    (b"7", 1),
+    (b"/177777 ", 1),
+    (b"\r\r\n@", 1),
+    (
+        b"0123456789012345678901234567890123456789012345678901234567890123456",
+        2,
+    ),
+];
+
+// Whether a text is heard, each character once and in its order, by so many reads, and then the end. A key behind each
+// takes none of them away.
+fn is_heard_by(text: &'static [u8], reads: u32) -> bool {
+    let count = Cell::new(0);
+    let stream = Bursting {
+        text,
+        reads: &count,
+    };
+    let Ok(mut line) = SocketLine::new(stream, 50) else {
+        return false;
+    };
+    for character in text {
+        if line.hear() != Ok(Heard::Got(*character)) || line.send(b'Z').is_err() {
+            return false;
+        }
+    }
+    count.get() == reads && line.hear() == Err(LineFault::Closed)
+}
+
+#[test]
+fn what_came_is_read_at_once(rt: HostRuntime) {
+    for row in &ANSWERS {
+        let (text, reads) = *row;
+        assert!(rt; is_heard_by(text, reads), "{reads} reads");
     }
 }

@@ -199,3 +199,38 @@ impl OpenStream for Spoken<'_> {
         Ok(())
     }
 }
+
+/// A stream that says a text, as much with each read as there is room for, and is then at its end. It takes all that is
+/// written.
+#[derive(Drop)]
+pub(crate) struct Bursting<'a> {
+    pub(crate) text: &'static [u8],
+    pub(crate) reads: &'a Cell<u32>,
+}
+
+impl Read for Bursting<'_> {
+    fn read(&mut self, buf: &mut [u8]) -> io::Result<usize> {
+        self.reads.set(self.reads.get().saturating_add(1));
+        let count = self.text.len().min(buf.len());
+        let (front, rest) = self.text.split_at(count);
+        buf[..count].copy_from_slice(front);
+        self.text = rest;
+        Ok(count)
+    }
+}
+
+impl Write for Bursting<'_> {
+    fn write(&mut self, buf: &[u8]) -> io::Result<usize> {
+        Ok(buf.len())
+    }
+
+    fn flush(&mut self) -> io::Result<()> {
+        Ok(())
+    }
+}
+
+impl OpenStream for Bursting<'_> {
+    fn set_read_timeout(&self, _time: Option<Duration>) -> io::Result<()> {
+        Ok(())
+    }
+}

@@ -1,12 +1,12 @@
 //! A network and serial devices that tell what was asked of them, so that it can be met what is promised of that.
 ghost use Rattle.std.specs.Prelude.{◌≡◌, [], ◌∷◌, ◌++◌, Some};
 ghost use Rattle.std.specs.String.{string_bytes};
-ghost use Rattle.console_lines.specs.Path.{call_to};
+ghost use Rattle.console_lines.specs.Path.{call_of};
 ghost use Rattle.device_tests.specs.ToldOutlets.{asked_till};
 ghost use Rattle.simulated_system.specs.LineRequests.{asked_by, request};
 
 use crate::terminals::{Bench, PATH, Pace, Scripted};
-use console_lines::{Consoles, Device, Outlets, SystemConsoles, open_terminal};
+use console_lines::{Consoles, Device, Dial, Outlets, SystemConsoles, open_terminal};
 use host_devices::LineFault;
 use simulated_system::LineRequest;
 use std::alloc::Global;
@@ -94,16 +94,15 @@ impl<'a, R: Abort> Outlets for ToldOutlets<'a, R> {
 fn reach_once<'a, R: Abort>(
     outlets: ToldOutlets<'a, R>,
     bench: &'a Bench,
-    name: &str,
-    quiet_ms: u32,
+    dial: Dial<'_>,
 ) -> (Option<LineFault>, ToldOutlets<'a, R>)
-    ensures { asked_by result.1.asked.items ≡ asked_by outlets.entry.asked.items ++ asked_till (call_to name.now quiet_ms) result.0 }
+    ensures { asked_by result.1.asked.items ≡ asked_by outlets.entry.asked.items ++ asked_till (call_of dial.entry) result.0 }
 {
     let mut consoles = SystemConsoles {
         outlets,
         clock: bench,
     };
-    match consoles.reach(name, quiet_ms) {
+    match consoles.reach(dial) {
         Ok(line) => {
             consoles.let_go(line);
             (None, consoles.outlets)
@@ -144,7 +143,11 @@ fn a_console_is_asked_for_once(rt: HostRuntime) {
     let bench = Bench::new(&[], &[], Pace::Still);
     for (name, quiet_ms, wanted, is_device, limits) in &ROWS {
         let outlets = ToldOutlets::new(&rt, rt.alloc(), &bench);
-        let (fault, outlets) = reach_once(outlets, &bench, name, *quiet_ms);
+        let dial = Dial {
+            name,
+            quiet_ms: *quiet_ms,
+        };
+        let (fault, outlets) = reach_once(outlets, &bench, dial);
         assert!(rt; fault == *wanted, "{name}");
         assert!(rt; outlets.asked.len() == 1 + limits.len(), "{name}");
         assert!(rt; is_named(&outlets.asked[0], name, *is_device), "{name}");

@@ -16,7 +16,8 @@ use Rattle.engine.specs.Session.{HasGained, IsDone, Session, SessionTold, turns_
 use Rattle.engine.specs.Stopping.{IsFailure, keep_fault, line_fault}
 use Rattle.engine.specs.Ways.{GoesOn, Ways, led, said_all}
 use Rattle.engine.specs.declared.stop.Stop.{Stop}
-use Rattle.engine.specs.declared.stop.Stop.TheVariants.{Ended, LineFailed, KeepFailed, TurnsOver}
+use Rattle.engine.specs.declared.stop.Cut.TheVariants.{LineFailed, TurnsOver}
+use Rattle.engine.specs.declared.stop.Stop.TheVariants.{Ended, KeepFailed, CutOff}
 use Rattle.engine.proofs.Keepings.{kept_all, kept_front, kept_join, told_join}
 use Rattle.engine.proofs.Turns.{done_join, done_wider, goes_join, led_join}
 
@@ -52,7 +53,7 @@ led_none ways calls h s = record {
 
 -- the line fails at the hear
 pub turn_deaf : {Host End News K : Type 0} (ways : Ways Host End News) (calls : KeeperCalls K News) (fault : LineFault) (h : Host) (old new : Scene K) → new.keeper ≡ old.keeper → SaysNothing old.line.said new.line.said
-    → new.line.failures ≡ one_more old.line.failures → new.line.fault ≡ Some fault → IsLed calls 1 (turns_of ways h h (Some (LineFailed fault))) old new
+    → new.line.failures ≡ one_more old.line.failures → new.line.fault ≡ Some fault → IsLed calls 1 (turns_of ways h h (Some (CutOff (LineFailed fault)))) old new
 turn_deaf {Host} {End} {News} {K} ways calls fault h old new same nothing counted named =
     let P : K → Type 0 = λ keeper. Gains (calls.told old.keeper) (calls.told keeper) [] in
     record {
@@ -118,7 +119,7 @@ turn_unkept ways calls fault h h' old new heard keys items step hears counted k 
 -- the line fails at a key
 pub turn_unsent : {Host End News K : Type 0} (ways : Ways Host End News) (calls : KeeperCalls K News) (fault : LineFault) (h h' : Host) (old new : Scene K) (heard : Heard) (keys : List ℕ) (items : List News) (line : Option (List Item)) → IsStep ways h h' heard keys items
     → Gains old.line.said line (Came heard ∷ []) → GainsFront line new.line.said keys → new.line.failures ≡ one_more old.line.failures → new.line.fault ≡ Some fault → Keeps calls old.keeper items new.keeper
-    → IsLed calls 1 (turns_of ways h h' (Some (LineFailed fault))) old new
+    → IsLed calls 1 (turns_of ways h h' (Some (CutOff (LineFailed fault)))) old new
 turn_unsent ways calls fault h h' old new heard keys items line step hears (front, more, said) counted named k = record {
   session = record {
     heard = heard ∷ [];
@@ -266,7 +267,7 @@ led_ended ways calls end turns most a b before after is le l =
 
 -- the turns are over
 pub led_over : {Host End News K : Type 0} (ways : Ways Host End News) (calls : KeeperCalls K News) (turns : ℕ) (a b : Host) (before after : Scene K) → ways.ended b ≡ None → IsLed calls turns (turns_of ways a b None) before after
-    → IsLed calls turns (turns_of ways a b (Some TurnsOver)) before after
+    → IsLed calls turns (turns_of ways a b (Some (CutOff TurnsOver))) before after
 led_over ways calls turns a b before after is l =
     let s = l.session in
     record {

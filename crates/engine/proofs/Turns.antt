@@ -9,7 +9,8 @@ use Rattle.engine.specs.Session.{IsAll, IsDone, Unkept, Unsent}
 use Rattle.engine.specs.Stopping.{IsFailure}
 use Rattle.engine.specs.Ways.{GoesOn, Ways, dialogue, led, news_of, said_all}
 use Rattle.engine.specs.declared.stop.Stop.{Stop}
-use Rattle.engine.specs.declared.stop.Stop.TheVariants.{Ended, LineFailed, KeepFailed, TurnsOver}
+use Rattle.engine.specs.declared.stop.Cut.TheVariants.{LineFailed, TurnsOver}
+use Rattle.engine.specs.declared.stop.Stop.TheVariants.{Ended, KeepFailed, CutOff}
 use Rattle.engine.proofs.Fronts.{said_append}
 
 pub led_join : {Host End News : Type 0} (ways : Ways Host End News) (h : Host) (one two : List Heard) → led ways h (one ++ two) ≡ led ways (led ways h one) two
@@ -84,18 +85,18 @@ pub done_join : {Host End News : Type 0} (ways : Ways Host End News) (stop : Opt
     IsDone ways stop left (led ways h one) two more later → IsDone ways stop left h (one ++ two) (said ++ more) (given ++ later)
 done_join ways None left h one two said more given later a b = (all_join ways h one two said more given later a b.0, b.1)
 done_join ways (Some (Ended end)) left h one two said more given later a b = all_join ways h one two said more given later a b
-done_join ways (Some TurnsOver) left h one two said more given later a b = (all_join ways h one two said more given later a b.0, b.1)
-done_join ways (Some (LineFailed fault)) left h one two said more given later a (inl b) = inl (all_join ways h one two said more given later a b.0, b.1)
-done_join ways (Some (LineFailed fault)) left h one two said more given later a (inr b) = inr (unsent_join ways h one two said more given later a b)
+done_join ways (Some (CutOff TurnsOver)) left h one two said more given later a b = (all_join ways h one two said more given later a b.0, b.1)
+done_join ways (Some (CutOff (LineFailed fault))) left h one two said more given later a (inl b) = inl (all_join ways h one two said more given later a b.0, b.1)
+done_join ways (Some (CutOff (LineFailed fault))) left h one two said more given later a (inr b) = inr (unsent_join ways h one two said more given later a b)
 done_join ways (Some (KeepFailed fault)) left h one two said more given later a b = unkept_join ways h one two said more given later a b
 
 -- a failure with turns to spare
 pub done_wider : {Host End News : Type 0} (ways : Ways Host End News) (stop : Stop End) (left more : ℕ) (h : Host) (heard : List Heard) (said : List Item) (given : List News) → IsFailure stop → left ≤ more →
     IsDone ways (Some stop) left h heard said given → IsDone ways (Some stop) more h heard said given
-done_wider ways (LineFailed fault) left more h heard said given f le (inl d) = inl (d.0, omega (arith, le, d.1))
-done_wider ways (LineFailed fault) left more h heard said given f le (inr d) = inr d
+done_wider ways (CutOff (LineFailed fault)) left more h heard said given f le (inl d) = inl (d.0, omega (arith, le, d.1))
+done_wider ways (CutOff (LineFailed fault)) left more h heard said given f le (inr d) = inr d
 done_wider ways (KeepFailed fault) left more h heard said given f le d = d
-done_wider ways TurnsOver left more h heard said given f le d = absurd f
+done_wider ways (CutOff TurnsOver) left more h heard said given f le d = absurd f
 done_wider ways (Ended end) left more h heard said given f le d = absurd f
 
 -- ---- which keys are missing

@@ -8,7 +8,8 @@ use Rattle.engine.specs.Keeping.{AllOrFront, LacksLast}
 use Rattle.engine.specs.Stopping.{keep_fault}
 use Rattle.engine.specs.Ways.{GoesOn, Ways, dialogue, led, news_of, said_all}
 use Rattle.engine.specs.declared.stop.Stop.{Stop}
-use Rattle.engine.specs.declared.stop.Stop.TheVariants.{Ended, LineFailed, KeepFailed, TurnsOver}
+use Rattle.engine.specs.declared.stop.Cut.TheVariants.{LineFailed, TurnsOver}
+use Rattle.engine.specs.declared.stop.Stop.TheVariants.{Ended, KeepFailed, CutOff}
 
 -- a host that has such ways, before turns and after them, and how they stopped (None: they are over, and may go on)
 pub record Turns {Host End News : Type 0} (ways : Ways Host End News) : Type 0 where
@@ -51,9 +52,9 @@ pub record Unkept {Host End News : Type 0} (ways : Ways Host End News) (old : Ho
 -- what was said and given of what a host makes of heard things, by how the turns stopped and how many were left. A line fails at a hear
 -- of a further turn, or at a key
 abbrev pub IsDone : {Host End News : Type 0} → Ways Host End News → Option (Stop End) → ℕ → Host → List Heard → List Item → List News → Type 0
-IsDone ways (Some (LineFailed fault)) left old heard said given = (IsAll ways old heard said given × (0 < left)) ⊎ Unsent ways old heard said given
+IsDone ways (Some (CutOff (LineFailed fault))) left old heard said given = (IsAll ways old heard said given × (0 < left)) ⊎ Unsent ways old heard said given
 IsDone ways (Some (KeepFailed fault)) left old heard said given = Unkept ways old heard said given
-IsDone ways (Some TurnsOver) left old heard said given = IsAll ways old heard said given × (left ≡ 0)
+IsDone ways (Some (CutOff TurnsOver)) left old heard said given = IsAll ways old heard said given × (left ≡ 0)
 IsDone ways (Some (Ended end)) left old heard said given = IsAll ways old heard said given
 IsDone ways None left old heard said given = IsAll ways old heard said given × (left ≡ 0)
 

@@ -11,7 +11,7 @@ ghost use Rattle.engine.specs.Ways.{said_all};
 
 use crate::host::Host;
 use crate::keep::Keep;
-use crate::stop::Stop;
+use crate::stop::{Cut, Stop};
 use host_devices::{KeepFault, Line, LineFault, Onlooker};
 
 /// Lends the host to the line and the keeper for at most so many turns.
@@ -44,7 +44,7 @@ pub fn lead<H: Host, L: Line, K: Keep<H::News>, O: Onlooker>(
     }
     match end {
         Some(end) => Stop::Ended(end),
-        None => Stop::TurnsOver,
+        None => Stop::CutOff(Cut::TurnsOver),
     }
 }
 
@@ -64,7 +64,7 @@ fn turn<H: Host, L: Line, K: Keep<H::News>, O: Onlooker>(
 {
     let heard = match line.hear() {
         Ok(heard) => heard,
-        Err(fault) => return Err(Stop::LineFailed(fault)),
+        Err(fault) => return Err(Stop::CutOff(Cut::LineFailed(fault))),
     };
     let step = host.step(heard);
     onlooker.sees(host.sight(heard, &step));
@@ -74,7 +74,7 @@ fn turn<H: Host, L: Line, K: Keep<H::News>, O: Onlooker>(
     let keys = host.keys(&step);
     match send_all(line, &keys) {
         Ok(()) => Ok(()),
-        Err(fault) => Err(Stop::LineFailed(fault)),
+        Err(fault) => Err(Stop::CutOff(Cut::LineFailed(fault))),
     }
 }
 

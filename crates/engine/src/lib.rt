@@ -14,4 +14,4 @@ mod stop;
 pub use host::{Host, Keys};
 pub use keep::Keep;
 pub use leading::lead;
-pub use stop::Stop;
+pub use stop::{Cut, Stop};

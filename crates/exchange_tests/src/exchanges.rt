@@ -4,6 +4,7 @@ ghost use Rattle.exchange_core.specs.Chunk.{AreChunks};
 
 use crate::station::{StationLine, Upset};
 use crate::tapes::{block_of, plan_of};
+use engine::Cut;
 use exchange_core::{Chunk, Duplex, End, Exchange, chunks_of};
 use host_core::Heard;
 use host_devices::{Item, KeepFault, Kept, LineFault, MemoryKeep, Unwatched};
@@ -552,8 +553,14 @@ impl Calls {
     fn failure_at(self, call: usize) -> (ExchangeStop, u32) {
         let verified = if call <= self.first_answered { 0 } else { 1 };
         match self.calls.as_bytes().get(call.saturating_sub(1)) {
-            Some(b's') => (ExchangeStop::LineFailed(LineFault::Send), verified),
-            Some(_) => (ExchangeStop::LineFailed(LineFault::Receive), verified),
+            Some(b's') => (
+                ExchangeStop::CutOff(Cut::LineFailed(LineFault::Send)),
+                verified,
+            ),
+            Some(_) => (
+                ExchangeStop::CutOff(Cut::LineFailed(LineFault::Receive)),
+                verified,
+            ),
             None => (ExchangeStop::Ended(End::Complete), 2),
         }
     }
@@ -606,11 +613,19 @@ const STOPS: [(Option<u32>, u64, ExchangeStop, u32, usize, &str, &str); 7] = [
         WHOLE,
         "the last word is not kept: it is no end",
     ),
-    (None, 0, ExchangeStop::TurnsOver, 0, 0, "", "no turn"),
+    (
+        None,
+        0,
+        ExchangeStop::CutOff(Cut::TurnsOver),
+        0,
+        0,
+        "",
+        "no turn",
+    ),
     (
         None,
         1,
-        ExchangeStop::TurnsOver,
+        ExchangeStop::CutOff(Cut::TurnsOver),
         0,
         0,
         "<~abcd",
@@ -619,7 +634,7 @@ const STOPS: [(Option<u32>, u64, ExchangeStop, u32, usize, &str, &str); 7] = [
     (
         None,
         5,
-        ExchangeStop::TurnsOver,
+        ExchangeStop::CutOff(Cut::TurnsOver),
         1,
         1,
         "<~abcd<n<m<l<kefgh",
@@ -628,7 +643,7 @@ const STOPS: [(Option<u32>, u64, ExchangeStop, u32, usize, &str, &str); 7] = [
     (
         None,
         8,
-        ExchangeStop::TurnsOver,
+        ExchangeStop::CutOff(Cut::TurnsOver),
         1,
         1,
         "<~abcd<n<m<l<kefgh<j<i<h",

@@ -20,7 +20,8 @@ use Rattle.engine.specs.Keeping.{AllOrFront, LacksLast}
 use Rattle.engine.specs.Session.{IsAll, IsDone, SessionTold, Unkept, Unsent}
 use Rattle.engine.specs.Stopping.{keep_fault}
 use Rattle.engine.specs.Ways.{dialogue as lead_dialogue, led as lead_led, news_of, said_all}
-use Rattle.engine.specs.declared.stop.Stop.TheVariants.{Ended, LineFailed, KeepFailed, TurnsOver}
+use Rattle.engine.specs.declared.stop.Cut.TheVariants.{LineFailed, TurnsOver}
+use Rattle.engine.specs.declared.stop.Stop.TheVariants.{Ended, KeepFailed, CutOff}
 use Rattle.engine.proofs.Turns.{only_front, unkept_keys, unkept_news, unsent_key}
 use Rattle.load_engine.specs.Driven.{IsSaid}
 use Rattle.load_engine.specs.Driving.{Driving, LoadSession, LoadStop}
@@ -94,9 +95,9 @@ unkept_said core heard items given u =
 said_of : (stop : Option LoadStop) (left : ℕ) (core : Core) (heard : List Heard) (items : List Item) (given : List Kept) → IsDone loadings stop left (loading core) heard items given → IsSaid stop (dialogue core heard) items
 said_of None left core heard items given d = all_said core heard items given d.0
 said_of (Some (Ended end)) left core heard items given d = all_said core heard items given d
-said_of (Some TurnsOver) left core heard items given d = all_said core heard items given d.0
-said_of (Some (LineFailed fault)) left core heard items given (inl d) = inl (all_said core heard items given d.0)
-said_of (Some (LineFailed fault)) left core heard items given (inr d) = inr (unsent_said core heard items given d)
+said_of (Some (CutOff TurnsOver)) left core heard items given d = all_said core heard items given d.0
+said_of (Some (CutOff (LineFailed fault))) left core heard items given (inl d) = inl (all_said core heard items given d.0)
+said_of (Some (CutOff (LineFailed fault))) left core heard items given (inr d) = inr (unsent_said core heard items given d)
 said_of (Some (KeepFailed fault)) left core heard items given d = unkept_said core heard items given d
 
 pub session_said : (most : ℕ) (turns : Driving) (before after : SessionTold Kept) (s : LoadSession most turns before after) → IsSaid turns.stop (dialogue turns.old s.heard) s.said
@@ -117,9 +118,9 @@ given_of : (stop : Option LoadStop) (left : ℕ) (core : Core) (heard : List Hea
     given ≡ news_of loadings (loading core) heard
 given_of None left core heard items given host d = d.0.given_is
 given_of (Some (Ended end)) left core heard items given host d = d.given_is
-given_of (Some TurnsOver) left core heard items given host d = d.0.given_is
-given_of (Some (LineFailed fault)) left core heard items given host (inl d) = d.0.given_is
-given_of (Some (LineFailed fault)) left core heard items given host (inr d) = d.given_is
+given_of (Some (CutOff TurnsOver)) left core heard items given host d = d.0.given_is
+given_of (Some (CutOff (LineFailed fault))) left core heard items given host (inl d) = d.0.given_is
+given_of (Some (CutOff (LineFailed fault))) left core heard items given host (inr d) = d.given_is
 given_of (Some (KeepFailed fault)) left core heard items given host d = unkept_given core heard items given host d
 
 pub session_given : (most : ℕ) (turns : Driving) (before after : SessionTold Kept) (s : LoadSession most turns before after) → IsHost turns.old → s.given ≡ news_between turns.old turns.new
@@ -196,9 +197,9 @@ mark_of : (stop : Option LoadStop) (left : ℕ) (core : Core) (heard : List Hear
     AllOrFront (keep_fault stop) (kept ≡ given) (LacksLast given kept) → Contains (keys_of items) go → Contains kept Go
 mark_of None left core heard items given kept host d k c = kept_all core heard given kept d.0.given_is k (in_all core heard items host c (inl (all_said core heard items given d.0)))
 mark_of (Some (Ended end)) left core heard items given kept host d k c = kept_all core heard given kept d.given_is k (in_all core heard items host c (inl (all_said core heard items given d)))
-mark_of (Some TurnsOver) left core heard items given kept host d k c = kept_all core heard given kept d.0.given_is k (in_all core heard items host c (inl (all_said core heard items given d.0)))
-mark_of (Some (LineFailed fault)) left core heard items given kept host (inl d) k c = kept_all core heard given kept d.0.given_is k (in_all core heard items host c (inl (all_said core heard items given d.0)))
-mark_of (Some (LineFailed fault)) left core heard items given kept host (inr d) k c = kept_all core heard given kept d.given_is k (in_all core heard items host c (inr (unsent_said core heard items given d)))
+mark_of (Some (CutOff TurnsOver)) left core heard items given kept host d k c = kept_all core heard given kept d.0.given_is k (in_all core heard items host c (inl (all_said core heard items given d.0)))
+mark_of (Some (CutOff (LineFailed fault))) left core heard items given kept host (inl d) k c = kept_all core heard given kept d.0.given_is k (in_all core heard items host c (inl (all_said core heard items given d.0)))
+mark_of (Some (CutOff (LineFailed fault))) left core heard items given kept host (inr d) k c = kept_all core heard given kept d.given_is k (in_all core heard items host c (inr (unsent_said core heard items given d)))
 mark_of (Some (KeepFailed fault)) left core heard items given kept host d k c = unkept_mark core heard items given kept host d k c
 
 -- where `G` was said, the mark was kept

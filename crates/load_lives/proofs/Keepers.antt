@@ -23,7 +23,7 @@ use Rattle.host_devices.specs.declared.item.Kept.{Kept}
 use Rattle.host_devices.specs.declared.item.Kept.TheVariants.{Word, Go}
 use Rattle.host_devices.specs.Dialogue.{said, dialogue, keys_of, mark_between, news_between}
 use Rattle.honest_line.proofs.Trusted.{keys_of-dialogue}
-use Rattle.engine.specs.declared.stop.Stop.TheVariants.{Ended, LineFailed, KeepFailed, TurnsOver}
+use Rattle.engine.specs.declared.stop.Stop.TheVariants.{Ended, KeepFailed, CutOff}
 use Rattle.engine.specs.Keeping.{AllOrFront, KeepsEach, KeptBy, LacksLast, keeping}
 use Rattle.engine.specs.Stopping.{keep_fault}
 use Rattle.load_engine.specs.Driving.{Driving, LoadSession, LoadStop}
@@ -205,8 +205,7 @@ said_marked core things items unsent host is has =
 -- a front of the record, where the keeper failed; else all of it
 abbrev HoldsNow : LoadStop → PlanValue → ℕ → Bool → Keeper → Type 0
 HoldsNow (KeepFailed fault) plan n set keep = HoldsFront plan n set keep
-HoldsNow (LineFailed fault) plan n set keep = keep.text ≡ Some (record_text Second plan n set)
-HoldsNow TurnsOver plan n set keep = keep.text ≡ Some (record_text Second plan n set)
+HoldsNow (CutOff cut) plan n set keep = keep.text ≡ Some (record_text Second plan n set)
 HoldsNow (Ended end) plan n set keep = keep.text ≡ Some (record_text Second plan n set)
 
 all_kept : (plan : PlanValue) (k n : ℕ) (words later : List WordValue) (set : Bool) (keep keep' : Keeper) → HoldsRecord keep plan k → drop k plan.words ≡ words ++ later → n ≡ k + length words →
@@ -219,8 +218,7 @@ holds_now : (stop : LoadStop) (plan : PlanValue) (k n : ℕ) (words later : List
     KeptBy record_calls (keeping (map Word words ++ mark_between false set) (keep_fault (Some stop))) keep keep' → HoldsNow stop plan n set keep'
 holds_now (KeepFailed fault) plan k n words later set keep keep' holds are n_is by =
     cut_front plan k n words later set by.kept by.last keep by.next keep' holds are n_is (cut_at words set by.kept by.last by.items_are) by.each by.failing
-holds_now (LineFailed fault) plan k n words later set keep keep' holds are n_is by = all_kept plan k n words later set keep keep' holds are n_is by
-holds_now TurnsOver plan k n words later set keep keep' holds are n_is by = all_kept plan k n words later set keep keep' holds are n_is by
+holds_now (CutOff cut) plan k n words later set keep keep' holds are n_is by = all_kept plan k n words later set keep keep' holds are n_is by
 holds_now (Ended end) plan k n words later set keep keep' holds are n_is by = all_kept plan k n words later set keep keep' holds are n_is by
 
 -- where the keeper failed no mark was kept
@@ -230,15 +228,13 @@ NoMark stop kept = Unit {0}
 
 no_mark_kept : (stop : LoadStop) (words : List WordValue) (set : Bool) (news kept : List Kept) → news ≡ map Word words ++ mark_between false set → AllOrFront (keep_fault (Some stop)) (kept ≡ news) (LacksLast news kept) → NoMark stop kept
 no_mark_kept (KeepFailed fault) words set news kept are (last, is) = kept_no_mark words set kept last (cut_at words set kept last (sym are ∙ is))
-no_mark_kept (LineFailed fault) words set news kept are is = tt
-no_mark_kept TurnsOver words set news kept are is = tt
+no_mark_kept (CutOff cut) words set news kept are is = tt
 no_mark_kept (Ended end) words set news kept are is = tt
 
 -- what went out where the keeper failed was told
 said_of : (stop : LoadStop) (all told items : List Item) → WentOutAt stop all told items → WentOut all told items
 said_of (KeepFailed fault) all told items out = inl out
-said_of (LineFailed fault) all told items out = out
-said_of TurnsOver all told items out = out
+said_of (CutOff cut) all told items out = out
 said_of (Ended end) all told items out = out
 
 whole_left : (load : KeptLoad) → load.run.progress.going ≡ false → load.keep'.text ≡ Some (record_text Second load.run.plan load.run.core.verified load.run.core.going) →
@@ -262,8 +258,7 @@ leaves (KeepFailed fault) load all told kept unset (text, is, front) sets out fi
   told = is;
   left = record { cut = inr front; whole = λ has. absurd (none (first (subst (λ list. Contains (keys_of list) go) out has))); alone = λ set. absurd (cc) };
 }
-leaves (LineFailed fault) load all told kept unset is sets out first none = whole_left load unset is sets
-leaves TurnsOver load all told kept unset is sets out first none = whole_left load unset is sets
+leaves (CutOff cut) load all told kept unset is sets out first none = whole_left load unset is sets
 leaves (Ended end) load all told kept unset is sets out first none = whole_left load unset is sets
 
 pub keepers_leave : KeepersLeave

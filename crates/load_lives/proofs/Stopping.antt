@@ -7,7 +7,8 @@ use Rattle.host_core.specs.Core.{Core}
 use Rattle.host_devices.specs.declared.item.Item.{Item}
 use Rattle.host_devices.specs.declared.item.Item.TheVariants.{Sent, Heard as Came}
 use Rattle.host_devices.specs.Dialogue.{LacksKey, said, dialogue}
-use Rattle.engine.specs.declared.stop.Stop.TheVariants.{Ended, LineFailed, KeepFailed, TurnsOver}
+use Rattle.engine.specs.declared.stop.Cut.TheVariants.{LineFailed, TurnsOver}
+use Rattle.engine.specs.declared.stop.Stop.TheVariants.{Ended, KeepFailed, CutOff}
 use Rattle.load_engine.specs.Driven.{IsSaid}
 use Rattle.load_engine.specs.Driving.{LoadStop}
 use Rattle.load_engine.proofs.Sessions.{core_is, dialogue_join, session_said}
@@ -32,9 +33,9 @@ all_said all told is = (None, sym is ∙ sym (append-nil told))
 unsent_of : (stop : Option LoadStop) (all told : List Item) → IsSaid stop all told → (unsent : Option ℕ) × (all ≡ told ++ said unsent)
 unsent_of None all told s = all_said all told s
 unsent_of (Some (Ended end)) all told s = all_said all told s
-unsent_of (Some TurnsOver) all told s = all_said all told s
-unsent_of (Some (LineFailed fault)) all told (inl s) = all_said all told s
-unsent_of (Some (LineFailed fault)) all told (inr s) = lacking all told s
+unsent_of (Some (CutOff TurnsOver)) all told s = all_said all told s
+unsent_of (Some (CutOff (LineFailed fault))) all told (inl s) = all_said all told s
+unsent_of (Some (CutOff (LineFailed fault))) all told (inr s) = lacking all told s
 unsent_of (Some (KeepFailed fault)) all told s = lacking all told s
 
 pub unsent_out : (stop : Option LoadStop) (all told items : List Item) → IsSaid stop all told → WentOut all told items → (unsent : Option ℕ) × (all ≡ items ++ said unsent)

@@ -3,7 +3,7 @@ use Rattle.std.specs.Prelude.{◌≡◌, ℕ, false, List, Some, None}
 use Rattle.tape_image.specs.Plan.{IsPlan}
 use Rattle.host_devices.specs.declared.item.Item.{Item}
 use Rattle.host_devices.specs.declared.item.Kept.{Kept}
-use Rattle.engine.specs.declared.stop.Stop.TheVariants.{Ended, LineFailed, KeepFailed, TurnsOver}
+use Rattle.engine.specs.declared.stop.Stop.TheVariants.{Ended, KeepFailed, CutOff}
 use Rattle.engine.specs.Keeping.{KeeperCalls, KeptBy}
 use Rattle.load_engine.specs.Driven.{turns_give}
 use Rattle.load_engine.specs.Driving.{LoadStop}
@@ -14,8 +14,7 @@ use Rattle.load_lives.specs.Stops.{EngineRun, HasRun, WentOut, decided, turns_of
 -- what went out of a dialogue, by how the engine stopped: where the keeper failed the last key was never sent
 abbrev pub WentOutAt : LoadStop → List Item → List Item → List Item → Type 0
 WentOutAt (KeepFailed fault) all told items = items ≡ told
-WentOutAt (LineFailed fault) all told items = WentOut all told items
-WentOutAt TurnsOver all told items = WentOut all told items
+WentOutAt (CutOff cut) all told items = WentOut all told items
 WentOutAt (Ended end) all told items = WentOut all told items
 
 -- what the calls of a keeper make of it that writes a record, in whose list nothing is told

@@ -1,5 +1,5 @@
 -- What the one engine's law says of hosts that store nothing.
-use Rattle.std.proofs.Common.{◌≡◌, ◌⊎◌, ℕ, ◌-◌, true, List, [], ◌∷◌, ◌++◌, inl, inr, length, Option, Some, None, refl, arith, ap, sym, subst, ◌∙◌, append-nil, length-append}
+use Rattle.std.proofs.Common.{◌≡◌, ◌⊎◌, ℕ, ◌-◌, true, List, [], ◌∷◌, ◌++◌, inl, inr, length, Option, Some, None, Result, Err, refl, arith, ap, sym, subst, ◌∙◌, append-nil, length-append}
 use Rattle.std.specs.Prelude.{option_to_list, unwrap_or}
 use Rattle.host_core.specs.declared.heard.Heard.{Heard}
 use Rattle.host_devices.specs.declared.item.Item.{Item}
@@ -9,8 +9,10 @@ use Rattle.engine.specs.Keeping.{KeeperCalls}
 use Rattle.engine.specs.Led.{IsLed, Scene, told_by}
 use Rattle.engine.specs.Session.{IsDone, Session as LedSession, SessionTold, turns_of}
 use Rattle.engine.specs.Ways.{GoesOn as LeadGoesOn, Ways as LeadWays, dialogue as lead_dialogue, led as lead_led, said_all}
-use Rattle.engine.specs.declared.stop.Stop.{Stop as LeadStop}
-use Rattle.engine.specs.declared.stop.Stop.TheVariants.{Ended as Ends, LineFailed as LineFails, KeepFailed as KeepFails, TurnsOver as Over}
+use Rattle.engine.specs.declared.stop.Cut.{Cut}
+use Rattle.engine.specs.declared.stop.Stop.{Stop}
+use Rattle.engine.specs.declared.stop.Cut.TheVariants.{LineFailed, TurnsOver}
+use Rattle.engine.specs.declared.stop.Stop.TheVariants.{Ended, KeepFailed, CutOff}
 use Rattle.engine.proofs.Turns.{unkept_keys, unsent_key}
 use Rattle.looking_law.specs.Belief.{dialogue}
 use Rattle.looking_law.specs.Trying.{trial_dialogue}
@@ -26,8 +28,6 @@ use Rattle.looking_engine.specs.Leading.{a_trial, number_of, reading, reads, sto
 use Rattle.looking_engine.specs.Session.{AreTurns, GoesOn, IsSaid, LacksItsKey, Session}
 use Rattle.looking_engine.specs.Turns.{looking}
 use Rattle.looking_engine.specs.Ways.{Ways, readings, trials}
-use Rattle.looking_engine.specs.declared.stop.Stop.{Stop}
-use Rattle.looking_engine.specs.declared.stop.Stop.TheVariants.{TurnsOver}
 
 -- such a host is led as its own ways say, and sends one key a step at most
 pub record IsLooker {Host Core End News : Type 0} (ways : LeadWays Host End News) (own : Ways Core End) (core : Host → Core) : Type 0 where
@@ -45,25 +45,24 @@ perhaps_key : (o : Option ℕ) (all items : List Item) → all ≡ items ++ said
 perhaps_key None all items e = inl (sym (e ∙ append-nil items))
 perhaps_key (Some key) all items e = inr (key, e)
 
-is_said : {Host Core End News : Type 0} (ways : LeadWays Host End News) (own : Ways Core End) (core : Host → Core) → IsLooker ways own core → (stop : LeadStop End) (left : ℕ) (h : Host) (heard : List Heard) (items : List Item) (given : List News)
+is_said : {Host Core End News : Type 0} (ways : LeadWays Host End News) (own : Ways Core End) (core : Host → Core) → IsLooker ways own core → (stop : Stop End) (left : ℕ) (h : Host) (heard : List Heard) (items : List Item) (given : List News)
     → IsDone ways (Some stop) left h heard items given → IsSaid (stop_of stop) left (own.dialogue (core h) heard) items
-is_said ways own core is (Ends end) left h heard items given d = d.said_is ∙ is.dialogue h heard
-is_said ways own core is Over left h heard items given d = (d.0.said_is ∙ is.dialogue h heard, d.1)
-is_said ways own core is (KeepFails fault) left h heard items given u =
+is_said ways own core is (Ended end) left h heard items given d = d.said_is ∙ is.dialogue h heard
+is_said ways own core is (CutOff TurnsOver) left h heard items given d = (d.0.said_is ∙ is.dialogue h heard, d.1)
+is_said ways own core is (KeepFailed fault) left h heard items given u =
     let mid = lead_led ways h u.first in
     perhaps_key (is.key mid u.last) (own.dialogue (core h) heard) items
     (sym (is.dialogue h heard) ∙ (unkept_keys ways h heard items given u ∙ ap (λ keys. items ++ said_all keys) (is.keys_are mid u.last)))
-is_said ways own core is (LineFails fault) left h heard items given (inl d) = inl (d.0.said_is ∙ is.dialogue h heard, d.1)
-is_said ways own core is (LineFails fault) left h heard items given (inr u) =
+is_said ways own core is (CutOff (LineFailed fault)) left h heard items given (inl d) = inl (d.0.said_is ∙ is.dialogue h heard, d.1)
+is_said ways own core is (CutOff (LineFailed fault)) left h heard items given (inr u) =
     inr (subst (λ all. LacksKey all items) (is.dialogue h heard) (unsent_key ways is.key h heard items given is.keys_are u))
 
 -- where the keeper failed
-is_unkept : {Host Core End News : Type 0} (ways : LeadWays Host End News) (own : Ways Core End) (core : Host → Core) → IsLooker ways own core → (stop : LeadStop End) (left : ℕ) (h : Host) (heard : List Heard) (items : List Item) (given : List News)
+is_unkept : {Host Core End News : Type 0} (ways : LeadWays Host End News) (own : Ways Core End) (core : Host → Core) → IsLooker ways own core → (stop : Stop End) (left : ℕ) (h : Host) (heard : List Heard) (items : List Item) (given : List News)
     → IsDone ways (Some stop) left h heard items given → stop_of stop ≡ None → (items ≡ own.dialogue (core h) heard) ⊎ LacksItsKey own (core h) heard items
-is_unkept ways own core is (Ends end) left h heard items given d none = absurd (cc none)
-is_unkept ways own core is Over left h heard items given d none = absurd (cc none)
-is_unkept ways own core is (LineFails fault) left h heard items given d none = absurd (cc none)
-is_unkept {Host} {Core} ways own core is (KeepFails fault) left h heard items given u none =
+is_unkept ways own core is (Ended end) left h heard items given d none = absurd (cc none)
+is_unkept ways own core is (CutOff cut) left h heard items given d none = absurd (cc none)
+is_unkept {Host} {Core} ways own core is (KeepFailed fault) left h heard items given u none =
     let P : Core → Type 0 = λ c. own.gives c u.last ≡ true in
     inr record {
       first = u.first;
@@ -75,7 +74,7 @@ is_unkept {Host} {Core} ways own core is (KeepFails fault) left h heard items gi
 
 -- ---- turns
 
-session_is : {Host Core End News : Type 0} (ways : LeadWays Host End News) (own : Ways Core End) (core : Host → Core) → IsLooker ways own core → (most : ℕ) (stop : LeadStop End) (a b : Host) (before after : SessionTold News)
+session_is : {Host Core End News : Type 0} (ways : LeadWays Host End News) (own : Ways Core End) (core : Host → Core) → IsLooker ways own core → (most : ℕ) (stop : Stop End) (a b : Host) (before after : SessionTold News)
     → LedSession most (turns_of ways a b (Some stop)) before after → Session most (looking own (core a) (core b) (stop_of stop)) before.said after.said
 session_is ways own core is most stop a b before after s = record {
   heard = s.heard;
@@ -88,28 +87,28 @@ session_is ways own core is most stop a b before after s = record {
   on_line = s.on_line;
 }
 
-pub are_turns : {Host Core End News K : Type 0} (ways : LeadWays Host End News) (own : Ways Core End) (core : Host → Core) → IsLooker ways own core → (calls : KeeperCalls K News) (most : ℕ) (stop : LeadStop End) (a b : Host) (before after : Scene K)
+pub are_turns : {Host Core End News K : Type 0} (ways : LeadWays Host End News) (own : Ways Core End) (core : Host → Core) → IsLooker ways own core → (calls : KeeperCalls K News) (most : ℕ) (stop : Stop End) (a b : Host) (before after : Scene K)
     → IsLed calls most (turns_of ways a b (Some stop)) before after → AreTurns most (looking own (core a) (core b) (stop_of stop)) before.line after.line
-are_turns ways own core is calls most (Ends end) a b before after l = record {
-  session = session_is ways own core is most (Ends end) a b (told_by calls before) (told_by calls after) l.session;
+are_turns ways own core is calls most (Ended end) a b before after l = record {
+  session = session_is ways own core is most (Ended end) a b (told_by calls before) (told_by calls after) l.session;
   end = sym (is.ended b) ∙ l.end;
   counted = l.counted;
   named = l.named;
 }
-are_turns ways own core is calls most Over a b before after l = record {
-  session = session_is ways own core is most Over a b (told_by calls before) (told_by calls after) l.session;
+are_turns ways own core is calls most (CutOff TurnsOver) a b before after l = record {
+  session = session_is ways own core is most (CutOff TurnsOver) a b (told_by calls before) (told_by calls after) l.session;
   end = sym (is.ended b) ∙ l.end;
   counted = l.counted;
   named = l.named;
 }
-are_turns ways own core is calls most (LineFails fault) a b before after l = record {
-  session = session_is ways own core is most (LineFails fault) a b (told_by calls before) (told_by calls after) l.session;
+are_turns ways own core is calls most (CutOff (LineFailed fault)) a b before after l = record {
+  session = session_is ways own core is most (CutOff (LineFailed fault)) a b (told_by calls before) (told_by calls after) l.session;
   end = tt;
   counted = l.counted;
   named = l.named;
 }
-are_turns ways own core is calls most (KeepFails fault) a b before after l = record {
-  session = session_is ways own core is most (KeepFails fault) a b (told_by calls before) (told_by calls after) l.session;
+are_turns ways own core is calls most (KeepFailed fault) a b before after l = record {
+  session = session_is ways own core is most (KeepFailed fault) a b (told_by calls before) (told_by calls after) l.session;
   end = tt;
   counted = l.counted;
   named = l.named;
@@ -190,14 +189,12 @@ trial_looks = record {
 
 -- where no call of the keeper fails, the engine stops otherwise
 pub never_unkept : {Host Core End News K : Type 0} (ways : LeadWays Host End News) (own : Ways Core End) (core : Host → Core) → IsLooker ways own core → (calls : KeeperCalls K News) → ((a : K) (item : News) (b : K) → calls.fails a item b → ⊥)
-    → (most : ℕ) (stop : LeadStop End) (a b : Host) (before after : Scene K) (made : Stop End) → made ≡ unwrap_or (stop_of stop) TurnsOver → IsLed calls most (turns_of ways a b (Some stop)) before after
+    → (most : ℕ) (stop : Stop End) (a b : Host) (before after : Scene K) (made : Result End Cut) → made ≡ unwrap_or (stop_of stop) (Err TurnsOver) → IsLed calls most (turns_of ways a b (Some stop)) before after
     → AreTurns most (looking own (core a) (core b) (Some made)) before.line after.line
-never_unkept ways own core is calls never most (Ends end) a b before after made m l =
-    subst (λ s. AreTurns most (looking own (core a) (core b) (Some s)) before.line after.line) (sym m) (are_turns ways own core is calls most (Ends end) a b before after l)
-never_unkept ways own core is calls never most Over a b before after made m l =
-    subst (λ s. AreTurns most (looking own (core a) (core b) (Some s)) before.line after.line) (sym m) (are_turns ways own core is calls most Over a b before after l)
-never_unkept ways own core is calls never most (LineFails fault) a b before after made m l =
-    subst (λ s. AreTurns most (looking own (core a) (core b) (Some s)) before.line after.line) (sym m) (are_turns ways own core is calls most (LineFails fault) a b before after l)
-never_unkept ways own core is calls never most (KeepFails fault) a b before after made m l =
+never_unkept ways own core is calls never most (Ended end) a b before after made m l =
+    subst (λ s. AreTurns most (looking own (core a) (core b) (Some s)) before.line after.line) (sym m) (are_turns ways own core is calls most (Ended end) a b before after l)
+never_unkept ways own core is calls never most (CutOff cut) a b before after made m l =
+    subst (λ s. AreTurns most (looking own (core a) (core b) (Some s)) before.line after.line) (sym m) (are_turns ways own core is calls most (CutOff cut) a b before after l)
+never_unkept ways own core is calls never most (KeepFailed fault) a b before after made m l =
     let k = l.keeper.kept_by in
     absurd (never k.next k.last after.keeper k.failing)

@@ -6,7 +6,8 @@ use Rattle.host_devices.specs.declared.item.Item.{Item}
 use Rattle.engine.specs.Session.{IsDone}
 use Rattle.engine.specs.Ways.{led as lead_led, news_of}
 use Rattle.engine.specs.declared.stop.Stop.{Stop as LeadStop}
-use Rattle.engine.specs.declared.stop.Stop.TheVariants.{Ended as Ends, LineFailed as LineFails, KeepFailed as KeepFails, TurnsOver as Over}
+use Rattle.engine.specs.declared.stop.Cut.TheVariants.{LineFailed, TurnsOver}
+use Rattle.engine.specs.declared.stop.Stop.TheVariants.{Ended, KeepFailed, CutOff}
 use Rattle.engine.proofs.Turns.{unkept_news}
 use Rattle.reading_core.specs.declared.phase.End.{End}
 use Rattle.reading_core.specs.declared.turn.Turn.{Turn}
@@ -36,15 +37,15 @@ read_more r (h ∷ heard) =
 
 -- all of them are given; but for those behind one that could not be kept
 abbrev pub AreGiven : LeadStop End → List ℕ → List ℕ → Type 0
-AreGiven (KeepFails fault) numbers given = (rest : List ℕ) × (numbers ≡ given ++ rest)
+AreGiven (KeepFailed fault) numbers given = (rest : List ℕ) × (numbers ≡ given ++ rest)
 AreGiven other numbers given = numbers ≡ given
 
 pub numbers_given : (stop : LeadStop End) (left : ℕ) (r : Reader) (heard : List Heard) (items : List Item) (given : List ℕ) → IsDone reads (Some stop) left (reading r) heard items given → AreGiven stop (news_of reads (reading r) heard) given
-numbers_given (Ends end) left r heard items given d = sym d.given_is
-numbers_given Over left r heard items given d = sym d.0.given_is
-numbers_given (LineFails fault) left r heard items given (inl d) = sym d.0.given_is
-numbers_given (LineFails fault) left r heard items given (inr u) = sym u.given_is
-numbers_given (KeepFails fault) left r heard items given u = (u.rest, unkept_news reads (reading r) heard items given u)
+numbers_given (Ended end) left r heard items given d = sym d.given_is
+numbers_given (CutOff TurnsOver) left r heard items given d = sym d.0.given_is
+numbers_given (CutOff (LineFailed fault)) left r heard items given (inl d) = sym d.0.given_is
+numbers_given (CutOff (LineFailed fault)) left r heard items given (inr u) = sym u.given_is
+numbers_given (KeepFailed fault) left r heard items given u = (u.rest, unkept_news reads (reading r) heard items given u)
 
 -- ---- one step
 

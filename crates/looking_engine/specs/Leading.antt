@@ -1,8 +1,9 @@
 -- Hosts that store nothing, as the one engine leads them.
-use Rattle.std.specs.Prelude.{ℕ, [], Option, Some, None, option_to_list, ⊤}
+use Rattle.std.specs.Prelude.{ℕ, [], Option, Some, None, Result, Ok, Err, option_to_list, ⊤}
 use Rattle.engine.specs.Ways.{Ways as LeadWays}
-use Rattle.engine.specs.declared.stop.Stop.{Stop as LeadStop}
-use Rattle.engine.specs.declared.stop.Stop.TheVariants.{Ended as Ends, LineFailed as LineFails, KeepFailed as KeepFails, TurnsOver as Over}
+use Rattle.engine.specs.declared.stop.Cut.{Cut}
+use Rattle.engine.specs.declared.stop.Stop.{Stop}
+use Rattle.engine.specs.declared.stop.Stop.TheVariants.{Ended, KeepFailed, CutOff}
 use Rattle.reading_core.specs.declared.phase.End.{End as ReadingEnd}
 use Rattle.reading_core.specs.declared.turn.Turn.{Turn}
 use Rattle.reading_core.specs.declared.turn.Turn.TheVariants.{Read}
@@ -13,8 +14,6 @@ use Rattle.trial_core.specs.declared.trial.Trial.{Trial}
 use Rattle.trial_core.specs.Trial.{ended as trial_ended}
 use Rattle.trial_core.specs.TrialTable.{ask as trial_ask}
 use Rattle.looking_engine.specs.declared.reading.Reading.{Reading}
-use Rattle.looking_engine.specs.declared.stop.Stop.{Stop}
-use Rattle.looking_engine.specs.declared.stop.Stop.TheVariants.{Ended, LineFailed, TurnsOver}
 use Rattle.looking_engine.specs.declared.trying.Trying.{Trying}
 
 abbrev pub reading : Reader → Reading
@@ -47,8 +46,7 @@ tries = record {
 }
 
 -- the engine's stop, as one of a host that stores nothing; None where what it gave could not be kept
-abbrev pub stop_of : {End : Type 0} → LeadStop End → Option (Stop End)
-stop_of (Ends end) = Some (Ended end)
-stop_of (LineFails fault) = Some (LineFailed fault)
-stop_of (KeepFails fault) = None
-stop_of Over = Some TurnsOver
+abbrev pub stop_of : {End : Type 0} → Stop End → Option (Result End Cut)
+stop_of (Ended end) = Some (Ok end)
+stop_of (KeepFailed fault) = None
+stop_of (CutOff cut) = Some (Err cut)

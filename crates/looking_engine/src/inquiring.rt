@@ -4,8 +4,8 @@ ghost use Rattle.looking_engine.specs.Inquired.{IsInquired, inquiry};
 
 use crate::nothing::Nothing;
 use crate::reading::Reading;
-use crate::stop::{Stop, stop_from};
-use engine::lead;
+use crate::stop::stop_from;
+use engine::{Cut, lead};
 use host_devices::{Line, Onlooker};
 use reading_core::{End, ReadingCore};
 
@@ -20,12 +20,12 @@ pub fn inquire<L: Line, O: Onlooker>(
     line: &mut L,
     turns: u64,
     onlooker: &O,
-) -> (ReadingCore, Stop<End>)
+) -> (ReadingCore, Result<End, Cut>)
     ensures inquired { IsInquired turns (inquiry core result.0 (Some result.1)) (line_told L.Line line.old) (line_told L.Line line.new) }
 {
     // Whoever asks a core for its end learns that it is one.
     let _ = core.end();
     let mut host = Reading { core };
     let stop = stop_from(lead(&mut host, line, &mut Nothing, turns, onlooker));
-    (host.core, stop.unwrap_or(Stop::TurnsOver))
+    (host.core, stop.unwrap_or(Err(Cut::TurnsOver)))
 }

@@ -20,4 +20,4 @@ pub use conducting::conduct;
 pub use inquiring::inquire;
 pub use lending::inquire_in_memory;
 pub use reading::Reading;
-pub use stop::{Stop, stop_from};
+pub use stop::stop_from;

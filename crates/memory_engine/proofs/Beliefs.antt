@@ -8,7 +8,8 @@ use Rattle.host_devices.specs.Dialogue.{LacksKey, said, heard_of}
 use Rattle.engine.specs.Session.{IsDone}
 use Rattle.engine.specs.Ways.{dialogue as lead_dialogue, led as lead_led, said_all}
 use Rattle.engine.specs.declared.stop.Stop.{Stop}
-use Rattle.engine.specs.declared.stop.Stop.TheVariants.{Ended, LineFailed, KeepFailed, TurnsOver}
+use Rattle.engine.specs.declared.stop.Cut.TheVariants.{LineFailed, TurnsOver}
+use Rattle.engine.specs.declared.stop.Stop.TheVariants.{Ended, KeepFailed, CutOff}
 use Rattle.engine.proofs.Sessions.{gained_is}
 use Rattle.engine.proofs.Turns.{unsent_key}
 use Rattle.memory_core.specs.declared.phase.End.{End}
@@ -102,12 +103,12 @@ again_believed old new heard items is host same = whole_believed old new heard (
 believable : (stop : Stop End) (left : ℕ) (old new : Tester) (heard : List Heard) (items : List Item) (given : List Borrowed) → IsTester old → new ≡ led old heard →
     IsDone tests (Some stop) left (a_test old) heard items given → IsBelievableAt (Some stop) old new items
 believable (Ended end) left old new heard items given is host d = whole_believed old new heard items is host (d.said_is ∙ dialogue_is old heard)
-believable TurnsOver left old new heard items given is host d = whole_believed old new heard items is host (d.0.said_is ∙ dialogue_is old heard)
+believable (CutOff TurnsOver) left old new heard items given is host d = whole_believed old new heard items is host (d.0.said_is ∙ dialogue_is old heard)
 believable (KeepFailed fault) left old new heard items given is host d = tt
-believable (LineFailed fault) left old new heard items given is host (inl d) =
+believable (CutOff (LineFailed fault)) left old new heard items given is host (inl d) =
     let all : items ≡ dialogue old heard = d.0.said_is ∙ dialogue_is old heard in
     (believed_more old new items (whole_believed old new heard items is host all), again_believed old new heard items is host (ap heard_of all ∙ heard_of-dialogue old heard))
-believable (LineFailed fault) left old new heard items given is host (inr u) =
+believable (CutOff (LineFailed fault)) left old new heard items given is host (inr u) =
     let lacks : LacksKey (dialogue old heard) items = subst (λ all. LacksKey all items) (dialogue_is old heard) (unsent_key tests (λ t what. (ask t.core what).key) (a_test old) heard items given (λ t what. refl) u) in
     (cut_believed old new heard items is host lacks, again_believed old new heard items is host (sym (heard_of_more items lacks.0) ∙ (ap heard_of (sym lacks.1) ∙ heard_of-dialogue old heard)))
 
@@ -119,8 +120,8 @@ tested_believable turns stop old new line line' is s items gained =
 -- what was said is the whole dialogue, or all but its last key
 pub said_told : (stop : Stop End) (left : ℕ) (old : Tester) (heard : List Heard) (items : List Item) (given : List Borrowed) → NoKeepFault stop → IsDone tests (Some stop) left (a_test old) heard items given → IsToldOf (dialogue old heard) items
 said_told (Ended end) left old heard items given never d = inl (d.said_is ∙ dialogue_is old heard)
-said_told TurnsOver left old heard items given never d = inl (d.0.said_is ∙ dialogue_is old heard)
+said_told (CutOff TurnsOver) left old heard items given never d = inl (d.0.said_is ∙ dialogue_is old heard)
 said_told (KeepFailed fault) left old heard items given never d = absurd never
-said_told (LineFailed fault) left old heard items given never (inl d) = inl (d.0.said_is ∙ dialogue_is old heard)
-said_told (LineFailed fault) left old heard items given never (inr u) =
+said_told (CutOff (LineFailed fault)) left old heard items given never (inl d) = inl (d.0.said_is ∙ dialogue_is old heard)
+said_told (CutOff (LineFailed fault)) left old heard items given never (inr u) =
     inr (subst (λ all. LacksKey all items) (dialogue_is old heard) (unsent_key tests (λ t what. (ask t.core what).key) (a_test old) heard items given (λ t what. refl) u))

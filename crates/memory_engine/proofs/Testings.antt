@@ -3,7 +3,7 @@ use Rattle.std.proofs.Common.{ℕ, Some, ap, ◌∙◌}
 use Rattle.engine.specs.Keeping.{KeeperCalls}
 use Rattle.engine.specs.Led.{IsLed, Scene, scene}
 use Rattle.engine.specs.declared.stop.Stop.{Stop}
-use Rattle.engine.specs.declared.stop.Stop.TheVariants.{Ended, LineFailed, KeepFailed, TurnsOver}
+use Rattle.engine.specs.declared.stop.Stop.TheVariants.{Ended, KeepFailed, CutOff}
 use Rattle.memory_core.specs.declared.phase.End.{End}
 use Rattle.memory_core.specs.declared.stage.Borrowed.{Borrowed}
 use Rattle.memory_core.specs.Invariant.{IsTester}
@@ -18,8 +18,7 @@ use Rattle.memory_engine.proofs.Beliefs.{led_is, tested_believable}
 pub never_unkept : {K : Type 0} (calls : KeeperCalls K Borrowed) → ((a : K) (item : Borrowed) (b : K) → calls.fails a item b → ⊥) → (most : ℕ) (old new : Tester) (stop : Stop End) (before after : Scene K) →
     IsLed calls most (testing old new (Some stop)) before after → NoKeepFault stop
 never_unkept calls never most old new (Ended end) before after l = tt
-never_unkept calls never most old new TurnsOver before after l = tt
-never_unkept calls never most old new (LineFailed fault) before after l = tt
+never_unkept calls never most old new (CutOff cut) before after l = tt
 never_unkept calls never most old new (KeepFailed fault) before after l =
     let k = l.keeper.kept_by in
     never k.next k.last after.keeper k.failing

@@ -4,7 +4,8 @@ use Rattle.host_devices.specs.declared.item.Item.{Item}
 use Rattle.host_devices.specs.Dialogue.{heard_of}
 use Rattle.engine.specs.Session.{HasGained, Turns}
 use Rattle.engine.specs.declared.stop.Stop.{Stop}
-use Rattle.engine.specs.declared.stop.Stop.TheVariants.{Ended, LineFailed, KeepFailed, TurnsOver}
+use Rattle.engine.specs.declared.stop.Cut.TheVariants.{LineFailed, TurnsOver}
+use Rattle.engine.specs.declared.stop.Stop.TheVariants.{Ended, KeepFailed, CutOff}
 use Rattle.memory_core.specs.declared.phase.End.{End}
 use Rattle.memory_core.specs.Tester.{Tester}
 use Rattle.memory_law.specs.Testing.{dialogue, IsBelievable}
@@ -15,8 +16,8 @@ use Rattle.memory_engine.specs.Leading.{tests}
 -- which may have gone out. Nothing fails to be kept of a test
 abbrev pub IsBelievableAt : Option (Stop End) → Tester → Tester → List Item → Type 0
 IsBelievableAt (Some (Ended end)) old new said = IsBelievable old new said 0
-IsBelievableAt (Some TurnsOver) old new said = IsBelievable old new said 0
-IsBelievableAt (Some (LineFailed fault)) old new said = IsBelievable old new said 1 × IsBelievable old new (dialogue old (heard_of said)) 0
+IsBelievableAt (Some (CutOff TurnsOver)) old new said = IsBelievable old new said 0
+IsBelievableAt (Some (CutOff (LineFailed fault))) old new said = IsBelievable old new said 1 × IsBelievable old new (dialogue old (heard_of said)) 0
 IsBelievableAt (Some (KeepFailed fault)) old new said = ⊤
 IsBelievableAt None old new said = ⊤
 

@@ -4,11 +4,12 @@ use Rattle.std.specs.Prelude.{Option, Some, None, length, take, codes, decimal}
 use Rattle.std.specs.List.{filter, flat_map}
 use Rattle.octal.specs.Octal.{octal_text}
 use Rattle.byte_io.specs.Text.{line}
+use Rattle.engine.specs.Stopping.{cut_name}
 use Rattle.memory_core.specs.declared.stage.Borrowed.{Borrowed}
 use Rattle.memory_core.specs.Stage.{complement}
 use Rattle.memory_report.specs.declared.findings.Findings.{Findings}
-use Rattle.memory_report.specs.declared.findings.TestEnd.{TestEnd}
-use Rattle.memory_report.specs.declared.findings.TestEnd.TheVariants.{Tested, NotTrusted, NoWord, GaveUp, TurnsOver, LineFailed}
+use Rattle.memory_report.specs.declared.test_end.TestEnd.{TestEnd}
+use Rattle.memory_report.specs.declared.test_end.TestEnd.TheVariants.{Tested, NotTrusted, NoWord, GaveUp, CutOff}
 use Rattle.memory_report.specs.declared.findings.Word.{Word}
 use Rattle.memory_report.specs.declared.verdict.Verdict.{Verdict}
 use Rattle.memory_report.specs.declared.verdict.Verdict.TheVariants.{Holds, ReadsZero, ReadsOne, Fails}
@@ -135,8 +136,7 @@ end_name Tested = codes "Tested"
 end_name NotTrusted = codes "NotTrusted"
 end_name (NoWord address) = codes "NoWord " ++ octal_text address
 end_name GaveUp = codes "GaveUp"
-end_name TurnsOver = codes "TurnsOver"
-end_name (LineFailed fault) = codes "LineFailed"
+end_name (CutOff cut) = cut_name cut
 
 abbrev pub end_text : TestEnd → List ℕ
 end_text end = codes "end " ++ end_name end ++ line []

@@ -4,8 +4,8 @@ ghost use Rattle.octal.specs.Octal.{octal_text};
 ghost use Rattle.arrayvec.specs.ArrayVec.{array_vec_len};
 ghost use Rattle.memory_report.specs.Report.{borrowed_text, end_name, end_text};
 
-use crate::findings::TestEnd;
 use crate::report::Report;
+use crate::test_end::TestEnd;
 use byte_io::{push_bytes, push_octal};
 use memory_core::Borrowed;
 
@@ -44,8 +44,7 @@ fn push_name(text: &mut Report, end: TestEnd)
         TestEnd::NotTrusted => push_bytes(text, b"NotTrusted"),
         TestEnd::NoWord(address) => push_no_word(text, address),
         TestEnd::GaveUp => push_bytes(text, b"GaveUp"),
-        TestEnd::TurnsOver => push_bytes(text, b"TurnsOver"),
-        TestEnd::LineFailed(_) => push_bytes(text, b"LineFailed"),
+        TestEnd::CutOff(cut) => push_bytes(text, cut.name()),
     }
 }
 

@@ -5,7 +5,7 @@ ghost use Rattle.memory_report.specs.Words.{all_hold, is_bad};
 
 use crate::bank::count_bad;
 use crate::bus_text::count_same;
-use host_devices::LineFault;
+use crate::test_end::TestEnd;
 use memory_core::{Borrowed, Seen};
 
 /// A word that was tested.
@@ -26,28 +26,6 @@ impl Word {
         let Seen { old, turned, back } = self.seen;
         turned != u16::MAX.saturating_sub(old) || back != old
     }
-}
-
-/// How a test of memory ended.
-#[derive(Clone, Copy, Debug, PartialEq, Eq)]
-pub enum TestEnd {
-    /// Every word that was asked for was tested, or its bank does not answer.
-    Tested,
-
-    /// The console stored digits at an illegal key: nothing was tested.
-    NotTrusted,
-
-    /// Nothing answers at this address, in the middle of a word or where the test was to begin.
-    NoWord(u16),
-
-    /// More mishaps than the patience.
-    GaveUp,
-
-    /// The turns were over before the end: the line never falls silent.
-    TurnsOver,
-
-    /// The line failed.
-    LineFailed(LineFault),
 }
 
 /// What was found of a bus at one word that holds: whether its data lines touch, and which words its address lines do not

@@ -14,8 +14,10 @@ mod end_text;
 mod findings;
 mod picture;
 mod report;
+mod test_end;
 mod verdict;
 
-pub use findings::{Bus, Findings, TestEnd, Word};
+pub use findings::{Bus, Findings, Word};
 pub use report::{Report, push_report};
+pub use test_end::TestEnd;
 pub use verdict::{Verdict, dots_mean_that_it_holds};

@@ -3,8 +3,9 @@ use Rattle.std.specs.Prelude.{ℕ, ◌+◌, ◌/◌, ◌%◌, ◌==◌, ◌||◌
 use Rattle.std.specs.List.{flat_map}
 use Rattle.host_core.specs.Console.{carriage_return, line_feed}
 use Rattle.byte_io.specs.Text.{line}
+use Rattle.engine.specs.declared.stop.Cut.TheVariants.{TurnsOver}
 use Rattle.probe_report.specs.declared.probe_end.ProbeEnd.{ProbeEnd}
-use Rattle.probe_report.specs.declared.probe_end.ProbeEnd.TheVariants.{NoPrompt, GaveUp, TurnsOver}
+use Rattle.probe_report.specs.declared.probe_end.ProbeEnd.TheVariants.{NoPrompt, GaveUp, CutOff}
 use Rattle.probe_report.specs.Notes.{Noted}
 
 -- a backslash, and the three octal digits of a character
@@ -51,5 +52,5 @@ lines_with heading notes = line (heard_text notes) ++ line (help_text heading)
 abbrev pub heard_lines : ProbeEnd → Noted → List ℕ
 heard_lines NoPrompt notes = lines_with (heard_heading notes) notes
 heard_lines GaveUp notes = lines_with (heard_heading notes) notes
-heard_lines TurnsOver notes = lines_with (codes "It never falls silent") notes
+heard_lines (CutOff TurnsOver) notes = lines_with (codes "It never falls silent") notes
 heard_lines end notes = []

@@ -2,6 +2,7 @@
 use Rattle.std.specs.Prelude.{ℕ, ◌+◌, ◌-◌, ◌/◌, ◌^◌, ◌==◌, Bool, true, false, nat_lt, min, if◌then◌else◌, List, [], ◌++◌, codes, decimal, Option, Some}
 use Rattle.octal.specs.Octal.{octal_text}
 use Rattle.byte_io.specs.Text.{line}
+use Rattle.engine.specs.Stopping.{cut_name}
 use Rattle.probe_report.specs.declared.findings.Changes.{Changes}
 use Rattle.probe_report.specs.declared.findings.Findings.{Findings}
 use Rattle.probe_report.specs.declared.findings.Extent.{Extent}
@@ -74,8 +75,7 @@ end_name end.NotTrusted = codes "NotTrusted"
 end_name end.NoPrompt = codes "NoPrompt"
 end_name end.GaveUp = codes "GaveUp"
 end_name (end.NoWord address) = codes "NoWord " ++ octal_text address
-end_name end.TurnsOver = codes "TurnsOver"
-end_name (end.LineFailed fault) = codes "LineFailed"
+end_name (end.CutOff cut) = cut_name cut
 
 -- what a probe prints of its findings, of what was heard and of its pace
 abbrev pub probe_text : Findings → Noted → Pace → List ℕ

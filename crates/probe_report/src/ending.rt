@@ -4,6 +4,7 @@ ghost use Rattle.probe_report.specs.Ending.{first_end, probe_end, same_end, sear
 
 use crate::findings::{Extent, Findings, Sighting, TrialEnd, TrialFindings};
 use crate::probe_end::ProbeEnd;
+use engine::Cut;
 
 /// How a probe ends with these findings, where a prompt was heard or not.
 pub(crate) fn end_of(findings: &Findings, prompt: bool) -> ProbeEnd
@@ -14,8 +15,7 @@ pub(crate) fn end_of(findings: &Findings, prompt: bool) -> ProbeEnd
         Sighting::GaveUp if prompt => ProbeEnd::GaveUp,
         Sighting::GaveUp => ProbeEnd::NoPrompt,
         Sighting::NoWord => ProbeEnd::NoWord(findings.address),
-        Sighting::TurnsOver => ProbeEnd::TurnsOver,
-        Sighting::LineFailed(fault) => ProbeEnd::LineFailed(fault),
+        Sighting::CutOff(cut) => ProbeEnd::CutOff(cut),
     }
 }
 
@@ -34,7 +34,7 @@ fn trial_end(findings: &Findings, old: u16, trial: TrialFindings) -> ProbeEnd
     ensures { result ≡ trial_end findings.now old trial.end }
 {
     match trial.end {
-        TrialEnd::LineFailed(fault) => ProbeEnd::LineFailed(fault),
+        TrialEnd::CutOff(Cut::LineFailed(fault)) => ProbeEnd::CutOff(Cut::LineFailed(fault)),
         end => second_end(findings, old, end),
     }
 }
@@ -48,8 +48,7 @@ fn second_end(findings: &Findings, old: u16, trial: TrialEnd) -> ProbeEnd
         Some(Sighting::Number(_)) => ProbeEnd::NotTrusted,
         Some(Sighting::GaveUp) | None => ProbeEnd::GaveUp,
         Some(Sighting::NoWord) => ProbeEnd::NoWord(findings.address),
-        Some(Sighting::TurnsOver) => ProbeEnd::TurnsOver,
-        Some(Sighting::LineFailed(fault)) => ProbeEnd::LineFailed(fault),
+        Some(Sighting::CutOff(cut)) => ProbeEnd::CutOff(cut),
     }
 }
 
@@ -59,7 +58,7 @@ fn same_end(trial: TrialEnd, search: Option<Extent>) -> ProbeEnd
 {
     match trial {
         TrialEnd::Tried => search_end(search),
-        TrialEnd::TurnsOver => ProbeEnd::TurnsOver,
+        TrialEnd::CutOff(cut) => ProbeEnd::CutOff(cut),
         _ => ProbeEnd::GaveUp,
     }
 }
@@ -71,7 +70,6 @@ fn search_end(search: Option<Extent>) -> ProbeEnd
     match search {
         Some(Extent::Top(_)) => ProbeEnd::Probed,
         Some(Extent::GaveUp) | None => ProbeEnd::GaveUp,
-        Some(Extent::TurnsOver) => ProbeEnd::TurnsOver,
-        Some(Extent::LineFailed(fault)) => ProbeEnd::LineFailed(fault),
+        Some(Extent::CutOff(cut)) => ProbeEnd::CutOff(cut),
     }
 }

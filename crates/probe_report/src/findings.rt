@@ -1,4 +1,4 @@
-use host_devices::LineFault;
+use engine::Cut;
 use trial_core::Seen;
 
 /// What a look at the word gave.
@@ -13,11 +13,8 @@ pub enum Sighting {
     /// More mishaps than the patience.
     GaveUp,
 
-    /// The turns were over.
-    TurnsOver,
-
-    /// The line failed.
-    LineFailed(LineFault),
+    /// The line failed, or the turns were over.
+    CutOff(Cut),
 }
 
 /// How the trial ended.
@@ -32,11 +29,8 @@ pub enum TrialEnd {
     /// More mishaps than the patience. Digits may have been typed.
     GaveUp,
 
-    /// The turns were over. Digits may have been typed.
-    TurnsOver,
-
-    /// The line failed. Digits may have been typed.
-    LineFailed(LineFault),
+    /// The line failed, or the turns were over. Digits may have been typed.
+    CutOff(Cut),
 }
 
 /// What the trial gave.
@@ -61,11 +55,8 @@ pub enum Extent {
     /// More mishaps than the patience.
     GaveUp,
 
-    /// The turns were over.
-    TurnsOver,
-
-    /// The line failed.
-    LineFailed(LineFault),
+    /// The line failed, or the turns were over.
+    CutOff(Cut),
 }
 
 /// How many characters the looks of a probe heard that no loss explains: the line changed them, or made them up. Of a look

@@ -9,6 +9,7 @@ use crate::notes::Notes;
 use crate::probe_end::ProbeEnd;
 use crate::report::Report;
 use byte_io::push_bytes;
+use engine::Cut;
 
 /// Puts what was heard last and which heading helps, where a probe ended without an answer that fits.
 pub(crate) fn push_heard(text: &mut Report, end: ProbeEnd, notes: &Notes)
@@ -18,9 +19,11 @@ pub(crate) fn push_heard(text: &mut Report, end: ProbeEnd, notes: &Notes)
 {
     match end {
         ProbeEnd::NoPrompt | ProbeEnd::GaveUp => push_lines(text, heading(notes), notes),
-        ProbeEnd::TurnsOver => push_lines(text, b"It never falls silent", notes),
-        ProbeEnd::Probed | ProbeEnd::NotTrusted | ProbeEnd::NoWord(_) | ProbeEnd::LineFailed(_) =>
-            {}
+        ProbeEnd::CutOff(Cut::TurnsOver) => push_lines(text, b"It never falls silent", notes),
+        ProbeEnd::Probed
+        | ProbeEnd::NotTrusted
+        | ProbeEnd::NoWord(_)
+        | ProbeEnd::CutOff(Cut::LineFailed(_)) => {}
     }
 }
 

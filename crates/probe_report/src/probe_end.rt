@@ -1,4 +1,4 @@
-use host_devices::LineFault;
+use engine::Cut;
 
 /// How a probe ended.
 #[derive(Clone, Copy, Debug, PartialEq, Eq)]
@@ -18,9 +18,6 @@ pub enum ProbeEnd {
     /// Memory has no word at this address, at which the probe was to be made.
     NoWord(u16),
 
-    /// The turns of a run were over before its end: the line never falls silent.
-    TurnsOver,
-
-    /// The line failed.
-    LineFailed(LineFault),
+    /// The line failed, or the turns of a run were over before its end: it never falls silent.
+    CutOff(Cut),
 }

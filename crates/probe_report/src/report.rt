@@ -200,8 +200,7 @@ fn push_end_name(text: &mut Report, end: ProbeEnd)
         ProbeEnd::NoPrompt => push_bytes(text, b"NoPrompt"),
         ProbeEnd::GaveUp => push_bytes(text, b"GaveUp"),
         ProbeEnd::NoWord(address) => push_no_word(text, address),
-        ProbeEnd::TurnsOver => push_bytes(text, b"TurnsOver"),
-        ProbeEnd::LineFailed(_) => push_bytes(text, b"LineFailed"),
+        ProbeEnd::CutOff(cut) => push_bytes(text, cut.name()),
     }
 }
 

@@ -2,6 +2,7 @@
 //! are to be looked at again; and what it says of a line that fails before and behind the start.
 
 use crate::frail_surroundings::{Frail, RECORD, Stopped, VERIFIED, load_one_word, machine};
+use engine::Cut;
 use host_core::End;
 use load_engine::Stop;
 use load_record::RecordError;
@@ -464,8 +465,8 @@ fn place_of(left: &Left) -> Option<Place> {
         return None;
     }
     match outcome.end {
-        LoadEnd::Driven(Stop::LineFailed(_)) if has_mark => Some(Place::BehindMark),
-        LoadEnd::Driven(Stop::LineFailed(_)) => Some(Place::BeforeMark),
+        LoadEnd::Driven(Stop::CutOff(Cut::LineFailed(_))) if has_mark => Some(Place::BehindMark),
+        LoadEnd::Driven(Stop::CutOff(Cut::LineFailed(_))) => Some(Place::BeforeMark),
         LoadEnd::Driven(Stop::Ended(End::Started)) => Some(Place::Nowhere),
         _ => None,
     }

@@ -1,5 +1,5 @@
 -- Samples are words of the record, and what was said of them is a look.
-use Rattle.std.proofs.Common.{◌≡◌, ℕ, zero, suc, ◌+◌, ◌-◌, ◌<◌, ◌≤◌, ◌⊎◌, List, length, map, get_or, Some, inl, inr, arith, ap, sym, subst, ◌∙◌}
+use Rattle.std.proofs.Common.{◌≡◌, ℕ, zero, suc, ◌+◌, ◌-◌, ◌<◌, ◌≤◌, ◌⊎◌, List, length, map, get_or, Some, Ok, Err, inl, inr, arith, ap, sym, subst, ◌∙◌}
 use Rattle.std.specs.Prelude.{All}
 use Rattle.std.proofs.lemmas.List.{get_or-map, length-map}
 use Rattle.std.proofs.lemmas.List.Elements.{All-append}
@@ -12,7 +12,7 @@ use Rattle.looking_law.specs.Trying.{IsToldOf}
 use Rattle.load_lives.specs.Stops.{WentOut}
 use Rattle.looking_engine.specs.Session.{IsSaid}
 use Rattle.looking_engine.specs.Stopping.{LookStop}
-use Rattle.looking_engine.specs.declared.stop.Stop.TheVariants.{Ended, LineFailed, TurnsOver}
+use Rattle.engine.specs.declared.stop.Cut.TheVariants.{LineFailed, TurnsOver}
 use Rattle.sample_looks.specs.LooksFirst.{SamplesAreOfTheRecord, looked_at}
 use Rattle.sample_looks.specs.Samples.{AreSamples, AreSpread}
 use Rattle.tape_image.specs.Plan.{PlanValue}
@@ -63,10 +63,10 @@ of_record plan recorded samples (places, spread, are) = subst (λ list. All (IsO
 -- ---- what was said
 
 said_told : (stop : LookStop) (left : ℕ) (all said : List Item) → IsSaid (Some stop) left all said → IsToldOf all said
-said_told (Ended end) left all said s = inl s
-said_told TurnsOver left all said s = inl s.0
-said_told (LineFailed fault) left all said (inl s) = inl s.0
-said_told (LineFailed fault) left all said (inr lacks) = inr lacks
+said_told (Ok end) left all said s = inl s
+said_told (Err TurnsOver) left all said s = inl s.0
+said_told (Err (LineFailed fault)) left all said (inl s) = inl s.0
+said_told (Err (LineFailed fault)) left all said (inr lacks) = inr lacks
 
 went_told : (all said looks : List Item) → WentOut all said looks → IsToldOf all said → IsToldOf all looks
 went_told all said looks (inl is) told = subst (IsToldOf all) (sym is) told

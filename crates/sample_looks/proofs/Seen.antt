@@ -1,5 +1,5 @@
 -- What looks at samples found is so in memory, where what was said is honest.
-use Rattle.std.proofs.Common.{◌≡◌, ℕ, ◌+◌, ◌<◌, ◌≤◌, true, List, [], length, get_or, min, take, Option, Some, arith, ap, sym, subst, ◌∙◌}
+use Rattle.std.proofs.Common.{◌≡◌, ℕ, ◌+◌, ◌<◌, ◌≤◌, true, List, [], length, get_or, min, take, Option, Some, Ok, Err, arith, ap, sym, subst, ◌∙◌}
 use Rattle.std.specs.Prelude.{All}
 use Rattle.std.proofs.lemmas.List.{get_or-map, get_or-take, get_or_append_left, get_or_default, length-append, length-map, length-take, take_all}
 use Rattle.tape_image.specs.Word.{WordValue, Stands}
@@ -20,7 +20,7 @@ use Rattle.looking_engine.specs.Belief.{IsBelievableAt, IsBelievableOver}
 use Rattle.looking_engine.specs.Honest.{IsHonest}
 use Rattle.looking_engine.specs.Inquired.{inquiry}
 use Rattle.looking_engine.specs.Stopping.{LookStop, TellsEnd}
-use Rattle.looking_engine.specs.declared.stop.Stop.TheVariants.{Ended, LineFailed, TurnsOver}
+use Rattle.engine.specs.declared.stop.Cut.TheVariants.{LineFailed, TurnsOver}
 use Rattle.sample_looks.specs.declared.finding.Finding.{Finding}
 use Rattle.sample_looks.specs.declared.finding.Finding.TheVariants.{AllStand, Stale, Unfinished}
 use Rattle.sample_looks.specs.Finding.{IsFound, IsSoIn}
@@ -30,9 +30,9 @@ use Rattle.sample_looks.specs.Samples.{BeginWith}
 -- over an honest line what was read is true, with the losses or one more
 is_true : (stop : LookStop) (first last : Reader) (items : List Item) (machine now : Machine) (lost : ℕ) → IsBelievableAt stop first last items → MayLook first machine → IsHonest machine items lost now
     → (more : ℕ) × IsTrueReading machine.memory last now.memory (keys_of items) (lost + more)
-is_true (Ended end) first last items machine now lost believed may honest = (0, believed machine now lost may honest)
-is_true TurnsOver first last items machine now lost believed may honest = (0, believed machine now lost may honest)
-is_true (LineFailed fault) first last items machine now lost believed may honest = (1, believed.0 machine now lost may honest)
+is_true (Ok end) first last items machine now lost believed may honest = (0, believed machine now lost may honest)
+is_true (Err TurnsOver) first last items machine now lost believed may honest = (0, believed machine now lost may honest)
+is_true (Err (LineFailed fault)) first last items machine now lost believed may honest = (1, believed.0 machine now lost may honest)
 
 -- a reader that came to its end has as many numbers as addresses
 all_in : (phase : Phase) (b : Basis) → PhaseFits phase b → ended phase ≡ Some Complete → length b.values ≡ length b.addresses

@@ -1,12 +1,11 @@
 -- What looks at samples found, and what it means of a memory.
-use Rattle.std.specs.Prelude.{◌≡◌, ℕ, ◌<◌, true, List, length, get_or, ⊤}
+use Rattle.std.specs.Prelude.{◌≡◌, ℕ, ◌<◌, true, List, length, get_or, ⊤, Ok, Err}
 use Rattle.tape_image.specs.Word.{WordValue, Stands}
 use Rattle.host_core.specs.Core.{word_nr}
 use Rattle.odt_machine.specs.Machine.{is_word, word_at}
 use Rattle.line_world.specs.Safe.{FirstStand}
 use Rattle.reading_core.specs.declared.phase.End.TheVariants.{Complete, GaveUp, NoWord}
 use Rattle.looking_engine.specs.Stopping.{LookStop}
-use Rattle.looking_engine.specs.declared.stop.Stop.TheVariants.{Ended, LineFailed, TurnsOver}
 use Rattle.sample_looks.specs.declared.finding.Finding.{Finding}
 use Rattle.sample_looks.specs.declared.finding.Finding.TheVariants.{AllStand, Stale, Unfinished}
 
@@ -22,17 +21,16 @@ IsFirstToDiffer samples numbers address =
 
 -- where none differs, by how the reading stopped
 abbrev pub unless_stopped_at : LookStop → Finding
-unless_stopped_at (Ended Complete) = AllStand
-unless_stopped_at (Ended GaveUp) = Unfinished
-unless_stopped_at (Ended (NoWord address)) = Unfinished
-unless_stopped_at (LineFailed fault) = Unfinished
-unless_stopped_at TurnsOver = Unfinished
+unless_stopped_at (Ok Complete) = AllStand
+unless_stopped_at (Ok GaveUp) = Unfinished
+unless_stopped_at (Ok (NoWord address)) = Unfinished
+unless_stopped_at (Err cut) = Unfinished
 
 -- what is found where these numbers were read and the reading stopped so
 abbrev pub IsFound : List WordValue → List ℕ → LookStop → Finding → Type 0
-IsFound samples numbers stop AllStand = (stop ≡ Ended Complete) × StandAsRead samples numbers (length numbers)
+IsFound samples numbers stop AllStand = (stop ≡ Ok Complete) × StandAsRead samples numbers (length numbers)
 IsFound samples numbers stop (Stale address) = IsFirstToDiffer samples numbers address
-IsFound samples numbers stop Unfinished = (stop ≡ Ended Complete → ⊥) × StandAsRead samples numbers (length numbers)
+IsFound samples numbers stop Unfinished = (stop ≡ Ok Complete → ⊥) × StandAsRead samples numbers (length numbers)
 
 -- what was found is so in this memory: all of them stand; or memory has a word at the address, and it does not stand
 abbrev pub IsSoIn : List ℕ → List WordValue → Finding → Type 0

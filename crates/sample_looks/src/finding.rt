@@ -2,7 +2,7 @@
 ghost use Rattle.std.specs.Prelude.{◌≡◌, ◌≤◌, length, MatchOption};
 ghost use Rattle.sample_looks.specs.Finding.{IsFirstToDiffer, IsFound, StandAsRead, unless_stopped_at};
 
-use looking_engine::Stop;
+use engine::Cut;
 use reading_core::End;
 use tape_image::{Word, stands};
 
@@ -20,7 +20,7 @@ pub enum Finding {
 }
 
 // What the numbers say that were read at the first of the words before the reading stopped so.
-pub(crate) fn found(samples: &[Word], numbers: &[u16], stop: Stop<End>) -> Finding
+pub(crate) fn found(samples: &[Word], numbers: &[u16], stop: Result<End, Cut>) -> Finding
     requires { length numbers.now ≤ length samples.now }
     ensures { IsFound samples.now numbers.now stop result }
 {
@@ -31,11 +31,11 @@ pub(crate) fn found(samples: &[Word], numbers: &[u16], stop: Stop<End>) -> Findi
 }
 
 // What it comes to where no word differs.
-fn unless_stopped(stop: Stop<End>) -> Finding
+fn unless_stopped(stop: Result<End, Cut>) -> Finding
     ensures { result ≡ unless_stopped_at stop }
 {
     match stop {
-        Stop::Ended(End::Complete) => Finding::AllStand,
+        Ok(End::Complete) => Finding::AllStand,
         _ => Finding::Unfinished,
     }
 }

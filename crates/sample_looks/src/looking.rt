@@ -12,8 +12,9 @@ ghost use Rattle.sample_looks.specs.Looked.{IsSoOver};
 ghost use Rattle.sample_looks.specs.Samples.{BeginWith};
 
 use crate::finding::{Finding, found};
+use engine::Cut;
 use host_devices::{Line, MOST_TURNS, Onlooker};
-use looking_engine::{Stop, inquire};
+use looking_engine::inquire;
 use reading_core::{Care, End, ReadingCore};
 use std::alloc::{AllocError, Global};
 use tape_image::Word;
@@ -25,7 +26,7 @@ pub struct Looked {
     pub reader: ReadingCore,
 
     /// Why the reading stopped.
-    pub stop: Stop<End>,
+    pub stop: Result<End, Cut>,
 
     /// What it found.
     pub finding: Finding,

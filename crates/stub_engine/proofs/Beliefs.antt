@@ -5,7 +5,8 @@ use Rattle.host_core.specs.declared.heard.Heard.{Heard}
 use Rattle.host_devices.specs.declared.item.Item.{Item}
 use Rattle.host_devices.specs.Told.{Gains}
 use Rattle.engine.proofs.Sessions.{gained_is}
-use Rattle.engine.specs.declared.stop.Stop.TheVariants.{Ended, LineFailed, KeepFailed, TurnsOver}
+use Rattle.engine.specs.declared.stop.Cut.TheVariants.{LineFailed, TurnsOver}
+use Rattle.engine.specs.declared.stop.Stop.TheVariants.{Ended, KeepFailed, CutOff}
 use Rattle.exchange_core.specs.declared.chunk.Chunk.{Chunk}
 use Rattle.exchange_core.specs.declared.duplex.Duplex.{Duplex}
 use Rattle.exchange_core.specs.declared.exchange.Exchange.{Exchange}
@@ -22,8 +23,8 @@ use Rattle.stub_engine.specs.Exchanged.{IsSaid, LacksKeys}
 lacks : (stop : Option ExchangeStop) (all said : List Item) → IsSaid stop all said → LacksKeys all said
 lacks None all said s = ([], sym s ∙ sym (append-nil said))
 lacks (Some (Ended end)) all said s = ([], sym s ∙ sym (append-nil said))
-lacks (Some TurnsOver) all said s = ([], sym s ∙ sym (append-nil said))
-lacks (Some (LineFailed fault)) all said s = s
+lacks (Some (CutOff TurnsOver)) all said s = ([], sym s ∙ sym (append-nil said))
+lacks (Some (CutOff (LineFailed fault))) all said s = s
 lacks (Some (KeepFailed fault)) all said s = s
 
 pub believable : (plan : PlanValue) (chunks : List Chunk) (stop : Option ExchangeStop) (from : ℕ) (duplex : Duplex) (e : Exchange) (heard : List Heard) (items : List Item) (line line' : Option (List Item)) → AreChunks plan from chunks → e ≡ led plan.image chunks (begun from duplex) heard →

@@ -8,7 +8,8 @@ use Rattle.engine.specs.Keeping.{KeeperCalls}
 use Rattle.engine.specs.Led.{IsLed, Scene, told_by}
 use Rattle.engine.specs.Session.{IsAll, IsDone, Session, SessionTold, Unkept, Unsent, turns_of}
 use Rattle.engine.specs.Ways.{GoesOn, dialogue, led, news_of, said_all}
-use Rattle.engine.specs.declared.stop.Stop.TheVariants.{Ended, LineFailed, KeepFailed, TurnsOver}
+use Rattle.engine.specs.declared.stop.Cut.TheVariants.{LineFailed, TurnsOver}
+use Rattle.engine.specs.declared.stop.Stop.TheVariants.{Ended, KeepFailed, CutOff}
 use Rattle.stub_engine.specs.declared.hosting.ExchangeHost.{ExchangeHost}
 use Rattle.stub_engine.specs.Exchanging.{ExchangeStop, exchange_host, exchanges}
 
@@ -61,9 +62,9 @@ module _ (h : ExchangeHost) (heard : List Heard) (said : List Item) (given : Lis
   done_seen : (stop : Option ExchangeStop) (left : ℕ) → IsDone exchange_host stop left h heard said given → IsDone (exchanges h.plan.now h.chunks.now) stop left h.state heard said given
   done_seen None left d = (all_seen d.0, d.1)
   done_seen (Some (Ended end)) left d = all_seen d
-  done_seen (Some TurnsOver) left d = (all_seen d.0, d.1)
-  done_seen (Some (LineFailed fault)) left (inl d) = inl (all_seen d.0, d.1)
-  done_seen (Some (LineFailed fault)) left (inr d) = inr (unsent_seen d)
+  done_seen (Some (CutOff TurnsOver)) left d = (all_seen d.0, d.1)
+  done_seen (Some (CutOff (LineFailed fault))) left (inl d) = inl (all_seen d.0, d.1)
+  done_seen (Some (CutOff (LineFailed fault))) left (inr d) = inr (unsent_seen d)
   done_seen (Some (KeepFailed fault)) left d = unkept_seen d
 
 session_seen : (most : ℕ) (h g : ExchangeHost) (stop : Option ExchangeStop) (before after : SessionTold Kept) → Session most (turns_of exchange_host h g stop) before after →

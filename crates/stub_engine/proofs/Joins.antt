@@ -8,7 +8,7 @@ use Rattle.host_core.specs.Laws.{led}
 use Rattle.exchange_law.specs.Law.{said_all}
 use Rattle.exchange_law.specs.Start.{program as stub_program}
 use Rattle.load_lives.specs.StubParts.{AreStubParts, StubPart, bringer, exchange_said, stubs_said, verified_after, verified_by}
-use Rattle.engine.specs.declared.stop.Stop.TheVariants.{Ended, TurnsOver, LineFailed, KeepFailed}
+use Rattle.engine.specs.declared.stop.Stop.TheVariants.{Ended, KeepFailed, CutOff}
 use Rattle.stub_engine.specs.declared.stop.StubsEnd.TheVariants.{TooFewWords, NoRoom, InVain, NotStarted, Memory}
 use Rattle.stub_engine.specs.declared.tally.Tally.{Tally}
 use Rattle.stub_engine.specs.declared.typist.Typist.{Typist}
@@ -49,8 +49,7 @@ ends_join (Some (Ended (NotStarted end))) parts more ends = record {
   parts_are = ap (λ list. parts ++ list) ends.parts_are ∙ sym (append_assoc parts ends.before (ends.last ∷ []));
   end_is = ends.end_is;
 }
-ends_join (Some TurnsOver) parts more ends = tt
-ends_join (Some (LineFailed fault)) parts more ends = tt
+ends_join (Some (CutOff cut)) parts more ends = tt
 ends_join (Some (KeepFailed fault)) parts more ends = tt
 ends_join (Some (Ended Memory)) parts more ends = tt
 

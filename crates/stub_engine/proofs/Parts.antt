@@ -17,7 +17,8 @@ use Rattle.host_devices.specs.Dialogue.{dialogue}
 use Rattle.host_devices.specs.Turns.{most_turns}
 use Rattle.host_devices.proofs.Told.{gains_join, gains_none}
 use Rattle.load_engine.specs.Driving.{LoadSession, LoadStop, driving}
-use Rattle.engine.specs.declared.stop.Stop.TheVariants.{Ended, LineFailed, KeepFailed, TurnsOver}
+use Rattle.engine.specs.declared.stop.Cut.TheVariants.{LineFailed, TurnsOver}
+use Rattle.engine.specs.declared.stop.Stop.TheVariants.{Ended, KeepFailed, CutOff}
 use Rattle.engine.specs.Session.{SessionTold, session_told}
 use Rattle.engine.specs.Stopping.{TellsEnd, keep_fault, line_fault}
 use Rattle.load_engine.specs.Driven.{IsSaid as IsLoadSaid}
@@ -84,15 +85,15 @@ full stop all said s = record { unsent = []; is = sym s ∙ sym (append-nil said
 
 brought_front : (stop : LoadStop) (all said : List Item) → IsLoadSaid (Some stop) all said → IsFront (why_unstarted stop) all said
 brought_front (Ended end) all said s = full (why_ended end) all said s
-brought_front TurnsOver all said s = full (Some TurnsOver) all said s
-brought_front (LineFailed fault) all said (inl deaf) = full (Some (LineFailed fault)) all said deaf
-brought_front (LineFailed fault) all said (inr less) = record { unsent = less.0 ∷ []; is = less.1; whole = λ line keep. absurd (is_some _ line) }
+brought_front (CutOff TurnsOver) all said s = full (Some (CutOff TurnsOver)) all said s
+brought_front (CutOff (LineFailed fault)) all said (inl deaf) = full (Some (CutOff (LineFailed fault))) all said deaf
+brought_front (CutOff (LineFailed fault)) all said (inr less) = record { unsent = less.0 ∷ []; is = less.1; whole = λ line keep. absurd (is_some _ line) }
 brought_front (KeepFailed fault) all said s = record { unsent = s.0 ∷ []; is = s.1; whole = λ line keep. absurd (is_some _ keep) }
 
 exchange_front : (stop : ExchangeStop) (all said : List Item) → IsSaid (Some stop) all said → IsFront (why_left stop) all said
 exchange_front (Ended end) all said s = full None all said s
-exchange_front TurnsOver all said s = full (Some TurnsOver) all said s
-exchange_front (LineFailed fault) all said s = record { unsent = s.0; is = s.1; whole = λ line keep. absurd (is_some _ line) }
+exchange_front (CutOff TurnsOver) all said s = full (Some (CutOff TurnsOver)) all said s
+exchange_front (CutOff (LineFailed fault)) all said s = record { unsent = s.0; is = s.1; whole = λ line keep. absurd (is_some _ line) }
 exchange_front (KeepFailed fault) all said s = record { unsent = s.0; is = s.1; whole = λ line keep. absurd (is_some _ keep) }
 
 -- ---- a stub that did not start
@@ -105,15 +106,13 @@ ends_so (Ended MaybeStarted) part tells = record { before = []; last = part; par
 ends_so (Ended GaveUp) part tells = record { before = []; last = part; parts_are = refl; end_is = tells }
 ends_so (Ended (NoWord address)) part tells = record { before = []; last = part; parts_are = refl; end_is = tells }
 ends_so (Ended (WontHold address)) part tells = record { before = []; last = part; parts_are = refl; end_is = tells }
-ends_so (LineFailed fault) part tells = tt
 ends_so (KeepFailed fault) part tells = tt
-ends_so TurnsOver part tells = tt
+ends_so (CutOff cut) part tells = tt
 
 left_ends : (left : ExchangeStop) (parts : List StubPart) → EndsSo (why_left left) parts
 left_ends (Ended end) parts = tt
-left_ends (LineFailed fault) parts = tt
 left_ends (KeepFailed fault) parts = tt
-left_ends TurnsOver parts = tt
+left_ends (CutOff cut) parts = tt
 
 only_started : (stop : LoadStop) → why_unstarted stop ≡ None → stop ≡ Ended Started
 only_started (Ended Started) follows = refl
@@ -123,9 +122,8 @@ only_started (Ended MaybeStarted) follows = absurd (is_some _ follows)
 only_started (Ended GaveUp) follows = absurd (is_some _ follows)
 only_started (Ended (NoWord address)) follows = absurd (is_some _ follows)
 only_started (Ended (WontHold address)) follows = absurd (is_some _ follows)
-only_started (LineFailed fault) follows = absurd (is_some _ follows)
 only_started (KeepFailed fault) follows = absurd (is_some _ follows)
-only_started TurnsOver follows = absurd (is_some _ follows)
+only_started (CutOff cut) follows = absurd (is_some _ follows)
 
 -- an end is the phase's
 is_end : (phase : Phase) (end : End) → ended phase ≡ Some end → phase ≡ PhaseEnded end

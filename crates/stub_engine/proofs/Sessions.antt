@@ -14,7 +14,8 @@ use Rattle.exchange_law.specs.Law.{dialogue, said_all}
 use Rattle.engine.specs.Session.{IsDone}
 use Rattle.engine.specs.Stopping.{keep_fault}
 use Rattle.engine.specs.Ways.{dialogue as lead_dialogue, led as lead_led, news_of, said_all as lead_said}
-use Rattle.engine.specs.declared.stop.Stop.TheVariants.{Ended, LineFailed, KeepFailed, TurnsOver}
+use Rattle.engine.specs.declared.stop.Cut.TheVariants.{LineFailed, TurnsOver}
+use Rattle.engine.specs.declared.stop.Stop.TheVariants.{Ended, KeepFailed, CutOff}
 use Rattle.engine.proofs.Turns.{unkept_keys, unkept_news, unsent_keys}
 use Rattle.stub_engine.specs.Exchanged.{IsGiven, IsSaid, LacksKeys}
 use Rattle.stub_engine.specs.Exchanging.{ExchangeStop, exchanges}
@@ -85,9 +86,9 @@ module _ (plan : PlanValue) (chunks : List Chunk) where
   pub done_said : (stop : Option ExchangeStop) (left : ℕ) (e : Exchange) (heard : List Heard) (said : List Item) (given : List Kept) → IsDone (exchanges plan chunks) stop left e heard said given → IsSaid stop (dialogue plan.image chunks e heard) said
   done_said None left e heard said given d = whole e heard said d.0.said_is
   done_said (Some (Ended end)) left e heard said given d = whole e heard said d.said_is
-  done_said (Some TurnsOver) left e heard said given d = whole e heard said d.0.said_is
-  done_said (Some (LineFailed fault)) left e heard said given (inl d) = ([], sym (whole e heard said d.0.said_is) ∙ sym (append-nil said))
-  done_said (Some (LineFailed fault)) left e heard said given (inr u) = short e heard said (u.key ∷ u.rest) (unsent_keys (exchanges plan chunks) e heard said given u)
+  done_said (Some (CutOff TurnsOver)) left e heard said given d = whole e heard said d.0.said_is
+  done_said (Some (CutOff (LineFailed fault))) left e heard said given (inl d) = ([], sym (whole e heard said d.0.said_is) ∙ sym (append-nil said))
+  done_said (Some (CutOff (LineFailed fault))) left e heard said given (inr u) = short e heard said (u.key ∷ u.rest) (unsent_keys (exchanges plan chunks) e heard said given u)
   done_said (Some (KeepFailed fault)) left e heard said given u =
       short e heard said ((exchanges plan chunks).keys (lead_led (exchanges plan chunks) e u.first) u.last) (unkept_keys (exchanges plan chunks) e heard said given u)
 
@@ -97,7 +98,7 @@ module _ (plan : PlanValue) (chunks : List Chunk) where
       → IsGiven (keep_fault stop) (words_kept plan.words e.verified (led plan.image chunks e heard).verified) given
   done_given None left e heard said given o d = d.0.given_is ∙ news_are e heard o
   done_given (Some (Ended end)) left e heard said given o d = d.given_is ∙ news_are e heard o
-  done_given (Some TurnsOver) left e heard said given o d = d.0.given_is ∙ news_are e heard o
-  done_given (Some (LineFailed fault)) left e heard said given o (inl d) = d.0.given_is ∙ news_are e heard o
-  done_given (Some (LineFailed fault)) left e heard said given o (inr u) = u.given_is ∙ news_are e heard o
+  done_given (Some (CutOff TurnsOver)) left e heard said given o d = d.0.given_is ∙ news_are e heard o
+  done_given (Some (CutOff (LineFailed fault))) left e heard said given o (inl d) = d.0.given_is ∙ news_are e heard o
+  done_given (Some (CutOff (LineFailed fault))) left e heard said given o (inr u) = u.given_is ∙ news_are e heard o
   done_given (Some (KeepFailed fault)) left e heard said given o u = (u.rest, sym (news_are e heard o) ∙ unkept_news (exchanges plan chunks) e heard said given u)

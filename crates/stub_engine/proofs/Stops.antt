@@ -5,7 +5,7 @@ use Rattle.host_core.specs.declared.phase.End.TheVariants.{Loaded, Started, Unce
 use Rattle.host_devices.specs.Failures.{CountsFault}
 use Rattle.tape_image.specs.Plan.{PlanValue}
 use Rattle.load_engine.specs.Driving.{LoadStop}
-use Rattle.engine.specs.declared.stop.Stop.TheVariants.{Ended, LineFailed, KeepFailed, TurnsOver}
+use Rattle.engine.specs.declared.stop.Stop.TheVariants.{Ended, KeepFailed, CutOff}
 use Rattle.engine.specs.Stopping.{line_fault, keep_fault}
 use Rattle.stub_engine.specs.declared.stop.StubsEnd.{StubsEnd}
 use Rattle.stub_engine.specs.declared.stop.StubsEnd.TheVariants.{TooFewWords, NoRoom, InVain, NotStarted, Memory}
@@ -40,9 +40,8 @@ line_left stop answer is = ap line_fault is ∙ by stop
   where
     by : (stop : ExchangeStop) → line_fault (why_left stop) ≡ line_fault (Some stop)
     by (Ended end) = refl
-    by (LineFailed fault) = refl
     by (KeepFailed fault) = refl
-    by TurnsOver = refl
+    by (CutOff cut) = refl
 
 -- and of the keeper
 pub keep_left : (stop : ExchangeStop) (answer : Option StubsStop) → answer ≡ why_left stop → keep_fault answer ≡ keep_fault (Some stop)
@@ -50,15 +49,13 @@ keep_left stop answer is = ap keep_fault is ∙ by stop
   where
     by : (stop : ExchangeStop) → keep_fault (why_left stop) ≡ keep_fault (Some stop)
     by (Ended end) = refl
-    by (LineFailed fault) = refl
     by (KeepFailed fault) = refl
-    by TurnsOver = refl
+    by (CutOff cut) = refl
 
 pub vain_left : (stop : ExchangeStop) (tally : Tally) → TellsInVain (why_left stop) tally
 vain_left (Ended end) tally = tt
-vain_left (LineFailed fault) tally = tt
 vain_left (KeepFailed fault) tally = tt
-vain_left TurnsOver tally = tt
+vain_left (CutOff cut) tally = tt
 
 -- ---- behind a host that was to bring in a stub
 
@@ -73,15 +70,13 @@ ended_whole (WontHold address) = (refl, refl)
 
 pub line_unstarted : (stop : LoadStop) → line_fault (why_unstarted stop) ≡ line_fault (Some stop)
 line_unstarted (Ended end) = (ended_whole end).0
-line_unstarted (LineFailed fault) = refl
 line_unstarted (KeepFailed fault) = refl
-line_unstarted TurnsOver = refl
+line_unstarted (CutOff cut) = refl
 
 pub keep_unstarted : (stop : LoadStop) → keep_fault (Some stop) ≡ None → keep_fault (why_unstarted stop) ≡ None
 keep_unstarted (Ended end) whole = (ended_whole end).1
-keep_unstarted (LineFailed fault) whole = refl
 keep_unstarted (KeepFailed fault) whole = absurd (is_some fault whole)
-keep_unstarted TurnsOver whole = refl
+keep_unstarted (CutOff cut) whole = refl
 
 -- three in vain are not said of it
 pub vain_unstarted : (stop : LoadStop) (tally : Tally) → TellsInVain (why_unstarted stop) tally
@@ -95,13 +90,11 @@ vain_unstarted (Ended end) tally = by end
     by GaveUp = tt
     by (NoWord address) = tt
     by (WontHold address) = tt
-vain_unstarted (LineFailed fault) tally = tt
 vain_unstarted (KeepFailed fault) tally = tt
-vain_unstarted TurnsOver tally = tt
+vain_unstarted (CutOff cut) tally = tt
 
 -- where an exchange follows, the line has not failed
 pub started_counts : (stop : LoadStop) (l l' : ℕ) → why_unstarted stop ≡ None → CountsFault (line_fault (Some stop)) l l' → l' ≡ l
 started_counts (Ended end) l l' follows h = h
-started_counts (LineFailed fault) l l' follows h = absurd (is_some _ follows)
 started_counts (KeepFailed fault) l l' follows h = absurd (is_some _ follows)
-started_counts TurnsOver l l' follows h = absurd (is_some _ follows)
+started_counts (CutOff cut) l l' follows h = absurd (is_some _ follows)

@@ -7,7 +7,8 @@ use Rattle.host_devices.specs.Devices.{Devices}
 use Rattle.host_devices.specs.Failures.{CountsFault, IsLastFault}
 use Rattle.engine.specs.Keeping.{AllOrFront, Keeping, keeping}
 use Rattle.engine.specs.Stopping.{TellsEnd, keep_fault, line_fault}
-use Rattle.engine.specs.declared.stop.Stop.TheVariants.{LineFailed, KeepFailed}
+use Rattle.engine.specs.declared.stop.Cut.TheVariants.{LineFailed}
+use Rattle.engine.specs.declared.stop.Stop.TheVariants.{KeepFailed, CutOff}
 use Rattle.load_engine.specs.Driven.{told_by}
 use Rattle.exchange_core.specs.Exchange.{IsExchange, ended, exchange_bound, led}
 use Rattle.exchange_law.specs.Law.{dialogue, said_all}
@@ -21,7 +22,7 @@ LacksKeys all most = (keys : List ℕ) × (all ≡ most ++ said_all keys)
 
 -- what was said of a dialogue: all of it, but for the last characters where a device failed
 abbrev pub IsSaid : Option ExchangeStop → List Item → List Item → Type 0
-IsSaid (Some (LineFailed fault)) all said = LacksKeys all said
+IsSaid (Some (CutOff (LineFailed fault))) all said = LacksKeys all said
 IsSaid (Some (KeepFailed fault)) all said = LacksKeys all said
 IsSaid other all said = said ≡ all
 

@@ -10,7 +10,7 @@ use Rattle.host_devices.specs.Told.{Gains}
 use Rattle.load_engine.specs.Driving.{LoadStop}
 use Rattle.engine.specs.Stopping.{keep_fault, line_fault}
 use Rattle.engine.specs.declared.stop.Stop.{Stop}
-use Rattle.engine.specs.declared.stop.Stop.TheVariants.{Ended, LineFailed, KeepFailed, TurnsOver}
+use Rattle.engine.specs.declared.stop.Stop.TheVariants.{Ended, KeepFailed, CutOff}
 use Rattle.exchange_core.specs.Chunk.{words_behind}
 use Rattle.exchange_core.specs.Exchange.{begun as exchange_begun, led as exchange_led}
 use Rattle.exchange_law.specs.Law.{said_all}
@@ -105,16 +105,14 @@ why_ended end = Some (Ended (NotStarted end))
 
 abbrev pub why_unstarted : LoadStop → Option StubsStop
 why_unstarted (Ended end) = why_ended end
-why_unstarted (LineFailed fault) = Some (LineFailed fault)
 why_unstarted (KeepFailed fault) = Some (KeepFailed fault)
-why_unstarted TurnsOver = Some TurnsOver
+why_unstarted (CutOff cut) = Some (CutOff cut)
 
 -- why no stub is brought in behind an exchange that stopped so: where it ended another may follow
 abbrev pub why_left : ExchangeStop → Option StubsStop
 why_left (Ended end) = None
-why_left (LineFailed fault) = Some (LineFailed fault)
 why_left (KeepFailed fault) = Some (KeepFailed fault)
-why_left TurnsOver = Some TurnsOver
+why_left (CutOff cut) = Some (CutOff cut)
 
 -- stubs that are brought in one after another: for this plan, by this typist, from one tally to another, and how that stopped (None: another
 -- may follow)

@@ -107,9 +107,8 @@ fn why_unstarted(stop: LoadStop) -> Option<Stop>
     match stop {
         LoadStop::Ended(End::Started) => None,
         LoadStop::Ended(end) => Some(Stop::Ended(StubsEnd::NotStarted(end))),
-        LoadStop::LineFailed(fault) => Some(Stop::LineFailed(fault)),
         LoadStop::KeepFailed(fault) => Some(Stop::KeepFailed(fault)),
-        LoadStop::TurnsOver => Some(Stop::TurnsOver),
+        LoadStop::CutOff(cut) => Some(Stop::CutOff(cut)),
     }
 }
 
@@ -119,8 +118,7 @@ fn left_by(stop: ExchangeStop) -> Result<(), Stop>
 {
     match stop {
         ExchangeStop::Ended(_) => Ok(()),
-        ExchangeStop::LineFailed(fault) => Err(Stop::LineFailed(fault)),
         ExchangeStop::KeepFailed(fault) => Err(Stop::KeepFailed(fault)),
-        ExchangeStop::TurnsOver => Err(Stop::TurnsOver),
+        ExchangeStop::CutOff(cut) => Err(Stop::CutOff(cut)),
     }
 }

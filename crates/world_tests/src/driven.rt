@@ -8,6 +8,7 @@ use crate::assertion::check_that;
 use crate::counting_onlooker::Watch;
 use crate::random::Random;
 use crate::tapes::{ONE_WORD, fresh_host};
+use engine::Cut;
 use honest_line::{Loss, MemoryLine};
 use host_core::{End, Heard, HostCore};
 use host_devices::{Item, Keep, KeepFault, Kept, Line, LineFault, MemoryKeep};
@@ -176,7 +177,7 @@ const ROWS: [(Setting, Course, &str); 12] = [
     (
         Setting { turns: 51, ..AMPLE },
         Course {
-            stop: Stop::TurnsOver,
+            stop: Stop::CutOff(Cut::TurnsOver),
             keys: 30,
             heard: 51,
             kept: 2,
@@ -187,7 +188,7 @@ const ROWS: [(Setting, Course, &str); 12] = [
     (
         Setting { turns: 0, ..AMPLE },
         Course {
-            stop: Stop::TurnsOver,
+            stop: Stop::CutOff(Cut::TurnsOver),
             keys: 0,
             heard: 0,
             kept: 0,
@@ -201,7 +202,7 @@ const ROWS: [(Setting, Course, &str); 12] = [
             ..AMPLE
         },
         Course {
-            stop: Stop::LineFailed(LineFault::Send),
+            stop: Stop::CutOff(Cut::LineFailed(LineFault::Send)),
             keys: 29,
             heard: 51,
             kept: 2,
@@ -241,7 +242,7 @@ const ROWS: [(Setting, Course, &str); 12] = [
     (
         Setting { room: 80, ..AMPLE },
         Course {
-            stop: Stop::LineFailed(LineFault::Full),
+            stop: Stop::CutOff(Cut::LineFailed(LineFault::Full)),
             keys: 29,
             heard: 51,
             kept: 2,
@@ -252,7 +253,7 @@ const ROWS: [(Setting, Course, &str); 12] = [
     (
         Setting { room: 81, ..AMPLE },
         Course {
-            stop: Stop::LineFailed(LineFault::Full),
+            stop: Stop::CutOff(Cut::LineFailed(LineFault::Full)),
             keys: 30,
             heard: 51,
             kept: 2,
@@ -320,7 +321,7 @@ const ROWS: [(Setting, Course, &str); 12] = [
 
 // The device at which a drive stopped has failed once, and the other one not at all.
 fn fails_so(rt: &impl Abort, outcome: &Outcome, stop: Stop, reason: &str) {
-    let line = matches!(stop, Stop::LineFailed(_));
+    let line = matches!(stop, Stop::CutOff(Cut::LineFailed(_)));
     let keep = matches!(stop, Stop::KeepFailed(_));
     check_that(rt, outcome.line.failed() == line, reason);
     check_that(rt, outcome.line.failures() == line as u64, reason);

@@ -4,9 +4,10 @@
 
 use crate::assertion::check_that;
 use crate::counting_onlooker::Watch;
+use engine::Cut;
 use honest_line::{Loss, MemoryLine};
 use host_devices::{Item, Line, LineFault, Onlooker, Unwatched};
-use looking_engine::{Stop, inquire, inquire_in_memory};
+use looking_engine::{inquire, inquire_in_memory};
 use odt_machine::{Odt, Style};
 use reading_core::{Care, End, ReadingCore};
 use std::alloc::Global;
@@ -40,7 +41,7 @@ const AMPLE: Setting = Setting {
 // mishaps.
 #[derive(Clone, Copy)]
 struct Course {
-    stop: Stop<End>,
+    stop: Result<End, Cut>,
     keys: usize,
     heard: usize,
     read: usize,
@@ -52,7 +53,7 @@ const ROWS: [(Setting, Course, &str); 7] = [
     (
         Setting { turns: 64, ..AMPLE },
         Course {
-            stop: Stop::Ended(End::Complete),
+            stop: Ok(End::Complete),
             keys: 25,
             heard: 64,
             read: 3,
@@ -63,7 +64,7 @@ const ROWS: [(Setting, Course, &str); 7] = [
     (
         Setting { turns: 63, ..AMPLE },
         Course {
-            stop: Stop::TurnsOver,
+            stop: Err(Cut::TurnsOver),
             keys: 25,
             heard: 63,
             read: 3,
@@ -77,7 +78,7 @@ const ROWS: [(Setting, Course, &str); 7] = [
             ..AMPLE
         },
         Course {
-            stop: Stop::Ended(End::Complete),
+            stop: Ok(End::Complete),
             keys: 33,
             heard: 85,
             read: 3,
@@ -91,7 +92,7 @@ const ROWS: [(Setting, Course, &str); 7] = [
             ..AMPLE
         },
         Course {
-            stop: Stop::Ended(End::Complete),
+            stop: Ok(End::Complete),
             keys: 26,
             heard: 67,
             read: 3,
@@ -106,7 +107,7 @@ const ROWS: [(Setting, Course, &str); 7] = [
             ..AMPLE
         },
         Course {
-            stop: Stop::Ended(End::GaveUp),
+            stop: Ok(End::GaveUp),
             keys: 9,
             heard: 23,
             read: 1,
@@ -120,7 +121,7 @@ const ROWS: [(Setting, Course, &str); 7] = [
             ..AMPLE
         },
         Course {
-            stop: Stop::Ended(End::NoWord(0o1004)),
+            stop: Ok(End::NoWord(0o1004)),
             keys: 24,
             heard: 53,
             read: 2,
@@ -134,7 +135,7 @@ const ROWS: [(Setting, Course, &str); 7] = [
             ..AMPLE
         },
         Course {
-            stop: Stop::LineFailed(LineFault::Send),
+            stop: Err(Cut::LineFailed(LineFault::Send)),
             keys: 0,
             heard: 1,
             read: 0,
@@ -170,7 +171,7 @@ fn inquire_on<L: Line, O: Onlooker>(
     line: &mut L,
     turns: u64,
     onlooker: &O,
-) -> (ReadingCore, Stop<End>) {
+) -> (ReadingCore, Result<End, Cut>) {
     inquire(core, line, turns, onlooker)
 }
 
@@ -179,14 +180,14 @@ fn inquire_by_lending(
     core: ReadingCore,
     line: MemoryLine,
     turns: u64,
-) -> ((ReadingCore, Stop<End>), MemoryLine) {
+) -> ((ReadingCore, Result<End, Cut>), MemoryLine) {
     inquire_in_memory(core, line, turns)
 }
 
 // The reading came to this.
 fn comes_to(
     rt: &impl Abort,
-    (core, stop): &(ReadingCore, Stop<End>),
+    (core, stop): &(ReadingCore, Result<End, Cut>),
     line: &MemoryLine,
     (course, reason): (&Course, &str),
 ) {
@@ -200,7 +201,7 @@ fn comes_to(
 }
 
 // What a reading in this setting comes to; nothing where memory for it is refused.
-fn read(alloc: Global, setting: &Setting) -> Option<((ReadingCore, Stop<End>), MemoryLine)> {
+fn read(alloc: Global, setting: &Setting) -> Option<((ReadingCore, Result<End, Cut>), MemoryLine)> {
     let core = ReadingCore::of_range(alloc, 0o1000, 0o1004, setting.patience).ok()?;
     let line = line_of(alloc, setting)?;
     Some(inquire_by_lending(core, line, setting.turns))
@@ -243,7 +244,7 @@ fn cares(rt: HostRuntime) {
             return check_that(&rt, false, "memory is ample");
         };
         let ((core, stop), _) = inquire_by_lending(core.with_care(care), line, AMPLE.turns);
-        check_that(&rt, stop == Stop::Ended(End::Complete), reason);
+        check_that(&rt, stop == Ok(End::Complete), reason);
         check_that(&rt, core.values() == VALUES.as_slice(), reason);
         check_that(&rt, core.sent_count() == keys as u64, reason);
     }
@@ -273,7 +274,7 @@ fn each_step_is_told(rt: HostRuntime) {
 }
 
 // A life that is stopped right after its first CR, and a new one that keeps so many numbers.
-fn read_twice(alloc: Global, kept: u32) -> Option<((ReadingCore, Stop<End>), MemoryLine)> {
+fn read_twice(alloc: Global, kept: u32) -> Option<((ReadingCore, Result<End, Cut>), MemoryLine)> {
     let ((mut core, _), mut line) = read(alloc, &Setting { turns: 22, ..AMPLE })?;
     core.restart(kept);
     let answer = inquire_on(core, &mut line, 1000, &Unwatched);
@@ -300,7 +301,7 @@ fn new_lives(rt: HostRuntime) {
             return check_that(&rt, false, "memory is ample");
         };
         let course = Course {
-            stop: Stop::Ended(End::Complete),
+            stop: Ok(End::Complete),
             keys,
             heard,
             read: 3,

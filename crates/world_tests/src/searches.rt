@@ -4,7 +4,6 @@
 use crate::assertion::check_that;
 use honest_line::{Loss, MemoryLine};
 use host_devices::{Item, Unwatched};
-use looking_engine::Stop;
 use machine_probe::{Search, find_end};
 use odt_machine::{Odt, PLAIN_STYLE};
 use reading_core::End;
@@ -76,7 +75,7 @@ const ROWS: [(Setting, Search, usize, &str); 8] = [
             words: 4096,
             ..FULL
         },
-        Search::Stopped(Stop::Ended(End::GaveUp)),
+        Search::Stopped(Ok(End::GaveUp)),
         1,
         "a digit is lost, and there is no patience",
     ),

@@ -102,8 +102,8 @@ fn expected(call: usize) -> (Stop, usize) {
         2
     };
     let stop = match kind_of(call) {
-        b's' => Stop::LineFailed(LineFault::Send),
-        b'h' => Stop::LineFailed(LineFault::Receive),
+        b's' => Stop::CutOff(Cut::LineFailed(LineFault::Send)),
+        b'h' => Stop::CutOff(Cut::LineFailed(LineFault::Receive)),
         _ => Stop::Ended(End::Started),
     };
     (stop, kept)

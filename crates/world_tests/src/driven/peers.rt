@@ -136,7 +136,7 @@ fn a_peer_that_repeats_itself(rt: HostRuntime) {
     for character in 0..=255 {
         let mut peer = Peer::new(Manner::Repeats(character), 0);
         let stop = driven_by(rt.alloc(), &mut peer, 8, 1000);
-        let is_ignored = stop == Some(Stop::TurnsOver) && peer.tally.keys == 0;
+        let is_ignored = stop == Some(Stop::CutOff(Cut::TurnsOver)) && peer.tally.keys == 0;
         assert!(rt; is_ignored, "{character}");
     }
 }
@@ -164,7 +164,7 @@ fn peers_that_are_no_console(rt: HostRuntime) {
         check_that(&rt, stop == Some(Stop::Ended(End::GaveUp)), reason);
         check_that(&rt, sent == keys, reason);
         let (stop, _) = keys_sent(rt.alloc(), manner, turns.saturating_sub(1));
-        check_that(&rt, stop == Some(Stop::TurnsOver), reason);
+        check_that(&rt, stop == Some(Stop::CutOff(Cut::TurnsOver)), reason);
     }
 }
 
@@ -175,7 +175,7 @@ fn is_safe_beside(alloc: Global, seed: u64) -> Option<bool> {
     const BOUND: u64 = 22 + 7 + 23 * 100_001;
     let mut peer = Peer::new(Manner::Babbles, seed);
     let stop = driven_by(alloc, &mut peer, PATIENCE, 100_000)?;
-    let is_fault = matches!(stop, Stop::LineFailed(_) | Stop::KeepFailed(_));
+    let is_fault = matches!(stop, Stop::CutOff(Cut::LineFailed(_)) | Stop::KeepFailed(_));
     Some(peer.tally.keys <= BOUND && peer.tally.blind_starts == 0 && !is_fault)
 }
 

@@ -3,7 +3,8 @@ use Rattle.host_devices.specs.Devices.{line_told}
 use Rattle.engine.specs.Keeping.{calls_of}
 use Rattle.engine.specs.Led.{IsLed, scene}
 use Rattle.engine.specs.Session.{turns_of}
-use Rattle.engine.specs.declared.stop.Stop.TheVariants.{TurnsOver}
+use Rattle.engine.specs.declared.stop.Cut.TheVariants.{TurnsOver}
+use Rattle.engine.specs.declared.stop.Stop.TheVariants.{CutOff}
 use Rattle.engine.proofs.Sessions.{led_ended, led_none, led_over, led_wider, turns_join}
 use Rattle.engine.proofs.leading.lead.Goals as goal
 
@@ -44,5 +45,5 @@ returns-in-None-clause-led g c =
     let before = scene (line_told g.L.Line c.args.line.now) c.args.keep.now in
     let after = scene (line_told g.L.Line c.loop.line) c.loop.keep in
     let all : c.loop.counter ≡ c.args.turns = omega (arith, c.loop-test.false, c.loop.auto.counter-end) in
-    subst (λ n. IsLed (calls_of g.K.Keep) n (turns_of g.H.Host.ways c.args.host.now c.loop.host (Some TurnsOver)) before after) all
+    subst (λ n. IsLed (calls_of g.K.Keep) n (turns_of g.H.Host.ways c.args.host.now c.loop.host (Some (CutOff TurnsOver))) before after) all
     (led_over g.H.Host.ways (calls_of g.K.Keep) c.loop.counter c.args.host.now c.loop.host before after (sym c.loop.invariant.end ∙ c.in-None.is) c.loop.invariant.whole)

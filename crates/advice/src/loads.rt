@@ -1,5 +1,6 @@
 //! What is told at a terminal behind the report of a load.
 
+use engine::Cut;
 use host_core::End;
 use host_devices::Line;
 use load_engine::Stop;
@@ -102,7 +103,7 @@ fn hinders_stubs_alone(stop: StubStop) -> bool {
     match stop {
         StubStop::Ended(StubsEnd::NotStarted(End::NoWord(_))) => false,
         StubStop::Ended(_) => true,
-        StubStop::LineFailed(_) | StubStop::KeepFailed(_) | StubStop::TurnsOver => false,
+        StubStop::KeepFailed(_) | StubStop::CutOff(_) => false,
     }
 }
 
@@ -205,9 +206,9 @@ impl fmt::Display for NoStub {
                 "three stubs took no word: is the HALT switch at ENABLE?",
             ),
             StubStop::Ended(StubsEnd::NotStarted(_)) => f.write_str("the stub did not start"),
-            StubStop::LineFailed(_) => f.write_str("the line failed"),
             StubStop::KeepFailed(_) => f.write_str("the record failed"),
-            StubStop::TurnsOver => f.write_str("the line was never silent"),
+            StubStop::CutOff(Cut::LineFailed(_)) => f.write_str("the line failed"),
+            StubStop::CutOff(Cut::TurnsOver) => f.write_str("the line was never silent"),
             StubStop::Ended(StubsEnd::Memory) => f.write_str("no memory left"),
         }
     }
@@ -221,7 +222,7 @@ fn advice<L: Line>(load: Load<'_>, outcome: &Outcome<L>, verified: u32) -> Optio
     match stop {
         Stop::Ended(End::MaybeStarted) => Some(LOOK_FIRST),
         Stop::Ended(End::GaveUp) if verified == 0 => Some(ASK_PROBE),
-        Stop::Ended(End::GaveUp) | Stop::LineFailed(_)
+        Stop::Ended(End::GaveUp) | Stop::CutOff(Cut::LineFailed(_))
             if load.record.is_some() && !outcome.marked => { Some(GOES_ON) }
         _ => None,
     }

@@ -2,7 +2,7 @@
 
 use crate::loads::ASK_PROBE;
 use machine_look::{LookFault, SaveEnd};
-use machine_memory::{MemoryEnd, MemoryFault};
+use machine_memory::{MemoryEnd, ProbeFault, TestEnd};
 use progress_display::ProgressLine;
 use std::io::Print;
 use std::time::Clock;
@@ -21,8 +21,8 @@ pub fn advise_save<C: Clock, T: Print>(
         return;
     };
     match saved {
-        Ok(SaveEnd::GaveUp | SaveEnd::LineFailed(_) | SaveEnd::TurnsOver)
-            if progress.done() as usize >= BLOCK_WORDS => progress.say(PART_GOES_ON),
+        Ok(SaveEnd::GaveUp | SaveEnd::CutOff(_)) if progress.done() as usize >= BLOCK_WORDS =>
+            progress.say(PART_GOES_ON),
         _ => {}
     }
 }
@@ -30,9 +30,10 @@ pub fn advise_save<C: Clock, T: Print>(
 /// Tells behind the report of a test of memory that came to this what helps where no word was done.
 pub fn advise_test<C: Clock, T: Print>(
     progress: Option<&ProgressLine<'_, C, T>>,
-    tested: Result<MemoryEnd, MemoryFault>,
+    tested: Result<MemoryEnd, ProbeFault>,
 ) {
-    if let (Some(progress), Ok(MemoryEnd::GaveUp)) = (progress, tested)
+    if let (Some(progress), Ok(tested)) = (progress, tested)
+        && tested.end == TestEnd::GaveUp
         && progress.done() == 0
     {
         progress.say(ASK_PROBE);

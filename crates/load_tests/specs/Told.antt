@@ -1,6 +1,7 @@
 -- What a bench, a record and a tape tell of which the disk tells what it was asked.
 use Rattle.std.specs.Prelude.{◌≡◌, ◌⊎◌, ℕ, List, [], ◌++◌, Option, Some, None, option_map}
-use Rattle.machine_load.specs.Load.{Ending, GoesOn, IsReported, Setting}
+use Rattle.machine_load.specs.Driving.{IsDrivenOn, on_disk}
+use Rattle.machine_load.specs.Load.{Ending, IsReported, Setting}
 use Rattle.honest_line.specs.LineTable.{LineValue}
 use Rattle.host_devices.specs.declared.line.Line.{Ghosts as Line}
 use Rattle.machine_load.specs.Asked.{Change, LoadTask, ◌⇒◌}
@@ -17,7 +18,7 @@ use Rattle.record_file.specs.declared.held_file.HeldFile.{HeldFile}
 
 -- a bench with this record, and a report
 abbrev pub bench_told : Option (List ℕ) → List ℕ → Setting
-bench_told text report = record { around = record { steps = None; record_text = text; disk = None }; lines = None; out = Some report }
+bench_told text report = record { around = record { steps = None; record_text = text; disk = None; left = None }; lines = None; out = Some report }
 
 -- what a line in memory tells
 abbrev pub memory_line : Line LineValue
@@ -29,11 +30,11 @@ record_told written asked name held = record { asked = asked; name = name; known
 
 -- a setting with this record, and this output
 abbrev pub disk_told : RecordDisk → Option (List ℕ) → Setting
-disk_told disk out = record { around = record { steps = None; record_text = None; disk = Some disk }; lines = None; out = out }
+disk_told disk out = record { around = record { steps = None; record_text = None; disk = Some disk; left = None }; lines = None; out = out }
 
--- a load was reported, and ended so
+-- a load was reported, and ended so; its record is kept in a file
 abbrev pub IsReportedSo : LoadTask → Ending → Change Setting → Type 0
-IsReportedSo task ending setting = IsReported GoesOn task setting ending
+IsReportedSo task ending setting = IsReported (IsDrivenOn on_disk) task setting ending
 
 -- this is so of a load from this record to another, over this output, and then the record was closed
 abbrev pub IsSoAndClosed : (Change Setting → Type 0) → RecordDisk → Change (Option (List ℕ)) → Option (List DiskStep) → Type 0

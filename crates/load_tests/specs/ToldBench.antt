@@ -29,4 +29,4 @@ lines_told lines = map (λ line. line_told memory_line line) lines
 -- a bench with these steps, this record, these lines given back, and a report
 abbrev pub setting_told : List LoadStep → Option (List ℕ) → List LineValue → List ℕ → Setting
 setting_told steps text lines report =
-    record { around = record { steps = Some (steps_of steps); record_text = text; disk = None }; lines = Some (lines_told lines); out = Some report }
+    record { around = record { steps = Some (steps_of steps); record_text = text; disk = None; left = None }; lines = Some (lines_told lines); out = Some report }

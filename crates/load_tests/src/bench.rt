@@ -10,8 +10,8 @@ ghost use Rattle.record_file.specs.RecordFault.{IsUnbegun};
 ghost use Rattle.load_tests.specs.Told.{bench_told, memory_line};
 
 use crate::disk_text::DiskText;
-use crate::memory_reach::MemoryReach;
-use console_lines::Reach;
+use crate::memory_consoles::{CALLED, MemoryConsoles};
+use console_lines::Consoles;
 use honest_line::MemoryLine;
 use host_devices::{LineFault, Unwatched};
 use load_record::FileKeep;
@@ -25,7 +25,7 @@ use tape_image::Plan;
 /// A machine, and the record of its loads, in memory.
 #[derive(Drop)]
 pub(crate) struct Bench {
-    console: MemoryReach,
+    consoles: MemoryConsoles,
 
     /// The record, with the keeper that has written it.
     pub(crate) keeper: FileKeep<DiskText>,
@@ -35,19 +35,19 @@ impl Bench {
     /// A machine, and an empty record.
     pub(crate) fn new(alloc: Global, odt: Odt) -> Bench {
         Bench {
-            console: MemoryReach::new(alloc, Some(odt)),
+            consoles: MemoryConsoles::new(alloc, Some(odt)),
             keeper: FileKeep::new(DiskText::new(alloc)),
         }
     }
 
     /// Another machine, or none, with the same record.
     pub(crate) fn put_machine(&mut self, odt: Option<Odt>) {
-        self.console.put_machine(odt);
+        self.consoles.put_machine(odt);
     }
 
     /// From now on each line fails at the call of this number and at those behind it; or none does.
     pub(crate) fn fail_lines_at(&mut self, call: Option<u64>) {
-        self.console.fail_lines_at(call);
+        self.consoles.fail_lines_at(call);
     }
 
     /// What the record is.
@@ -81,7 +81,7 @@ impl Surroundings for Bench {
     }
 
     fn connect(&mut self) -> Result<MemoryLine, LineFault> {
-        self.console.reach()
+        self.consoles.reach(CALLED)
     }
 
     fn begin_record(
@@ -99,7 +99,7 @@ impl Surroundings for Bench {
     }
 
     fn let_go(&mut self, line: MemoryLine) {
-        self.console.let_go(line);
+        self.consoles.let_go(line);
     }
 }
 

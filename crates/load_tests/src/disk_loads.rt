@@ -1,13 +1,13 @@
 //! Loads of a machine in memory, with a record on a disk that tells what it was asked.
 ghost use Rattle.std.specs.Prelude.{IfErr, IfOk};
 ghost use Rattle.machine_load.specs.Asked.{task, ◌⇒◌};
-ghost use Rattle.machine_load.specs.Load.{GoesOn};
+ghost use Rattle.machine_load.specs.Driving.{IsDrivenOn, on_disk};
 ghost use Rattle.machine_load.specs.LoadFault.{IsLoadFault};
 ghost use Rattle.machine_load.specs.Scene.{ending};
 ghost use Rattle.simulated_system.specs.ToldSteps.{steps_of, written_to};
 ghost use Rattle.load_tests.specs.Told.{memory_line, record_told, IsReportedSo, IsSoAndClosed};
 
-use crate::memory_reach::MemoryReach;
+use crate::memory_consoles::MemoryConsoles;
 use honest_line::MemoryLine;
 use host_devices::Unwatched;
 use machine_load::{Around, LoadFault, Outcome, load};
@@ -24,13 +24,13 @@ pub(crate) fn load_on_disk<'a, W: Write>(
     alloc: Global,
     plan: Plan,
     options: LoadOptions,
-    mut around: Around<MemoryReach, RecordFile<'_, ToldDisk<'a>>>,
+    mut around: Around<'_, MemoryConsoles, RecordFile<'_, ToldDisk<'a>>>,
     out: &mut W,
 ) -> (Result<Outcome<MemoryLine>, LoadFault>, ToldDisk<'a>)
     ensures ok { IfOk result.0 (λ outcome. IsSoAndClosed (IsReportedSo (task plan options) (ending memory_line outcome))
         (record_told written_to (steps_of around.entry.records.disk.asked) around.entry.records.name.now around.entry.records.held)
         (W.contents out.old ⇒ W.contents out.new) (steps_of result.1.asked)) }
-    ensures err { IfErr result.0 (λ why. IsSoAndClosed (λ setting. IsLoadFault GoesOn (task plan options) setting why)
+    ensures err { IfErr result.0 (λ why. IsSoAndClosed (λ setting. IsLoadFault (IsDrivenOn on_disk) (task plan options) setting why)
         (record_told written_to (steps_of around.entry.records.disk.asked) around.entry.records.name.now around.entry.records.held)
         (W.contents out.old ⇒ W.contents out.new) (steps_of result.1.asked)) }
 {

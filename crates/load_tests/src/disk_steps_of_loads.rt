@@ -3,7 +3,7 @@
 use crate::disk_loads::load_on_disk;
 use crate::disk_steps_of_records::{RECORD, held};
 use crate::loads_in_a_row::{ADDRESS, OPTIONS, WORD, new_machine, plan_of_one_word};
-use crate::memory_reach::MemoryReach;
+use crate::memory_consoles::{CALLED, MemoryConsoles};
 use load_record::RecordError;
 use machine_load::{Around, LoadFault};
 use record_file::RecordFile;
@@ -147,7 +147,8 @@ fn loaded<W: Write>(
     }
     let plan = plan_of_one_word(alloc)?;
     let around = Around {
-        console: MemoryReach::new(alloc, odt),
+        consoles: MemoryConsoles::new(alloc, odt),
+        dial: CALLED,
         records: RecordFile::new(ToldDisk::new(rt, setting.failing), RECORD),
     };
     let (outcome, disk) = load_on_disk(alloc, plan, OPTIONS, around, out);

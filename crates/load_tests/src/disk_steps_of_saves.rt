@@ -2,7 +2,7 @@
 
 use crate::disk_saves::save_on_disk;
 use crate::loads_in_a_row::new_machine;
-use crate::memory_reach::MemoryReach;
+use crate::memory_consoles::MemoryConsoles;
 use machine_look::{LookFault, SaveEnd, SaveOptions};
 use reading_core::Care;
 use request_values::AddressRange;
@@ -152,14 +152,14 @@ fn options() -> Option<SaveOptions> {
     })
 }
 
-// A way to a machine that has the word, or to none; None where there was no memory.
-fn console(alloc: Global, machine: bool) -> Option<MemoryReach> {
+// A machine that has the word, or none; None where there was no memory.
+fn consoles(alloc: Global, machine: bool) -> Option<MemoryConsoles> {
     if !machine {
-        return Some(MemoryReach::new(alloc, None));
+        return Some(MemoryConsoles::new(alloc, None));
     }
     let mut odt = new_machine(alloc)?;
     odt.put(ADDRESS, WORD);
-    Some(MemoryReach::new(alloc, Some(odt)))
+    Some(MemoryConsoles::new(alloc, Some(odt)))
 }
 
 // What came of a save, and what its disk was asked; None where there was no memory.
@@ -170,10 +170,10 @@ fn saved(
 ) -> Option<(Result<SaveEnd, LookFault>, String)> {
     let alloc = rt.alloc();
     let options = options()?;
-    let mut console = console(alloc, setting.machine)?;
+    let mut consoles = consoles(alloc, setting.machine)?;
     let mut report = Vec::new(alloc);
     let mut shelf = NewFile::new(ToldDisk::new(rt, setting.failing), name);
-    let end = save_on_disk(alloc, options, &mut shelf, &mut console, &mut report);
+    let end = save_on_disk(alloc, options, &mut shelf, &mut consoles, &mut report);
     let disk = shelf.close();
     Some((end, disk.shown()?))
 }

@@ -28,7 +28,7 @@ mod load_step;
 #[cfg(test)]
 mod loads_in_a_row;
 #[cfg(test)]
-mod memory_reach;
+mod memory_consoles;
 #[cfg(test)]
 mod order_of_loads;
 mod shelf_note;

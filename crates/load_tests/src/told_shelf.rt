@@ -3,7 +3,7 @@ ghost use Rattle.std.specs.Prelude.{◌≡◌, ◌∷◌, [], ◌++◌, OnOk, ma
 ghost use Rattle.load_tests.specs.Told.{IsTapePut};
 ghost use Rattle.load_tests.specs.ToldShelf.{noted, step_of};
 
-use crate::memory_reach::MemoryReach;
+use crate::memory_consoles::{CALLED, MemoryConsoles};
 use crate::shelf_note::ShelfNote;
 use host_devices::Unwatched;
 use machine_look::{LookFault, SaveEnd, SaveOptions, save};
@@ -79,10 +79,10 @@ pub(crate) fn save_on_shelf<R: Abort, W: Write>(
     alloc: Global,
     options: SaveOptions,
     shelf: &mut ToldShelf<'_, R>,
-    console: &mut MemoryReach,
+    consoles: &mut MemoryConsoles,
     out: &mut W,
 ) -> Result<SaveEnd, LookFault>
     ensures { OnOk result (IsTapePut options (noted shelf.old.notes.items) (noted shelf.new.notes.items)) }
 {
-    save(alloc, options, shelf, console, out, &Unwatched)
+    save(alloc, options, shelf, consoles, CALLED, out, &Unwatched)
 }

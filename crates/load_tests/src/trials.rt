@@ -4,9 +4,10 @@
 //! six digits and a space eight: 12 keys and 30 characters, behind the silence that comes first. Then `a`, and
 //! what `Z` is answered, with that letter.
 
+use engine::Cut;
 use honest_line::{Loss, MemoryLine};
 use host_devices::{Item, Line, LineFault};
-use looking_engine::{Stop, conduct};
+use looking_engine::conduct;
 use odt_machine::{Odt, Style};
 use std::alloc::Global;
 use std::process::Abort;
@@ -45,7 +46,7 @@ const AMPLE: Setting = Setting {
 // of two CRs and of the small letter.
 #[derive(Clone, Copy)]
 struct Course {
-    stop: Stop<End>,
+    stop: Result<End, Cut>,
     keys: usize,
     heard: usize,
     spent: u32,
@@ -58,7 +59,7 @@ const ROWS: [(Setting, Course, &str); 13] = [
     (
         AMPLE,
         Course {
-            stop: Stop::Ended(End::Tried),
+            stop: Ok(End::Tried),
             keys: 13,
             heard: 37,
             spent: 0,
@@ -70,7 +71,7 @@ const ROWS: [(Setting, Course, &str); 13] = [
     (
         Setting { turns: 30, ..AMPLE },
         Course {
-            stop: Stop::TurnsOver,
+            stop: Err(Cut::TurnsOver),
             keys: 12,
             heard: 30,
             spent: 0,
@@ -82,7 +83,7 @@ const ROWS: [(Setting, Course, &str); 13] = [
     (
         Setting { turns: 36, ..AMPLE },
         Course {
-            stop: Stop::TurnsOver,
+            stop: Err(Cut::TurnsOver),
             keys: 13,
             heard: 36,
             spent: 0,
@@ -98,7 +99,7 @@ const ROWS: [(Setting, Course, &str); 13] = [
             ..AMPLE
         },
         Course {
-            stop: Stop::Ended(End::Tried),
+            stop: Ok(End::Tried),
             keys: 13,
             heard: 32,
             spent: 0,
@@ -114,7 +115,7 @@ const ROWS: [(Setting, Course, &str); 13] = [
             ..AMPLE
         },
         Course {
-            stop: Stop::Ended(End::Tried),
+            stop: Ok(End::Tried),
             keys: 13,
             heard: 32,
             spent: 0,
@@ -130,7 +131,7 @@ const ROWS: [(Setting, Course, &str); 13] = [
             ..AMPLE
         },
         Course {
-            stop: Stop::Ended(End::Tried),
+            stop: Ok(End::Tried),
             keys: 13,
             heard: 37,
             spent: 0,
@@ -145,7 +146,7 @@ const ROWS: [(Setting, Course, &str); 13] = [
             ..AMPLE
         },
         Course {
-            stop: Stop::Ended(End::Tried),
+            stop: Ok(End::Tried),
             keys: 23,
             heard: 60,
             spent: 1,
@@ -161,7 +162,7 @@ const ROWS: [(Setting, Course, &str); 13] = [
             ..AMPLE
         },
         Course {
-            stop: Stop::Ended(End::GaveUp),
+            stop: Ok(End::GaveUp),
             keys: 10,
             heard: 24,
             spent: 0,
@@ -176,7 +177,7 @@ const ROWS: [(Setting, Course, &str); 13] = [
             ..AMPLE
         },
         Course {
-            stop: Stop::Ended(End::Tried),
+            stop: Ok(End::Tried),
             keys: 23,
             heard: 60,
             spent: 1,
@@ -191,7 +192,7 @@ const ROWS: [(Setting, Course, &str); 13] = [
             ..AMPLE
         },
         Course {
-            stop: Stop::Ended(End::Tried),
+            stop: Ok(End::Tried),
             keys: 13,
             heard: 36,
             spent: 0,
@@ -206,7 +207,7 @@ const ROWS: [(Setting, Course, &str); 13] = [
             ..AMPLE
         },
         Course {
-            stop: Stop::Ended(End::NoWord),
+            stop: Ok(End::NoWord),
             keys: 8,
             heard: 15,
             spent: 0,
@@ -221,7 +222,7 @@ const ROWS: [(Setting, Course, &str); 13] = [
             ..AMPLE
         },
         Course {
-            stop: Stop::LineFailed(LineFault::Send),
+            stop: Err(Cut::LineFailed(LineFault::Send)),
             keys: 0,
             heard: 1,
             spent: 0,
@@ -233,7 +234,7 @@ const ROWS: [(Setting, Course, &str); 13] = [
     (
         Setting { turns: 0, ..AMPLE },
         Course {
-            stop: Stop::TurnsOver,
+            stop: Err(Cut::TurnsOver),
             keys: 0,
             heard: 0,
             spent: 0,
@@ -261,12 +262,17 @@ fn line_of(alloc: Global, setting: &Setting) -> Option<MemoryLine> {
 }
 
 // The engine's answer. What its contract promises of it, no test needs.
-fn conduct_on<L: Line>(old: u16, patience: u32, line: &mut L, turns: u64) -> (Trial, Stop<End>) {
+fn conduct_on<L: Line>(
+    old: u16,
+    patience: u32,
+    line: &mut L,
+    turns: u64,
+) -> (Trial, Result<End, Cut>) {
     conduct(Trial::new(WORD, old, patience), line, turns)
 }
 
 // What a trial in this setting comes to; nothing where memory for it is refused.
-fn try_in(alloc: Global, setting: &Setting) -> Option<((Trial, Stop<End>), MemoryLine)> {
+fn try_in(alloc: Global, setting: &Setting) -> Option<((Trial, Result<End, Cut>), MemoryLine)> {
     let mut line = line_of(alloc, setting)?;
     let answer = conduct_on(setting.held, setting.patience, &mut line, setting.turns);
     Some((answer, line))
@@ -331,7 +337,7 @@ fn styles_are_seen(rt: HostRuntime) {
             return check_that(&rt, false, "memory is ample");
         };
         let is_seen = trial.seen == seen_of(line.odt().style());
-        check_that(&rt, stop == Stop::Ended(End::Tried), "it is tried");
+        check_that(&rt, stop == Ok(End::Tried), "it is tried");
         check_that(&rt, is_seen, "what is seen of the style is the style");
     }
 }

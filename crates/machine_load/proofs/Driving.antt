@@ -1,7 +1,7 @@
 -- Loads by their lives.
-use Rattle.std.proofs.Common.{◌≡◌, ◌⊎◌, List, [], Option, Some, None, option_map, refl, sym, subst, inl, inr}
+use Rattle.std.proofs.Common.{◌≡◌, ◌⊎◌, ℕ, List, [], Option, Some, None, option_map, refl, sym, subst, inl, inr}
 use Rattle.host_core.specs.Core.{Core}
-use Rattle.host_devices.specs.Devices.{Devices, devices, line_told}
+use Rattle.host_devices.specs.Devices.{Devices, line_told}
 use Rattle.host_devices.specs.declared.item.Kept.{Kept}
 use Rattle.engine.specs.Keeping.{IsKeptBy, KeeperCalls}
 use Rattle.host_devices.specs.Told.{Gains}
@@ -11,81 +11,93 @@ use Rattle.load_engine.specs.Driven.{IsDriven, turns_give}
 use Rattle.console_lines.specs.Dialling.{Call, LineRequest, asked_once}
 use Rattle.machine_load.specs.Asked.{Change, LoadTask, Opened, opened_as, ◌⇒◌}
 use Rattle.machine_load.specs.Called.{asked_by}
-use Rattle.machine_load.specs.Driving.{KeeperTells, IsDrivenOn}
-use Rattle.machine_load.specs.Load.{SurroundingsTold, Ending, Finish, GoesOn, Setting, IsReportCutShort, IsLived, IsLoad, IsReported}
+use Rattle.machine_load.specs.Driving.{KeeperTells, IsDrivenOn, on_disk}
+use Rattle.machine_load.specs.Load.{SurroundingsTold, Ending, Finish, Going, HowItGoesOn, Setting, IsLived, IsLoad, going_on}
 use Rattle.machine_load.specs.LoadFault.{IsLoadFault}
-use Rattle.machine_load.specs.Parts.{Course, IsDrivenBehind, IsDrivenUnless, IsKeptBehind, Unless, host_of, stop_of, told_by, turns_of, what_holds}
+use Rattle.machine_load.specs.Looks.{behind_looks}
+use Rattle.record_file.specs.DiskRecord.{HasBegun}
+use Rattle.machine_load.specs.Parts.{Course, IsDrivenBehind, IsDrivenUnless, IsKeptBehind, Unless, host_of, stop_of, turns_of, what_holds}
 use Rattle.machine_load.specs.declared.load_end.LoadEnd.TheVariants.{Driven}
 use Rattle.machine_load.specs.Scene.{IsLoadReported, IsLoadUnreported, IsLoaded, IsNotLoaded, LoadTells, Scene, ending}
 use Rattle.machine_load.specs.declared.outcome.Outcome.{Outcome}
 use Rattle.machine_load.specs.declared.fault.LoadFault.{LoadFault}
 use Rattle.machine_load.specs.declared.fault.LoadFault.TheVariants.{Record, RecordInUse, ReadRecord, Connect, WriteRecord, WriteOutput, Memory}
 
--- a life over its line and its keeper is one over its line
-over_line : {K : Type 0} (tells : KeeperTells K) (opened : Opened) (around : Change SurroundingsTold) (finish : Finish)
-    → IsLived (IsDrivenOn tells) opened around finish → IsLived GoesOn opened around finish
-over_line tells opened around finish (inl idle) = inl idle
-over_line tells opened around finish (inr (inl held)) = inr (inl held)
-over_line tells opened around finish (inr (inr life)) = inr (inr (record {
-  between = life.between;
-  first_looks = life.first_looks;
-  all_stand = life.all_stand;
-  driven = record {
-    asked = life.driven.asked;
-    begun_there = life.driven.begun_there;
-    stubs_asked = life.driven.stubs_asked;
-    line' = life.driven.line';
-    has_line = life.driven.has_line;
-    kept = tells.calls.told life.driven.keeper;
-    kept' = tells.calls.told life.driven.keeper';
-    between = told_by tells.calls life.driven.parts.between;
-    seen = devices life.driven.parts.rest.seen (tells.calls.told life.driven.parts.between.keeper);
-    parts = record { stubs = life.driven.parts.stubs; rest = life.driven.parts.rest.gone };
+-- what is said of how a life goes on is said of its load
+module _ (GoesSo GoesSo' : HowItGoesOn) (also : (going : Going) (around : Change SurroundingsTold) (finish : Finish) → GoesSo going around finish → GoesSo' going around finish) where
+  lived_also : (opened : Opened) (around : Change SurroundingsTold) (finish : Finish) → IsLived GoesSo opened around finish → IsLived GoesSo' opened around finish
+  lived_also opened around finish (inl idle) = inl idle
+  lived_also opened around finish (inr (inl held)) = inr (inl held)
+  lived_also opened around finish (inr (inr life)) = inr (inr (record {
+    between = life.between;
+    first_looks = life.first_looks;
+    all_stand = life.all_stand;
+    driven = also (going_on (behind_looks opened.first life.first_looks.looks) opened.fast life.first_looks.behind) (life.between ⇒ around.after) finish life.driven;
+  }))
+
+  load_also : (task : LoadTask) (around : Change SurroundingsTold) (finish : Finish) → IsLoad GoesSo task around finish → IsLoad GoesSo' task around finish
+  load_also task around finish load = record {
+    first = load.first;
+    writable = load.writable;
+    between = load.between;
+    opened = load.opened;
+    life = lived_also (opened_as load.first task.options.fast load.writable) (load.between ⇒ around.after) finish load.life;
+  }
+
+  pub reported_also : (task : LoadTask) (scenes : Change Scene) (ending : Ending) → IsLoadReported GoesSo task scenes ending → IsLoadReported GoesSo' task scenes ending
+  reported_also task scenes ending load = record {
+    reported = record {
+      looks = load.reported.looks;
+      stubs = load.reported.stubs;
+      again = load.reported.again;
+      last = load.reported.last;
+      load = load_also task (scenes.before.setting.around ⇒ scenes.after.setting.around) _ load.reported.load;
+      marked_is = load.reported.marked_is;
+      reported = load.reported.reported;
+      line_kept = load.reported.line_kept;
+    };
+    asked = load.asked;
+  }
+
+  fault_also : (task : LoadTask) (setting : Change Setting) (why : LoadFault) → IsLoadFault GoesSo task setting why → IsLoadFault GoesSo' task setting why
+  fault_also task setting ReadRecord h = h
+  fault_also task setting RecordInUse h = h
+  fault_also task setting (Record why) h = h
+  fault_also task setting Connect h = h
+  fault_also task setting WriteRecord h = h
+  fault_also task setting WriteOutput h = record {
+    finish = h.finish;
+    load = load_also task (setting.before.around ⇒ setting.after.around) h.finish h.load;
+    given_back = h.given_back;
+    missing = h.missing;
+    reported = h.reported;
+  }
+  fault_also task setting Memory h = h
+
+  pub unreported_also : (task : LoadTask) (scenes : Change Scene) (why : LoadFault) → IsLoadUnreported GoesSo task scenes why → IsLoadUnreported GoesSo' task scenes why
+  unreported_also task scenes why load = record { fault = fault_also task (scenes.before.setting ⇒ scenes.after.setting) why load.fault; asked = load.asked }
+
+-- a keeper that was begun on a disk, whatever its file is, is one of a record in a file
+pub kept_on_disk : {T : Type 0} (contents : T → Option (List ℕ)) (going : Going) (around : Change SurroundingsTold) (finish : Finish)
+    → IsDrivenOn (record on_disk { begins = λ keeper plan k. HasBegun contents plan k keeper }) going around finish → IsDrivenOn on_disk going around finish
+kept_on_disk contents going around finish h = record {
+  asked = h.asked;
+  begun_there = h.begun_there;
+  stubs_asked = h.stubs_asked;
+  line' = h.line';
+  has_line = h.has_line;
+  keeper = h.keeper;
+  begun_so = record {
+    file = contents h.begun_so.file;
+    written = h.begun_so.written;
+    lasts = h.begun_so.lasts;
+    knows = h.begun_so.knows;
+    sound = h.begun_so.sound;
   };
-}))
-
-load_over_line : {K : Type 0} (tells : KeeperTells K) (task : LoadTask) (around : Change SurroundingsTold) (finish : Finish)
-    → IsLoad (IsDrivenOn tells) task around finish → IsLoad GoesOn task around finish
-load_over_line tells task around finish load = record {
-  first = load.first;
-  writable = load.writable;
-  between = load.between;
-  opened = load.opened;
-  life = over_line tells (opened_as load.first task.options.fast load.writable) (load.between ⇒ around.after) finish load.life;
+  keeper' = h.keeper';
+  parts = h.parts;
+  left = h.left;
 }
-
--- what is said of a load with its keeper is so of its line
-reported_over_line : {K : Type 0} (tells : KeeperTells K) (task : LoadTask) (setting : Change Setting) (ending : Ending)
-    → IsReported (IsDrivenOn tells) task setting ending → IsReported GoesOn task setting ending
-reported_over_line tells task setting ending load = record {
-  looks = load.looks;
-  stubs = load.stubs;
-  again = load.again;
-  last = load.last;
-  load = load_over_line tells task (setting.before.around ⇒ setting.after.around) _ load.load;
-  marked_is = load.marked_is;
-  reported = load.reported;
-  line_kept = load.line_kept;
-}
-
-cut_over_line : {K : Type 0} (tells : KeeperTells K) (task : LoadTask) (setting : Change Setting) → IsReportCutShort (IsDrivenOn tells) task setting → IsReportCutShort GoesOn task setting
-cut_over_line tells task setting load = record {
-  finish = load.finish;
-  load = load_over_line tells task (setting.before.around ⇒ setting.after.around) load.finish load.load;
-  given_back = load.given_back;
-  missing = load.missing;
-  reported = load.reported;
-}
-
-fault_over_line : {K : Type 0} (tells : KeeperTells K) (task : LoadTask) (setting : Change Setting) (why : LoadFault)
-    → IsLoadFault (IsDrivenOn tells) task setting why → IsLoadFault GoesOn task setting why
-fault_over_line tells task setting ReadRecord h = h
-fault_over_line tells task setting RecordInUse h = h
-fault_over_line tells task setting (Record why) h = h
-fault_over_line tells task setting Connect h = h
-fault_over_line tells task setting WriteRecord h = h
-fault_over_line tells task setting WriteOutput h = cut_over_line tells task setting h
-fault_over_line tells task setting Memory h = h
 
 -- what is asked for a line is asked for one that tells
 asked_by_told : {L M : Type 0} (tell : L → M) (call : Call) (line : Option L) (asked asked' : Option (List LineRequest)) → Gains asked asked' (asked_by call line)
@@ -93,20 +105,15 @@ asked_by_told : {L M : Type 0} (tell : L → M) (call : Call) (line : Option L) 
 asked_by_told tell call (Some line) asked asked' h = h
 asked_by_told tell call None asked asked' h = h
 
--- a load over its line and its keeper is one for whoever does not know their types
+-- a load is one for whoever does not know the type of its line
 pub load_reported : {L K : Type 0} (tells : LoadTells L K) (task : LoadTask) (scenes : Change Scene) (outcome : Outcome L) → IsLoaded tells task scenes outcome
-    → IsLoadReported task scenes (ending tells.line outcome)
-load_reported tells task scenes outcome load = record {
-  reported = reported_over_line tells.keeper task (scenes.before.setting ⇒ scenes.after.setting) (ending tells.line outcome) load.reported;
-  asked = asked_by_told (line_told tells.line) scenes.before.call outcome.line scenes.before.asked scenes.after.asked load.asked;
-}
+    → IsLoadReported (IsDrivenOn tells.keeper) task scenes (ending tells.line outcome)
+load_reported tells task scenes outcome load =
+    record { reported = load.reported; asked = asked_by_told (line_told tells.line) scenes.before.call outcome.line scenes.before.asked scenes.after.asked load.asked }
 
 pub load_unreported : {K : Type 0} (keeper : KeeperTells K) (task : LoadTask) (scenes : Change Scene) (why : LoadFault) → IsNotLoaded keeper task scenes why
-    → IsLoadUnreported task scenes why
-load_unreported keeper task scenes why load = record {
-  fault = fault_over_line keeper task (scenes.before.setting ⇒ scenes.after.setting) why load.fault;
-  asked = load.asked;
-}
+    → IsLoadUnreported (IsDrivenOn keeper) task scenes why
+load_unreported keeper task scenes why load = record { fault = load.fault; asked = load.asked }
 
 -- the line of a load whose report failed was asked for, where there was one
 pub asked_untold : {L : Type 0} (call : Call) (line : Option L) (asked asked' : Option (List LineRequest)) → Gains asked asked' (asked_by call line)

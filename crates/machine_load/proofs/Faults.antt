@@ -11,7 +11,6 @@ use Rattle.machine_load.specs.Looks.{AreLooks, AreLooksAt, IsSampled, behind_loo
 use Rattle.reading_core.specs.Reader.{Reader, begun_in}
 use Rattle.reading_core.specs.declared.phase.End.TheVariants.{Complete, GaveUp, NoWord}
 use Rattle.looking_engine.specs.Stopping.{LookStop}
-use Rattle.looking_engine.specs.declared.stop.Stop.TheVariants.{Ended, LineFailed, TurnsOver}
 use Rattle.sample_looks.specs.declared.finding.Finding.{Finding}
 use Rattle.sample_looks.specs.declared.finding.Finding.TheVariants.{AllStand, Stale, Unfinished}
 use Rattle.sample_looks.specs.Finding.{IsFound}
@@ -93,12 +92,11 @@ begins_looking first asked samples shown reader sampled same = (
   subst (λ list. BeginWith list reader.addresses) (sym same) (highest_of first asked, ap (λ (r : Reader). r.addresses) sampled.begins),
 )
 
-whole : (stop : LookStop) → unfinished_at stop ≡ None → stop ≡ Ended Complete
-whole (Ended Complete) free = refl
-whole (Ended GaveUp) free = absurd (cc free)
-whole (Ended (NoWord address)) free = absurd (cc free)
-whole (LineFailed fault) free = absurd (cc free)
-whole TurnsOver free = absurd (cc free)
+whole : (stop : LookStop) → unfinished_at stop ≡ None → stop ≡ Ok Complete
+whole (Ok Complete) free = refl
+whole (Ok GaveUp) free = absurd (cc free)
+whole (Ok (NoWord address)) free = absurd (cc free)
+whole (Err cut) free = absurd (cc free)
 
 -- looks that let a life go on found that all words stand
 pub all_stand : (samples : List WordValue) (numbers : List ℕ) (stop : LookStop) (finding : Finding) → IsFound samples numbers stop finding → ended_by finding stop ≡ None → finding ≡ AllStand

@@ -14,7 +14,7 @@ use Rattle.host_devices.specs.Dialogue.{dialogue, keys_of}
 use Rattle.host_devices.specs.Turns.{most_turns}
 use Rattle.load_engine.specs.Driving.{LoadSession, LoadStop as Stop, driving}
 use Rattle.engine.specs.Stopping.{keep_fault, line_fault}
-use Rattle.engine.specs.declared.stop.Stop.TheVariants.{Ended, LineFailed, KeepFailed, TurnsOver}
+use Rattle.engine.specs.declared.stop.Stop.TheVariants.{Ended, KeepFailed, CutOff}
 use Rattle.host_devices.specs.declared.item.Kept.{Kept}
 use Rattle.engine.specs.Keeping.{IsKeptBy, KeptBy}
 use Rattle.engine.specs.Session.{SessionTold}
@@ -99,8 +99,7 @@ same_text a b is = told_text (Some b) a b (ap_value is) refl
 
 went_out : (stop : Stop) (all told items : List Item) → WentOutAt stop all told items → WentOut all told items
 went_out (KeepFailed fault) all told items out = inl out
-went_out (LineFailed fault) all told items out = out
-went_out TurnsOver all told items out = out
+went_out (CutOff cut) all told items out = out
 went_out (Ended end) all told items out = out
 
 -- a record that is kept is the text that it was
@@ -165,9 +164,8 @@ FastLives plan last looks front rest old new =
 -- no device failed in stubs that hindered nothing
 unhindered : (stop : StubsStop) → hindrance_of stop ≡ None → (line_fault (Some stop) ≡ None) × (keep_fault (Some stop) ≡ None)
 unhindered (Ended end) e = (refl, refl)
-unhindered (LineFailed fault) e = absurd (cc e)
 unhindered (KeepFailed fault) e = absurd (cc e)
-unhindered TurnsOver e = absurd (cc e)
+unhindered (CutOff cut) e = absurd (cc e)
 
 -- the stubs of a load that is not careful are typed by plain hosts
 plain_parts : (typist : Typist) (tape : PlanValue) (v n : ℕ) (parts : List StubPart) → typist.careful ≡ false → AreWorth typist tape v n parts → ArePlain parts

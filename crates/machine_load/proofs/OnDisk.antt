@@ -3,8 +3,7 @@ use Rattle.std.proofs.Common.{◌≡◌, ℕ, List, [], Option, Some, None, Resu
 use Rattle.std.specs.Prelude.{MatchOption, OnOk, OnErr, IsSome, option_map}
 use Rattle.std.specs.Result.{IfOk, IfErr}
 use Rattle.host_devices.proofs.Told.{tells_none}
-use Rattle.record_file.specs.Beginning.{IsBegun, IsNotBegun}
-use Rattle.record_file.specs.Closing.{Remains}
+use Rattle.record_file.specs.Beginning.{IsBegun, IsNotBegun, Remains}
 use Rattle.host_devices.specs.Told.{HasAsked}
 use Rattle.record_file.specs.DiskStep.{DiskStep}
 use Rattle.record_file.specs.Known.{IsNoDevice, IsUntouched, Known}

@@ -18,11 +18,11 @@ use Rattle.request_values.specs.declared.options.LoadOptions.{LoadOptions}
 -- a record was read, its text looked at, and what it says taken; and it was compared with the record of the words that the core counts
 pub opens : (plan shown_plan : PlanValue) (options : LoadOptions) (before between : SurroundingsTold) (how : Writable) (text shown : List ℕ) (said : Progress) (first : Core) (verified : ℕ) (may_begin : Bool)
     → Asks before between (RecordRead how ∷ []) → KeepsRecord before between → IsAsTold before.record_text text
-    → DiskAsked before.disk between.disk (IsReadOn (old_text text how)) → shown ≡ text
+    → DiskAsked before.disk between.disk (IsReadOn (old_text text how)) → IsAsTold before.left (old_text text how) → shown ≡ text
     → (HoldsNoRecord shown → ⊥) → Says plan shown (Ok said) → first ≡ begun_by options.careful plan (words_taken options.recheck said) said.going options.patience
     → shown_plan ≡ first.plan → verified ≡ first.verified → (IsTrue may_begin ↔ MayBecome how text (record_text Second shown_plan verified false))
     → IsOpened (task plan options) (before ⇒ between) first may_begin
-opens plan shown_plan options before between how text shown said first verified may_begin read same told there is ours says core_is plan_is verified_is means = record {
+opens plan shown_plan options before between how text shown said first verified may_begin read same told there left is ours says core_is plan_is verified_is means = record {
   how = how;
   read_first = read;
   record_read = same;
@@ -37,6 +37,7 @@ opens plan shown_plan options before between how text shown said first verified 
     core_is = core_is;
   };
   read_there = there;
+  is_left = left;
   is_known =
       subst (λ (p : PlanValue). IsTrue may_begin ↔ MayBecome how text (record_text Second p first.verified false)) (plan_is ∙ ap (λ (core : Core). core.plan) core_is)
       (subst (λ n. IsTrue may_begin ↔ MayBecome how text (record_text Second shown_plan n false)) verified_is means);

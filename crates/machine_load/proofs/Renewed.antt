@@ -22,7 +22,7 @@ use Rattle.load_engine.specs.Driven.{turns_give}
 use Rattle.engine.specs.Keeping.{AllOrFront, KeepsEach, KeptBy}
 use Rattle.engine.specs.Session.{SessionTold}
 use Rattle.engine.specs.Stopping.{keep_fault}
-use Rattle.engine.specs.declared.stop.Stop.TheVariants.{Ended, LineFailed, KeepFailed, TurnsOver}
+use Rattle.engine.specs.declared.stop.Stop.TheVariants.{Ended, KeepFailed, CutOff}
 use Rattle.host_devices.specs.declared.fault.KeepFault.{KeepFault}
 use Rattle.load_engine.proofs.News.{led_forward}
 use Rattle.byte_io.specs.Output.{WritesPrefix}
@@ -229,6 +229,5 @@ module _ (plan : PlanValue) (v w : ℕ) (keep keep' : Keeper) (holds : HoldsReco
   stubs_front (KeepFailed fault) by =
       cut_at by.2.kept by.2.last by.2.next (by.0 + 1)
       (last_of (take (by.0 + 1) words) by.2.kept by.2.last (sym (take-map Word (by.0 + 1) words) ∙ by.2.items_are)) by.2.each by.2.failing
-  stubs_front (LineFailed fault) by = whole (stubs_held by)
-  stubs_front TurnsOver by = whole (stubs_held by)
+  stubs_front (CutOff cut) by = whole (stubs_held by)
   stubs_front (Ended end) by = whole (stubs_held by)

@@ -1,5 +1,5 @@
 -- A load: what a record says, what was done on the line, and what was reported.
-use Rattle.std.specs.Prelude.{◌≡◌, ◌⊎◌, ◌↔◌, ℕ, Bool, IsTrue, false, ◌&&◌, not, if◌then◌else◌, true, List, [], ◌∷◌, Option, Some, None, is_some, Ok}
+use Rattle.std.specs.Prelude.{◌≡◌, ◌⊎◌, ◌↔◌, ℕ, Bool, IsTrue, false, ◌&&◌, not, if◌then◌else◌, true, List, [], ◌∷◌, Option, Some, None, Ok}
 use Rattle.std.specs.Io.KnownBytes.{Appends, Keeps}
 use Rattle.tape_values.specs.Told.{IsAsTold}
 use Rattle.tape_image.specs.Plan.{PlanValue}
@@ -7,14 +7,13 @@ use Rattle.host_core.specs.declared.phase.End.{End}
 use Rattle.host_core.specs.declared.phase.End.TheVariants.{Loaded, MaybeStarted}
 use Rattle.host_core.specs.declared.progress.Progress.{Progress}
 use Rattle.host_core.specs.Core.{Core, begun_by, ended}
-use Rattle.host_devices.specs.declared.item.Kept.{Kept}
 use Rattle.host_devices.specs.Told.{Gains}
 use Rattle.engine.specs.declared.stop.Stop.TheVariants.{Ended}
 use Rattle.load_record.specs.declared.version.Version.TheVariants.{Second}
 use Rattle.load_record.specs.RecordText.{record_text}
 use Rattle.load_record.specs.Reading.{Says}
 use Rattle.byte_io.specs.Output.{WritesAllBut}
-use Rattle.host_devices.specs.Devices.{Devices, LineTold, devices}
+use Rattle.host_devices.specs.Devices.{LineTold}
 use Rattle.console_lines.specs.Reached.{IsUnused}
 use Rattle.machine_load.specs.Asked.{Change, LoadTask, Opened, opened_as, ◌⇒◌}
 use Rattle.machine_load.specs.GivenBack.{IsGivenBack}
@@ -23,21 +22,24 @@ use Rattle.machine_load.specs.declared.load_end.LoadEnd.TheVariants.{Driven}
 use Rattle.machine_load.specs.declared.looks.Looks.{Looks}
 use Rattle.machine_load.specs.LoadReport.{load_report}
 use Rattle.machine_load.specs.Looks.{AreLooks, behind_looks, asks_for_highest, held_up_by}
-use Rattle.machine_load.specs.Parts.{AreParts, Course}
+use Rattle.machine_load.specs.Parts.{Course}
 use Rattle.machine_load.specs.Stubs.{counting}
 use Rattle.machine_load.specs.declared.stubs.Stubs.{Stubs}
 use Rattle.machine_load.specs.RecordDisk.{RecordDisk, DiskAsked, IsBegunOn, IsReadOn, begun_text, old_text}
 use Rattle.record_file.specs.OldRecord.{HoldsNoRecord, MayBecome}
+use Rattle.record_file.specs.Reading.{OldText}
 use Rattle.record_file.specs.declared.old_record.Writable.{Writable}
-use Rattle.machine_load.specs.Step.{LoadStep, RecordRead, Connected, RecordBegun, RecordGivenBack}
+use Rattle.machine_load.specs.Step.{LoadStep, RecordRead, Connected}
 use Rattle.sample_looks.specs.declared.finding.Finding.TheVariants.{AllStand}
 use Rattle.request_values.specs.declared.options.LoadOptions.{LoadOptions}
 
--- what the surroundings of a load tell: what was asked of them, with what was answered; what the record is; and the disk on which that is, if on any
+-- what the surroundings of a load tell: what was asked of them, with what was answered; what the record is; the disk on which that is, if on any; and what
+-- earlier lives left, where that is known without one
 pub record SurroundingsTold : Type 0 where
   pub steps : Option (List LoadStep)
   pub record_text : Option (List ℕ)
   pub disk : Option RecordDisk
+  pub left : Option OldText
 
 -- the same, what the lines tell that were given back, and what the load's output holds
 pub record Setting : Type 0 where
@@ -84,6 +86,7 @@ pub record IsOpened (task : LoadTask) (around : Change SurroundingsTold) (first 
   pub opening : IsOpening around.before.record_text task.plan task.options first
   -- what says so is what was read on the disk, which was asked for nothing else
   pub read_there : DiskAsked around.before.disk around.after.disk (IsReadOn (old_text opening.opened.text how))
+  pub is_left : IsAsTold around.before.left (old_text opening.opened.text how)
   pub is_known : IsTrue may_begin ↔ MayBecome how opening.opened.text (record_text Second task.plan first.verified false)
 
 -- the life is over before it has begun
@@ -166,21 +169,7 @@ IsBegunThere first before after = DiskAsked before.disk after.disk (IsBegunOn (b
 abbrev pub course_of : Core → Finish → Course
 course_of first finish = record { first = first; stubs = finish.stubs; again = finish.again; core = finish.core; end = finish.end }
 
--- behind its looks a life goes on: the record is begun anew, stubs, where they are asked for, looks behind those that were in vain, and the host have the
--- line, and in the end the record's keeper is given back
-pub record GoesOn (life : Going) (around : Change SurroundingsTold) (finish : Finish) : Type 0 where
-  pub asked : Asks around.before around.after (RecordBegun ∷ RecordGivenBack ∷ [])
-  pub begun_there : IsBegunThere life.first around.before around.after
-  pub stubs_asked : is_some finish.stubs ≡ life.fast
-  pub line' : LineTold
-  pub has_line : finish.line ≡ Some line'
-  pub kept : Option (List Kept)
-  pub kept' : Option (List Kept)
-  pub between : Devices
-  pub seen : Devices
-  pub parts : AreParts (course_of life.first finish) (devices life.line kept) between seen (devices line' kept')
-
--- how a life goes on, as it is said of its line alone or of its line and its keeper
+-- how a life goes on behind its looks, as it is said of keepers of a type
 abbrev pub HowItGoesOn : Type 1
 HowItGoesOn = Going → Change SurroundingsTold → Finish → Type 0
 

@@ -29,6 +29,7 @@ IsRefused plan text why = Says plan text (Err why) ⊎ ((why ≡ NotARecord) × 
 pub record IsTextRead (before after : SurroundingsTold) (found : OldText) : Type 0 where
   pub read : Asks before after (RecordRead found.writable ∷ [])
   pub is_record : IsAsTold before.record_text found.text
+  pub is_left : IsAsTold before.left found
   pub read_there : DiskAsked before.disk after.disk (IsReadOn found)
 
 -- it was not, for this reason

@@ -4,7 +4,8 @@ use Rattle.octal.specs.Octal.{octal_text}
 use Rattle.host_core.specs.Core.{Core}
 use Rattle.host_core.specs.End.{end_name}
 use Rattle.load_engine.specs.Driving.{LoadStop as Stop}
-use Rattle.engine.specs.declared.stop.Stop.TheVariants.{Ended, LineFailed, KeepFailed, TurnsOver}
+use Rattle.engine.specs.Stopping.{cut_name}
+use Rattle.engine.specs.declared.stop.Stop.TheVariants.{Ended, KeepFailed, CutOff}
 use Rattle.byte_io.specs.Text.{line}
 use Rattle.machine_load.specs.declared.load_end.LoadEnd.{LoadEnd}
 use Rattle.machine_load.specs.declared.load_end.LoadEnd.TheVariants.{Driven, Unfinished, Stale}
@@ -18,9 +19,8 @@ load_counts_text core =
 -- how an engine stopped
 abbrev pub stop_name : Stop → List ℕ
 stop_name (Ended end) = end_name end
-stop_name (LineFailed fault) = codes "LineFailed"
 stop_name (KeepFailed fault) = codes "KeepFailed"
-stop_name TurnsOver = codes "TurnsOver"
+stop_name (CutOff cut) = cut_name cut
 
 -- how the load ended: of a record that memory does not hold, the first address at which that was seen
 abbrev pub end_text : LoadEnd → List ℕ

@@ -1,5 +1,5 @@
 -- The looks of a load: at words that its record has, before it is believed, and again behind a stub that was in vain.
-use Rattle.std.specs.Prelude.{◌≡◌, ℕ, ◌-◌, ◌≤◌, ◌==◌, ◌&&◌, ◌||◌, not, Bool, false, if◌then◌else◌, List, [], ◌∷◌, ◌++◌, length, take, Option, Some, None, vec_capacity}
+use Rattle.std.specs.Prelude.{◌≡◌, ℕ, ◌-◌, ◌≤◌, ◌==◌, ◌&&◌, ◌||◌, not, Bool, false, if◌then◌else◌, List, [], ◌∷◌, ◌++◌, length, take, Option, Some, None, Ok, Err, vec_capacity}
 use Rattle.host_devices.specs.Devices.{LineTold}
 use Rattle.host_core.specs.declared.phase.End.TheVariants as host
 use Rattle.host_core.specs.Core.{Core, begun_by, word_nr}
@@ -17,7 +17,6 @@ use Rattle.reading_core.specs.Addresses.{AreAddresses, addresses_of}
 use Rattle.reading_core.specs.Bound.{life_bound}
 use Rattle.reading_core.specs.Reader.{Manner, Reader, begun_in, manner_of}
 use Rattle.looking_engine.specs.Stopping.{LookStop}
-use Rattle.looking_engine.specs.declared.stop.Stop.TheVariants.{Ended, LineFailed, TurnsOver}
 use Rattle.looking_engine.specs.Inquired.{IsInquired, inquiry}
 use Rattle.sample_looks.specs.declared.finding.Finding.{Finding}
 use Rattle.sample_looks.specs.declared.finding.Finding.TheVariants.{AllStand, Stale, Unfinished}
@@ -28,11 +27,10 @@ use Rattle.tape_image.specs.Word.{WordValue}
 
 -- how a load ends whose looks stopped so: where each word was read they do not end it
 abbrev pub unfinished_at : LookStop → Option LoadEnd
-unfinished_at (Ended Complete) = None
-unfinished_at (Ended GaveUp) = Some (load_end.Unfinished (drive.Ended host.GaveUp))
-unfinished_at (Ended (NoWord address)) = Some (load_end.Unfinished (drive.Ended (host.NoWord address)))
-unfinished_at (LineFailed fault) = Some (load_end.Unfinished (drive.LineFailed fault))
-unfinished_at TurnsOver = Some (load_end.Unfinished drive.TurnsOver)
+unfinished_at (Ok Complete) = None
+unfinished_at (Ok GaveUp) = Some (load_end.Unfinished (drive.Ended host.GaveUp))
+unfinished_at (Ok (NoWord address)) = Some (load_end.Unfinished (drive.Ended (host.NoWord address)))
+unfinished_at (Err cut) = Some (load_end.Unfinished (drive.CutOff cut))
 
 -- how a load ends that its looks do not let go on, by what they found and how they stopped
 abbrev pub ended_by : Finding → LookStop → Option LoadEnd

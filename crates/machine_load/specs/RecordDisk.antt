@@ -1,7 +1,6 @@
 -- What a load asks of the disk on which its record is.
 use Rattle.std.specs.Prelude.{◌≡◌, ℕ, false, List, [], Option, Some, None, IsSome, Result, Ok, Err, ⊤}
-use Rattle.record_file.specs.Beginning.{IsBegun, IsNotBegun}
-use Rattle.record_file.specs.Closing.{IsRecordClosed, Remains}
+use Rattle.record_file.specs.Beginning.{IsBegun, IsNotBegun, IsRecordClosed, Remains}
 use Rattle.host_devices.specs.Told.{HasAsked}
 use Rattle.load_record.specs.RecordText.{record_text}
 use Rattle.load_record.specs.declared.version.Version.TheVariants.{Second}
@@ -11,6 +10,7 @@ use Rattle.record_file.specs.Known.{IsNoDevice, IsUntouched, Known}
 use Rattle.record_file.specs.Reading.{OldText, IsRead, IsReadOf, IsNotRead, found_in}
 use Rattle.record_file.specs.declared.old_record.OldRecord.{OldRecord}
 use Rattle.record_file.specs.declared.old_record.Writable.{Writable}
+use Rattle.record_file.specs.declared.old_record.Writable.TheVariants.{Anew}
 use Rattle.record_file.specs.declared.record_fault.RecordFault.{RecordFault}
 
 -- what is known of the record's file, where it is held
@@ -38,6 +38,10 @@ begun_text plan count = record_text Second plan count false
 -- what was found where a record was
 abbrev pub old_text : List ℕ → Writable → OldText
 old_text text how = record { text = text; writable = how }
+
+-- what is found where no life came before: nothing stands there, and a record may be begun
+abbrev pub left_by_none : OldText
+left_by_none = old_text [] Anew
 
 -- a record was read, and this was found: what the file holds that is held from then on, which is no device; and to that nothing was written
 pub record IsReadOn (found : OldText) (disk disk' : RecordDisk) (steps : List DiskStep) : Type 0 where

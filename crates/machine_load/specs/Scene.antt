@@ -15,11 +15,11 @@ use Rattle.machine_load.specs.Called.{asked_by, IsAskedBefore}
 use Rattle.machine_load.specs.Driving.{KeeperTells, IsDrivenOn}
 use Rattle.machine_load.specs.LoadFault.{Gone, IsLoadFault, gone}
 use Rattle.console_lines.specs.Dialling.{LineRequest, Call}
-use Rattle.machine_load.specs.Load.{SurroundingsTold, Ending, Finish, GoesOn, Setting, IsNeverBegun, IsReported}
+use Rattle.machine_load.specs.Load.{SurroundingsTold, Ending, Finish, HowItGoesOn, Setting, IsNeverBegun, IsReported}
 
 -- what surroundings tell
 abbrev pub around_of : {S L K : Type 0} → Surroundings S L K → S → SurroundingsTold
-around_of tell around = record { steps = tell.steps around; record_text = tell.record_text around; disk = tell.disk around }
+around_of tell around = record { steps = tell.steps around; record_text = tell.record_text around; disk = tell.disk around; left = tell.left }
 
 -- the same, and the lines that were given back
 abbrev pub gone_of : {S L K : Type 0} → Surroundings S L K → S → Gone
@@ -81,12 +81,12 @@ pub record IsNotLoaded {K : Type 0} (keeper : KeeperTells K) (task : LoadTask) (
   pub fault : IsLoadFault (IsDrivenOn keeper) task (scenes.before.setting ⇒ scenes.after.setting) why
   pub asked : IsAskedBefore scenes.before.call scenes.before.asked scenes.after.asked why
 
--- what is said of a load by somebody who does not know of which types its line and its keeper are: it was reported, and ended so
-pub record IsLoadReported (task : LoadTask) (scenes : Change Scene) (ending : Ending) : Type 0 where
-  pub reported : IsReported GoesOn task (scenes.before.setting ⇒ scenes.after.setting) ending
+-- what is said of a load by somebody who does not know of which type its line is: it was reported, and ended so
+pub record IsLoadReported (GoesSo : HowItGoesOn) (task : LoadTask) (scenes : Change Scene) (ending : Ending) : Type 0 where
+  pub reported : IsReported GoesSo task (scenes.before.setting ⇒ scenes.after.setting) ending
   pub asked : Gains scenes.before.asked scenes.after.asked (asked_by scenes.before.call ending.line)
 
 -- or it came to nothing
-pub record IsLoadUnreported (task : LoadTask) (scenes : Change Scene) (why : LoadFault) : Type 0 where
-  pub fault : IsLoadFault GoesOn task (scenes.before.setting ⇒ scenes.after.setting) why
+pub record IsLoadUnreported (GoesSo : HowItGoesOn) (task : LoadTask) (scenes : Change Scene) (why : LoadFault) : Type 0 where
+  pub fault : IsLoadFault GoesSo task (scenes.before.setting ⇒ scenes.after.setting) why
   pub asked : IsAskedBefore scenes.before.call scenes.before.asked scenes.after.asked why

@@ -2,7 +2,7 @@
 use Rattle.std.specs.Prelude.{◌+◌, ◌^◌, ◌≤◌, ◌==◌, ◌&&◌, not, ℕ, Bool, false, Option, Some, None, is_none}
 use Rattle.host_core.specs.Core.{Core, begun_by}
 use Rattle.load_engine.specs.Driving.{LoadStop as Stop}
-use Rattle.engine.specs.declared.stop.Stop.TheVariants.{Ended, LineFailed, KeepFailed, TurnsOver}
+use Rattle.engine.specs.declared.stop.Stop.TheVariants.{Ended, KeepFailed, CutOff}
 use Rattle.host_core.specs.declared.phase.End.TheVariants.{NoWord}
 use Rattle.stub_engine.specs.Parts.{StubsStop}
 use Rattle.stub_engine.specs.declared.stop.StubsEnd.TheVariants.{NotStarted}
@@ -19,9 +19,8 @@ host_behind first (Some stubs) = begun_by first.careful first.plan stubs.tally.v
 abbrev pub hindrance_of : StubsStop → Option Stop
 hindrance_of (Ended (NotStarted (NoWord address))) = Some (Ended (NoWord address))
 hindrance_of (Ended end) = None
-hindrance_of (LineFailed fault) = Some (LineFailed fault)
 hindrance_of (KeepFailed fault) = Some (KeepFailed fault)
-hindrance_of TurnsOver = Some TurnsOver
+hindrance_of (CutOff cut) = Some (CutOff cut)
 
 abbrev pub hindrance : Option Stubs → Option Stop
 hindrance None = None

@@ -1,8 +1,8 @@
-//! A way to the console and a record, as the surroundings of a load.
+//! A console and a record, as the surroundings of a load.
 
 use crate::records::Records;
 use crate::surroundings::Surroundings;
-use console_lines::Reach;
+use console_lines::{Consoles, Dial};
 use host_devices::LineFault;
 use record_file::{OldRecord, RecordFault};
 use std::alloc::Global;
@@ -10,24 +10,31 @@ use tape_image::Plan;
 
 /// What a load needs of the world around it, in two parts that know nothing of each other.
 #[derive(Drop)]
-pub struct Around<C: Reach, R: Records> {
-    /// The way to the console.
-    pub console: C,
+pub struct Around<'a, C: Consoles, R: Records> {
+    /// The consoles of the system.
+    pub consoles: C,
+
+    /// The one that is called.
+    pub dial: Dial<'a>,
 
     /// Where the record is.
     pub records: R,
 }
 
-impl<C: Reach, R: Records> Surroundings for Around<C, R> {
+impl<C: Consoles, R: Records> Surroundings for Around<'_, C, R> {
+    ghost use Rattle.console_lines.specs.Path.{call_of};
+
     type Line = C::Line;
 
     type Keeper = R::Keeper;
 
-    ghost asked = { λ around. C.asked around.console };
+    ghost asked = { λ around. C.asked around.consoles };
 
-    ghost call = { λ around. C.call around.console };
+    ghost call = { λ around. call_of around.dial };
 
-    ghost lines = { λ around. C.lines around.console };
+    ghost lines = { λ around. C.lines around.consoles };
+
+    ghost left = { R.left };
 
     ghost begins = { λ keeper plan count. R.begins keeper plan count };
 
@@ -38,7 +45,7 @@ impl<C: Reach, R: Records> Surroundings for Around<C, R> {
     }
 
     fn connect(&mut self) -> Result<C::Line, LineFault> {
-        self.console.reach()
+        self.consoles.reach(self.dial)
     }
 
     fn begin_record(
@@ -51,7 +58,7 @@ impl<C: Reach, R: Records> Surroundings for Around<C, R> {
     }
 
     fn let_go(&mut self, line: C::Line) {
-        self.console.let_go(line);
+        self.consoles.let_go(line);
     }
 
     // Its own file is closed with it; the records hold the record on.

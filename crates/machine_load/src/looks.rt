@@ -10,10 +10,10 @@ ghost use Rattle.sample_looks.specs.Samples.{AreSamples, BeginWith};
 
 use crate::first_life::FirstLife;
 use crate::load_end::LoadEnd;
+use engine::Cut;
 use host_core::End;
 use host_devices::{Line, Unwatched};
 use load_engine::Stop;
-use looking_engine::Stop as ReadingStop;
 use reading_core::{End as ReadingEnd, ReadingCore};
 use sample_looks::{Finding, MOST_SAMPLES, look_at_samples, place_of_sample};
 use std::alloc::{AllocError, Global};
@@ -29,7 +29,7 @@ pub struct Looks {
     pub spent: u32,
 
     /// Why the reading stopped.
-    pub stop: ReadingStop<ReadingEnd>,
+    pub stop: Result<ReadingEnd, Cut>,
 
     /// What was found.
     pub finding: Finding,
@@ -48,15 +48,14 @@ impl Looks {
 }
 
 // How a load ends whose looks stopped so before each word was read.
-fn unfinished(stop: ReadingStop<ReadingEnd>) -> Option<LoadEnd>
+fn unfinished(stop: Result<ReadingEnd, Cut>) -> Option<LoadEnd>
     ensures { result ≡ unfinished_at stop }
 {
     let stop = match stop {
-        ReadingStop::Ended(ReadingEnd::Complete) => return None,
-        ReadingStop::Ended(ReadingEnd::GaveUp) => Stop::Ended(End::GaveUp),
-        ReadingStop::Ended(ReadingEnd::NoWord(address)) => Stop::Ended(End::NoWord(address)),
-        ReadingStop::LineFailed(fault) => Stop::LineFailed(fault),
-        ReadingStop::TurnsOver => Stop::TurnsOver,
+        Ok(ReadingEnd::Complete) => return None,
+        Ok(ReadingEnd::GaveUp) => Stop::Ended(End::GaveUp),
+        Ok(ReadingEnd::NoWord(address)) => Stop::Ended(End::NoWord(address)),
+        Err(cut) => Stop::CutOff(cut),
     };
     Some(LoadEnd::Unfinished(stop))
 }

@@ -1,10 +1,12 @@
 //! Where the record of a load is: in a file, or in memory alone.
-ghost use Rattle.std.specs.Prelude.{ℕ, List, [], IfErr, IfOk, ⊤, Option, Some, None, option_map};
+ghost use Rattle.std.specs.Prelude.{◌≡◌, ℕ, ◌+◌, [], length, IfErr, IfOk, ⊤, Option, Some, None, option_map};
 ghost use Rattle.tape_values.specs.Told.{IsAsTold};
-ghost use Rattle.machine_load.specs.RecordDisk.{RecordDisk, IsReadAnswered, IsBeginAnswered, begun_text};
+ghost use Rattle.host_devices.specs.KeepTable.{empty_keep};
+ghost use Rattle.machine_load.specs.RecordDisk.{RecordDisk, IsReadAnswered, IsBeginAnswered, begun_text, left_by_none};
 ghost use Rattle.record_file.specs.DiskRecord.{HasBegun};
 ghost use Rattle.record_file.specs.RecordFault.{IsUnbegun, IsUnread};
 ghost use Rattle.record_file.specs.Known.{known_of};
+ghost use Rattle.record_file.specs.Reading.{OldText, found_in};
 ghost use Rattle.tape_image.specs.Plan.{PlanValue};
 
 use host_devices::{Keep, MemoryKeep};
@@ -21,7 +23,7 @@ pub trait Records {
     ghost begins: { Self.Keeper → PlanValue → ℕ → Type 0 } = { λ _ _ _. ⊤ };
 
     /// What earlier lives left, where the type says it without a disk.
-    ghost left: { Self → Option (List ℕ) } = { λ _. None };
+    ghost left: { Option OldText } = { None };
 
     /// The disk on which the record is, with what was asked of it; None where it is on none, or the type doesn't say.
     ghost disk: { Self → Option RecordDisk } = { λ _. None };
@@ -29,7 +31,7 @@ pub trait Records {
     /// The record of earlier lives, which from there on is held. It is changed in nothing.
     fn read(&mut self, alloc: Global) -> Result<OldRecord, RecordFault>
         ensures fault { IfErr result IsUnread }
-        ensures left { IfOk result (λ old. IsAsTold (left self.old) old.text.items) }
+        ensures left { IfOk result (λ old. IsAsTold left (found_in old)) }
         ensures disk { IsReadAnswered (disk self.old) (disk self.new) result };
 
     /// Writes the record anew, with the first verified words of the plan, and keeps it from there on.
@@ -77,7 +79,9 @@ pub struct InMemory;
 impl Records for InMemory {
     type Keeper = MemoryKeep;
 
-    ghost left = { λ _. Some [] };
+    ghost begins = { λ keeper plan count. keeper ≡ empty_keep (length plan.words + 1) None };
+
+    ghost left = { Some left_by_none };
 
     fn read(&mut self, alloc: Global) -> Result<OldRecord, RecordFault> {
         Ok(OldRecord {

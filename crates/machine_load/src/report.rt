@@ -144,9 +144,8 @@ fn push_stop_name(text: &mut Report, stop: Stop)
 {
     match stop {
         Stop::Ended(end) => push_end_name(text, end),
-        Stop::LineFailed(_) => push_bytes(text, b"LineFailed"),
         Stop::KeepFailed(_) => push_bytes(text, b"KeepFailed"),
-        Stop::TurnsOver => push_bytes(text, b"TurnsOver"),
+        Stop::CutOff(cut) => push_bytes(text, cut.name()),
     }
 }
 

@@ -61,9 +61,8 @@ pub(crate) fn hindrance(stubs: Option<Stubs>) -> Option<Stop>
             Some(Stop::Ended(End::NoWord(address)))
         }
         StubStop::Ended(_) => None,
-        StubStop::LineFailed(fault) => Some(Stop::LineFailed(fault)),
         StubStop::KeepFailed(fault) => Some(Stop::KeepFailed(fault)),
-        StubStop::TurnsOver => Some(Stop::TurnsOver),
+        StubStop::CutOff(cut) => Some(Stop::CutOff(cut)),
     }
 }
 

@@ -4,6 +4,7 @@ ghost use Rattle.tape_values.specs.Told.{IsAsTold};
 ghost use Rattle.host_devices.specs.Told.{Gains};
 ghost use Rattle.machine_load.specs.Load.{IsTextBegun};
 ghost use Rattle.machine_load.specs.RecordDisk.{RecordDisk, IsReadAnswered, IsBeginAnswered, begun_text};
+ghost use Rattle.record_file.specs.Reading.{OldText, found_in};
 ghost use Rattle.record_file.specs.RecordFault.{IsUnread, IsUnbegun};
 ghost use Rattle.host_devices.specs.Devices.{LineTold, line_told};
 ghost use Rattle.console_lines.specs.Reached.{IsUnused};
@@ -40,6 +41,9 @@ pub trait Surroundings {
     /// What the record is; None where the type doesn't tell.
     ghost record_text: { Self → Option (List ℕ) } = { λ _. None };
 
+    /// What earlier lives left, where the type says it without a disk.
+    ghost left: { Option OldText } = { None };
+
     /// What the record is that a keeper keeps; None where the type doesn't tell.
     ghost kept_text: { Self.Keeper → Option (List ℕ) } = { λ _. None };
 
@@ -55,6 +59,7 @@ pub trait Surroundings {
         ensures lines { lines self.new ≡ lines self.old }
         ensures step { Gains (steps self.old) (steps self.new) (read_step result ∷ []) }
         ensures text { IfOk result (λ old. IsAsTold (record_text self.old) old.text.items) }
+        ensures left { IfOk result (λ old. IsAsTold left (found_in old)) }
         ensures fault { IfErr result IsUnread }
         ensures same { Keeps (record_text self.old) (record_text self.new) }
         ensures asked { asked self.new ≡ asked self.old }

@@ -2,8 +2,8 @@
 use Rattle.std.proofs.Common.{◌≡◌, ◌⊎◌, ℕ, ◌+◌, ◌*◌, ◌<◌, ◌≤◌, List, [], ◌∷◌, ◌++◌, length, inl, inr, Some, refl, arith, ap, sym, subst, ◌∙◌, append_assoc, append-nil, length-append}
 use Rattle.engine.specs.Keeping.{IsKeptBy, KeeperCalls, KeepsEach, keeping}
 use Rattle.engine.specs.Stopping.{keep_fault}
-use Rattle.engine.specs.declared.stop.Stop.{Stop as LeadStop}
-use Rattle.engine.specs.declared.stop.Stop.TheVariants.{Ended as Ends, LineFailed as LineFails, KeepFailed as KeepFails, TurnsOver as Over}
+use Rattle.engine.specs.declared.stop.Stop.{Stop}
+use Rattle.engine.specs.declared.stop.Stop.TheVariants.{Ended, KeepFailed, CutOff}
 use Rattle.looking_engine.specs.Leading.{stop_of}
 use Rattle.looking_engine.proofs.Numbers.{AreGiven}
 use Rattle.reading_core.specs.declared.phase.End.{End}
@@ -132,12 +132,11 @@ added_all calls at are from all numbers given before a b h is each =
     let r = adds_each calls at are from all given before a b h each in
     (subst (λ l. GoesOnTo [] (adds from (all ++ l) (full (all ++ l))) before (at b).shelf) (sym is) (all_added from (all ++ given) before (at b) r.0), r.1)
 
-pub added_by : {K Name : Type 0} (calls : KeeperCalls K ℕ) (at : K → BlocksAt Name) → AddsThem calls at → (stop : LeadStop End) (from : ℕ) (all numbers given : List ℕ) (before : ShelfAt) (a b : K) → HasAdded from all before (at a) → AreGiven stop numbers given
+pub added_by : {K Name : Type 0} (calls : KeeperCalls K ℕ) (at : K → BlocksAt Name) → AddsThem calls at → (stop : Stop End) (from : ℕ) (all numbers given : List ℕ) (before : ShelfAt) (a b : K) → HasAdded from all before (at a) → AreGiven stop numbers given
     → from + 2 * length (all ++ numbers) ≤ top → IsKeptBy calls (keeping given (keep_fault (Some stop))) a b → AddsAll (stop_of stop) from (all ++ numbers) before (at b).shelf × ((at b).name ≡ (at a).name)
-added_by calls at are (Ends end) from all numbers given before a b h is below made = added_all calls at are from all numbers given before a b h is made.kept_by
-added_by calls at are Over from all numbers given before a b h is below made = added_all calls at are from all numbers given before a b h is made.kept_by
-added_by calls at are (LineFails fault) from all numbers given before a b h is below made = added_all calls at are from all numbers given before a b h is made.kept_by
-added_by calls at are (KeepFails fault) from all numbers given before a b h (rest, is) below made =
+added_by calls at are (Ended end) from all numbers given before a b h is below made = added_all calls at are from all numbers given before a b h is made.kept_by
+added_by calls at are (CutOff cut) from all numbers given before a b h is below made = added_all calls at are from all numbers given before a b h is made.kept_by
+added_by calls at are (KeepFailed fault) from all numbers given before a b h (rest, is) below made =
     let k = made.kept_by in
     let r = adds_each calls at are from all k.kept before a k.next h k.each in
     let f = are.fails k.next b k.last k.failing in

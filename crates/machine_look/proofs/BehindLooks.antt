@@ -1,5 +1,5 @@
 -- Looks and a reading behind them, over one honest line.
-use Rattle.std.proofs.Common.{◌≡◌, ℕ, ◌-◌, ◌^◌, ◌<◌, List, [], ◌∷◌, ◌++◌, length, get_or, Option, None, Some, refl, ap, sym, subst, ◌∙◌, inl, inr, append-nil}
+use Rattle.std.proofs.Common.{◌≡◌, ℕ, ◌-◌, ◌^◌, ◌<◌, List, [], ◌∷◌, ◌++◌, length, get_or, Option, None, Some, Ok, Err, refl, ap, sym, subst, ◌∙◌, inl, inr, append-nil}
 use Rattle.odt_machine.specs.Machine.{Machine, word_at}
 use Rattle.tape_image.specs.Word.{WordValue}
 use Rattle.host_core.specs.declared.heard.Heard.{Heard}
@@ -23,7 +23,7 @@ use Rattle.looking_engine.specs.Belief.{IsBelievableOver}
 use Rattle.looking_engine.specs.Inquired.{Inquired, inquiry}
 use Rattle.looking_engine.specs.Session.{IsSaid}
 use Rattle.looking_engine.specs.Stopping.{LookStop}
-use Rattle.looking_engine.specs.declared.stop.Stop.TheVariants.{Ended, LineFailed, TurnsOver}
+use Rattle.engine.specs.declared.stop.Cut.TheVariants.{LineFailed, TurnsOver}
 use Rattle.looking_engine.proofs.Beliefs.{inquired_believable}
 use Rattle.sample_looks.specs.Finding.{IsFound, IsSoIn}
 use Rattle.sample_looks.specs.Looked.{IsSeen}
@@ -41,10 +41,10 @@ led_addresses r (what ∷ things) = led_addresses (ask r what).next things ∙ (
 
 said_told : (stop : Option LookStop) (left : ℕ) (all said : List Item) → IsSaid stop left all said → IsToldOf all said
 said_told None left all said s = s
-said_told (Some (Ended end)) left all said s = inl s
-said_told (Some TurnsOver) left all said s = inl s.0
-said_told (Some (LineFailed fault)) left all said (inl s) = inl s.0
-said_told (Some (LineFailed fault)) left all said (inr lacks) = inr lacks
+said_told (Some (Ok end)) left all said s = inl s
+said_told (Some (Err TurnsOver)) left all said s = inl s.0
+said_told (Some (Err (LineFailed fault))) left all said (inl s) = inl s.0
+said_told (Some (Err (LineFailed fault))) left all said (inr lacks) = inr lacks
 
 -- what looks found is so in memory, which is what it was
 pub looks_hold : (samples : List WordValue) (options : SaveOptions) (looked : Looked) (said : List Item) → AreAddresses (addresses_of samples) → options.patience < 2 ^ 32
@@ -79,11 +79,11 @@ reading_holds samples options looks said are long s kept stop manner addresses l
     let reads = fresh_in looking (addresses_of samples) options.patience are long in
     let may = may_begin_in looking (addresses_of samples) options.patience machine ready in
     let reads' = fresh_in manner addresses left are' long' in
-    let told : IsToldOf (dialogue first s.inquired.heard) s.inquired.said = said_told (Some (Ended Complete)) (most_turns - length s.inquired.heard) (dialogue first s.inquired.heard) s.inquired.said s.inquired.items in
+    let told : IsToldOf (dialogue first s.inquired.heard) s.inquired.said = said_told (Some (Ok Complete)) (most_turns - length s.inquired.heard) (dialogue first s.inquired.heard) s.inquired.said s.inquired.items in
     let told' : IsToldOf (dialogue second t.heard) t.said = said_told stop (most_turns - length t.heard) (dialogue second t.heard) t.said t.items in
     let parts = lines_split machine now s.inquired.said t.said lost (readings_tidy first s.inquired.heard s.inquired.said machine reads may told) (told_begins (dialogue second t.heard) t.said told' (reading_begins second t.heard)) honest in
     let found = looks_hold samples options (all_stood looks) said are long s kept machine parts.between parts.lost_before ready parts.before in
-    let looked = is_true (Some (Ended Complete)) first looks s.inquired.said machine parts.between parts.lost_before (believed_said (Some (Ended Complete)) first looks (Some []) (Some said) s.inquired reads) may parts.before in
+    let looked = is_true (Some (Ok Complete)) first looks s.inquired.said machine parts.between parts.lost_before (believed_said (Some (Ok Complete)) first looks (Some []) (Some said) s.inquired reads) may parts.before in
     let ready' : IsReadyMachine parts.between = leave_ready first s.inquired.heard machine parts.between parts.lost_before reads may
     (told_honest (dialogue first s.inquired.heard) s.inquired.said machine parts.between parts.lost_before told parts.before) in
     let read = is_true stop second last t.said parts.between now parts.lost_after (believed_said stop second last line line' t reads') (may_begin_in manner addresses left parts.between ready') parts.after in

@@ -1,5 +1,5 @@
 -- What looks and a reading behind them come to.
-use Rattle.std.proofs.Common.{◌≡◌, ℕ, ◌-◌, ◌^◌, ◌<◌, ◌≤◌, List, [], ◌++◌, length, take, Option, Some, arith, ap, refl, sym, subst, ◌∙◌, append-nil}
+use Rattle.std.proofs.Common.{◌≡◌, ℕ, ◌-◌, ◌^◌, ◌<◌, ◌≤◌, List, [], ◌++◌, length, take, Option, Some, Ok, arith, ap, refl, sym, subst, ◌∙◌, append-nil}
 use Rattle.std.proofs.lemmas.List.{length-map}
 use Rattle.tape_image.specs.Word.{WordValue}
 use Rattle.console_lines.specs.Console.{ConsoleTold}
@@ -14,7 +14,6 @@ use Rattle.reading_core.specs.Reader.{Reader, begun_in, ended, manner_of}
 use Rattle.reading_core.specs.declared.phase.End.TheVariants.{Complete}
 use Rattle.looking_engine.specs.Stopping.{LookStop, TellsEnd}
 use Rattle.looking_engine.specs.Inquired.{Inquired, inquiry}
-use Rattle.looking_engine.specs.declared.stop.Stop.TheVariants.{Ended}
 use Rattle.sample_looks.specs.Finding.{IsFound}
 use Rattle.sample_looks.specs.Samples.{BeginWith}
 use Rattle.sample_looks.specs.declared.finding.Finding.{Finding}
@@ -83,7 +82,7 @@ is_read saving console looked last first stop samples looking line line' range b
     let looks : Reader = looked.reader in
     let behind_it : List ℕ = addresses_behind saving.options.range saving.found in
     let found : IsFound samples looks.values looked.stop AllStand = subst (λ f. IsFound samples looks.values looked.stop f) all s.found in
-    let is_complete : looked.stop ≡ Ended Complete = found.0 in
+    let is_complete : looked.stop ≡ Ok Complete = found.0 in
     let stood : AreLookedAt samples saving.options (all_stood looks) looking = record {
       inquired = subst (λ t. Inquired most_turns (inquiry (begun_at saving.options samples) looks (Some t)) (Some []) (Some looking)) is_complete s.inquired;
       end = subst (λ t. TellsEnd t (ended looks.phase)) is_complete s.end;

@@ -1,12 +1,12 @@
 -- Looks, and what they say over an honest line.
-use Rattle.std.proofs.Common.{◌≡◌, ℕ, ◌+◌, List, [], ◌∷◌, ◌++◌, length, Option, Some, None, inl, true, refl, arith, sym, subst}
+use Rattle.std.proofs.Common.{◌≡◌, ℕ, ◌+◌, List, [], ◌∷◌, ◌++◌, length, Option, Some, None, Result, Ok, Err, inl, true, refl, arith, sym, subst}
 use Rattle.odt_machine.specs.Machine.{Machine}
 use Rattle.host_devices.specs.declared.item.Item.{Item}
 use Rattle.host_devices.specs.Dialogue.{keys_of}
 use Rattle.host_devices.specs.Turns.{most_turns}
 use Rattle.looking_engine.specs.Honest.{IsHonest}
 use Rattle.looking_engine.specs.Stopping.{LookStop, line_fault}
-use Rattle.looking_engine.specs.declared.stop.Stop.TheVariants.{Ended, LineFailed, TurnsOver}
+use Rattle.engine.specs.declared.stop.Cut.TheVariants.{LineFailed, TurnsOver}
 use Rattle.looking_engine.specs.Belief.{IsBelievableBy}
 use Rattle.looking_engine.specs.Inquired.{Inquired, IsInquired, inquiry}
 use Rattle.looking_engine.proofs.Beliefs.{inquired_believable}
@@ -87,9 +87,9 @@ untouched reader line reads = inquired most_turns reader reader None line line r
 }
 
 -- a reader that has an end from the beginning needs no line
-pub no_look : (reader : Reader) (end : End) (lines : Option (List LineTold)) → IsReader reader → ended reader.phase ≡ Some end → IsLook (reader ⇒ reader) (Ended end) (lines ⇒ lines)
+pub no_look : (reader : Reader) (end : End) (lines : Option (List LineTold)) → IsReader reader → ended reader.phase ≡ Some end → IsLook (reader ⇒ reader) (Ok end) (lines ⇒ lines)
 no_look reader end lines reads is =
-    let nothing : Inquired most_turns (inquiry reader reader (Some (Ended end))) (Some []) (Some []) = record {
+    let nothing : Inquired most_turns (inquiry reader reader (Some (Ok end))) (Some []) (Some []) = record {
       heard = [];
       said = [];
       host = refl;
@@ -102,9 +102,9 @@ no_look reader end lines reads is =
     record {
       said = [];
       inquired = nothing;
-      line_is = subst (λ over. IsLineOf over (Some (Ended end)) [] (lines ⇒ lines)) (sym is) refl;
+      line_is = subst (λ over. IsLineOf over (Some (Ok end)) [] (lines ⇒ lines)) (sym is) refl;
       end = is;
-      believed = believed_said (Some (Ended end)) reader reader (Some []) (Some []) nothing reads;
+      believed = believed_said (Some (Ok end)) reader reader (Some []) (Some []) nothing reads;
       addresses = refl;
       patience = refl;
       bound = within_bound reader reads;
@@ -117,9 +117,9 @@ no_look reader end lines reads is =
 pub is_true : (stop : Option LookStop) (first last : Reader) (items : List Item) (machine now : Machine) (lost : ℕ) → IsBelievableBy stop first last items → MayLook first machine → IsHonest machine items lost now
     → (more : ℕ) × IsTrueReading machine.memory last now.memory (keys_of items) (lost + more)
 is_true None first last items machine now lost believed may honest = (0, believed.0 machine now lost may honest)
-is_true (Some (Ended end)) first last items machine now lost believed may honest = (0, believed machine now lost may honest)
-is_true (Some TurnsOver) first last items machine now lost believed may honest = (0, believed machine now lost may honest)
-is_true (Some (LineFailed fault)) first last items machine now lost believed may honest = (1, believed.0 machine now lost may honest)
+is_true (Some (Ok end)) first last items machine now lost believed may honest = (0, believed machine now lost may honest)
+is_true (Some (Err TurnsOver)) first last items machine now lost believed may honest = (0, believed machine now lost may honest)
+is_true (Some (Err (LineFailed fault))) first last items machine now lost believed may honest = (1, believed.0 machine now lost may honest)
 
 -- a reader that has read all has as many numbers as addresses
 all_in : (phase : Phase) (b : Basis) → PhaseFits phase b → ended phase ≡ Some Complete → length b.values ≡ length b.addresses

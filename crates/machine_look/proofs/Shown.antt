@@ -12,8 +12,8 @@ use Rattle.tape_image.specs.Word.{WordValue, merged}
 use Rattle.reading_core.specs.declared.phase.End.{End}
 use Rattle.engine.specs.Keeping.{IsKeptBy, KeeperCalls, KeepsEach, keeping}
 use Rattle.engine.specs.Stopping.{keep_fault}
-use Rattle.engine.specs.declared.stop.Stop.{Stop as LeadStop}
-use Rattle.engine.specs.declared.stop.Stop.TheVariants.{Ended as Ends, LineFailed as LineFails, KeepFailed as KeepFails, TurnsOver as Over}
+use Rattle.engine.specs.declared.stop.Stop.{Stop}
+use Rattle.engine.specs.declared.stop.Stop.TheVariants.{Ended, KeepFailed, CutOff}
 use Rattle.looking_engine.specs.Leading.{stop_of}
 use Rattle.looking_engine.proofs.Numbers.{AreGiven}
 use Rattle.machine_look.specs.declared.difference.Difference.{Difference}
@@ -98,12 +98,11 @@ shown_all calls words out name are old new numbers given all each =
     let r = shown_each calls words out name are old given new each in
     (subst (λ list. Appends (out old) (out new) (difference_lines (words old) list)) (sym all) r.shown, r.same)
 
-pub shown_by : {K Name : Type 0} (calls : KeeperCalls K ℕ) (words : K → List WordValue) (out : K → Option (List ℕ)) (name : K → Name) → ShowsThem calls words out name → (stop : LeadStop End) (old new : K) (numbers given : List ℕ) → AreGiven stop numbers given
+pub shown_by : {K Name : Type 0} (calls : KeeperCalls K ℕ) (words : K → List WordValue) (out : K → Option (List ℕ)) (name : K → Name) → ShowsThem calls words out name → (stop : Stop End) (old new : K) (numbers given : List ℕ) → AreGiven stop numbers given
     → IsKeptBy calls (keeping given (keep_fault (Some stop))) old new → Shows (stop_of stop) (out old) (out new) (difference_lines (words old) numbers) × (name new ≡ name old)
-shown_by calls words out name are (Ends end) old new numbers given all made = shown_all calls words out name are old new numbers given all made.kept_by
-shown_by calls words out name are Over old new numbers given all made = shown_all calls words out name are old new numbers given all made.kept_by
-shown_by calls words out name are (LineFails fault) old new numbers given all made = shown_all calls words out name are old new numbers given all made.kept_by
-shown_by calls words out name are (KeepFails fault) old new numbers given (rest, all) made =
+shown_by calls words out name are (Ended end) old new numbers given all made = shown_all calls words out name are old new numbers given all made.kept_by
+shown_by calls words out name are (CutOff cut) old new numbers given all made = shown_all calls words out name are old new numbers given all made.kept_by
+shown_by calls words out name are (KeepFailed fault) old new numbers given (rest, all) made =
     let k = made.kept_by in
     let r = shown_each calls words out name are old k.kept k.next k.each in
     let f = are.fails k.next new k.last k.failing in

@@ -1,5 +1,5 @@
 -- A verification that ends as `Same` over an honest line.
-use Rattle.std.proofs.Common.{◌≡◌, ℕ, ◌<◌, Bool, true, false, cond, eqb, List, [], length, get_or, Option, Some, refl, arith, ap, sym, subst, ◌∙◌}
+use Rattle.std.proofs.Common.{◌≡◌, ℕ, ◌<◌, Bool, true, false, cond, eqb, List, [], length, get_or, Option, Some, Ok, Err, refl, arith, ap, sym, subst, ◌∙◌}
 use Rattle.std.proofs.lemmas.Bool.{eqb-true}
 use Rattle.std.proofs.lemmas.List.{get_or-map, length-map}
 use Rattle.tape_image.specs.Plan.{PlanValue}
@@ -15,7 +15,6 @@ use Rattle.looking_law.specs.Belief.{IsTrueReading}
 use Rattle.host_devices.specs.Devices.{LineTold}
 use Rattle.request_values.specs.Change.{Change, ◌⇒◌}
 use Rattle.looking_engine.specs.Stopping.{LookStop, TellsEnd}
-use Rattle.looking_engine.specs.declared.stop.Stop.TheVariants.{Ended, LineFailed as LineHasFailed, TurnsOver as TurnsAreOver}
 use Rattle.machine_look.specs.declared.look_fault.LookFault.{LookFault}
 use Rattle.machine_look.specs.declared.look_fault.LookFault.TheVariants.{Connect, IsThere, Memory, NotOfSave, PartIsThere, WriteOutput, WriteTape}
 use Rattle.machine_look.specs.declared.verify_end.VerifyEnd.{VerifyEnd}
@@ -32,13 +31,12 @@ use Rattle.machine_look.proofs.Found.{none_differ}
 use Rattle.machine_look.proofs.Looks.{all_read, is_true}
 
 -- it ends so only where every word was read and none differs
-same_means : (trusted : Bool) (differ : ℕ) (stop : LookStop) → verify_end trusted differ stop ≡ Same → (stop ≡ Ended Complete) × (differ ≡ 0)
-same_means trusted differ (Ended Complete) is =
+same_means : (trusted : Bool) (differ : ℕ) (stop : LookStop) → verify_end trusted differ stop ≡ Same → (stop ≡ Ok Complete) × (differ ≡ 0)
+same_means trusted differ (Ok Complete) is =
     (refl, elim (eqb differ 0) as (λ t. eqb differ 0 ≡ t → cond t (cond trusted Same Changed) Differs ≡ Same → differ ≡ 0) [ true ↦ λ e same. eqb-true _ _ e | false ↦ λ e same. absurd (cc same) ] refl is)
-same_means trusted differ (Ended HostGaveUp) is = absurd (cc is)
-same_means trusted differ (Ended (HostFoundNoWord address)) is = absurd (cc is)
-same_means trusted differ (LineHasFailed fault) is = absurd (cc is)
-same_means trusted differ TurnsAreOver is = absurd (cc is)
+same_means trusted differ (Ok HostGaveUp) is = absurd (cc is)
+same_means trusted differ (Ok (HostFoundNoWord address)) is = absurd (cc is)
+same_means trusted differ (Err cut) is = absurd (cc is)
 
 address_is : (words : List WordValue) (addresses : List ℕ) (i : ℕ) → addresses ≡ addresses_of words → i < length words → get_or addresses i 0 ≡ (word_nr words i).address
 address_is words addresses i are low = ap (λ list. get_or list i 0) are ∙ get_or-map (λ (w : WordValue). w.address) words i no_word 0 low
@@ -63,7 +61,7 @@ all_stand words trusted first last stop look are same machine now lost may hones
     let heard = is_true (Some stop) first last look.said machine now lost look.believed may honest in
     (heard.1.same, stand_where_read words last machine.memory now.memory _ _ addresses all means.1 heard.1)
   where
-    ended_is : (last : Reader) (stop : LookStop) {lines : Change (Option (List LineTold))} → stop ≡ Ended Complete → IsLook (first ⇒ last) stop lines → ended last.phase ≡ Some Complete
+    ended_is : (last : Reader) (stop : LookStop) {lines : Change (Option (List LineTold))} → stop ≡ Ok Complete → IsLook (first ⇒ last) stop lines → ended last.phase ≡ Some Complete
     ended_is last stop is look = subst (λ s. TellsEnd s (ended last.phase)) is look.end
 
 -- nothing is heard there that no loss explains

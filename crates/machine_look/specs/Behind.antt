@@ -1,5 +1,5 @@
 -- Looks at samples of what was found, and a reading of the words behind it, over one line.
-use Rattle.std.specs.Prelude.{◌≡◌, ℕ, ◌+◌, ◌-◌, ◌*◌, ◌≤◌, Some, List, [], ◌++◌, length, map, take, Option}
+use Rattle.std.specs.Prelude.{◌≡◌, ℕ, ◌+◌, ◌-◌, ◌*◌, ◌≤◌, Some, List, [], ◌++◌, length, map, take, Option, Ok}
 use Rattle.tape_image.specs.Plan.{plan_of}
 use Rattle.tape_image.specs.Word.{WordValue, whole_word}
 use Rattle.tape_values.specs.Tape.{TapeValue}
@@ -18,7 +18,6 @@ use Rattle.looking_law.specs.Belief.{IsReadyMachine}
 use Rattle.looking_engine.specs.Honest.{IsHonest}
 use Rattle.looking_engine.specs.Inquired.{Inquired, inquiry}
 use Rattle.looking_engine.specs.Stopping.{LookStop, TellsEnd}
-use Rattle.looking_engine.specs.declared.stop.Stop.TheVariants.{Ended}
 use Rattle.request_values.specs.Change.{Change, ◌⇒◌}
 use Rattle.request_values.specs.declared.range.AddressRange.{AddressRange}
 use Rattle.sample_looks.specs.Finding.{IsFound, IsSoIn}
@@ -99,7 +98,7 @@ pub record IsHeldUp (saving : Saving) (console : Change ConsoleTold) (looked : L
 
 -- looks at samples that all stood
 abbrev pub all_stood : Reader → Looked
-all_stood looks = record { reader = looks; stop = Ended Complete; finding = AllStand }
+all_stood looks = record { reader = looks; stop = Ok Complete; finding = AllStand }
 
 -- the host that reads behind what was found, each word as often as is asked, with the patience that the looks left
 abbrev pub begun_behind : Saving → Reader → Reader

@@ -1,15 +1,14 @@
 -- What `save` does (this project's own).
-use Rattle.std.specs.Prelude.{◌≡◌, ℕ, ◌+◌, ◌<◌, ◌≤◌, Bool, true, false, List, [], ◌∷◌, ◌++◌, length, Option, Some, None, IfSome}
+use Rattle.std.specs.Prelude.{◌≡◌, ℕ, ◌+◌, ◌<◌, ◌≤◌, Bool, true, false, List, [], ◌∷◌, ◌++◌, length, Option, Some, None, Ok, IfSome}
 use Rattle.std.specs.Io.KnownBytes.{Appends, Keeps}
 use Rattle.tape_values.specs.Tape.{plain_text}
 use Rattle.console_lines.specs.Console.{ConsoleTold}
-use Rattle.console_lines.specs.declared.reach.Reach.{Ghosts as Reach}
+use Rattle.console_lines.specs.declared.consoles.Consoles.{Ghosts as Consoles}
 use Rattle.host_devices.specs.Devices.{LineTold}
 use Rattle.console_lines.specs.Dialling.{Call, LineRequest}
 use Rattle.byte_io.specs.Output.{WritesAllBut}
 use Rattle.reading_core.specs.Reader.{Reader, ended}
 use Rattle.looking_engine.specs.Stopping.{LookStop, TellsEnd}
-use Rattle.looking_engine.specs.declared.stop.Stop.TheVariants.{Ended}
 use Rattle.reading_core.specs.declared.phase.End.TheVariants.{Complete, NoWord}
 use Rattle.request_values.specs.Change.{◌⇒◌}
 use Rattle.request_values.specs.declared.range.AddressRange.{AddressRange}
@@ -45,11 +44,11 @@ pub record SaveAt : Type 1 where
   pub shelf : ShelfAt
   pub console : ConsoleTold
 
--- so it is of this shelf and this console
-abbrev pub save_at : {S R L : Type 0} → Shelf S → Reach R L → S → R → SaveAt
-save_at shelf_tell tell shelf console = record {
+-- so it is of this shelf and these consoles, of which this one is called
+abbrev pub save_at : {S C L : Type 0} → Shelf S → Consoles C L → Call → S → C → SaveAt
+save_at shelf_tell tell call shelf consoles = record {
   shelf = shelf_at shelf_tell shelf;
-  console = record { asked = tell.asked console; call = tell.call console; lines = tell.lines console; out = None };
+  console = record { asked = tell.asked consoles; call = call; lines = tell.lines consoles; out = None };
 }
 
 -- what a shelf, and a console with an output tell
@@ -103,8 +102,8 @@ numbers_of read = read.found ++ read.last.values
 
 -- whether a reading that stopped so has all that can be had, every word, or each below the end of memory, and may be believed
 abbrev pub has_all : LookStop → (trusted : Bool) → Bool
-has_all (Ended Complete) trusted = trusted
-has_all (Ended (NoWord address)) trusted = trusted
+has_all (Ok Complete) trusted = trusted
+has_all (Ok (NoWord address)) trusted = trusted
 has_all other trusted = false
 
 -- whether what a save read may be believed

@@ -1,23 +1,22 @@
 -- What `save` prints (this project's own).
-use Rattle.std.specs.Prelude.{ℕ, Bool, true, if◌then◌else◌, List, ◌++◌, codes, decimal}
+use Rattle.std.specs.Prelude.{ℕ, Bool, true, if◌then◌else◌, List, ◌++◌, codes, decimal, Ok, Err}
 use Rattle.octal.specs.Octal.{octal_text}
 use Rattle.byte_io.specs.Text.{line}
 use Rattle.reading_core.specs.declared.phase.End.TheVariants.{Complete, GaveUp as HostGaveUp, NoWord as HostFoundNoWord}
 use Rattle.looking_engine.specs.Stopping.{LookStop}
-use Rattle.looking_engine.specs.declared.stop.Stop.TheVariants.{Ended, LineFailed as LineHasFailed, TurnsOver as TurnsAreOver}
+use Rattle.engine.specs.Stopping.{cut_name}
 use Rattle.sample_looks.specs.declared.finding.Finding.{Finding}
 use Rattle.sample_looks.specs.declared.finding.Finding.TheVariants.{AllStand, Stale as HasStaleWord, Unfinished}
 use Rattle.machine_look.specs.declared.save_end.SaveEnd.{SaveEnd}
-use Rattle.machine_look.specs.declared.save_end.SaveEnd.TheVariants.{Saved, Changed, NoWord, GaveUp, TurnsOver, LineFailed, Stale}
+use Rattle.machine_look.specs.declared.save_end.SaveEnd.TheVariants.{Saved, Changed, NoWord, GaveUp, CutOff, Stale}
 use Rattle.machine_look.specs.declared.save_report.SaveCounts.{SaveCounts}
 
 -- how it ends, by how the reading stopped, and whether what was read may be believed: memory is saved only where every word was read
 abbrev pub save_end : LookStop → (trusted : Bool) → SaveEnd
-save_end (Ended Complete) trusted = if trusted then Saved else Changed
-save_end (Ended HostGaveUp) trusted = GaveUp
-save_end (Ended (HostFoundNoWord address)) trusted = if trusted then NoWord address else Changed
-save_end (LineHasFailed fault) trusted = LineFailed fault
-save_end TurnsAreOver trusted = TurnsOver
+save_end (Ok Complete) trusted = if trusted then Saved else Changed
+save_end (Ok HostGaveUp) trusted = GaveUp
+save_end (Ok (HostFoundNoWord address)) trusted = if trusted then NoWord address else Changed
+save_end (Err cut) trusted = CutOff cut
 
 -- how it ends that its looks held up, by what they found and how they stopped
 abbrev pub held_end : Finding → LookStop → SaveEnd
@@ -31,8 +30,7 @@ save_end_name Saved = codes "Saved"
 save_end_name Changed = codes "Changed"
 save_end_name (NoWord address) = codes "NoWord " ++ octal_text address
 save_end_name GaveUp = codes "GaveUp"
-save_end_name TurnsOver = codes "TurnsOver"
-save_end_name (LineFailed fault) = codes "LineFailed"
+save_end_name (CutOff cut) = cut_name cut
 save_end_name (Stale address) = codes "Stale " ++ octal_text address
 
 -- the characters sent, the mishaps, and how many of the words the tape has

@@ -1,5 +1,5 @@
 -- What `verify` prints (this project's own).
-use Rattle.std.specs.Prelude.{ℕ, Bool, ◌==◌, if◌then◌else◌, List, ◌++◌, length, codes, decimal}
+use Rattle.std.specs.Prelude.{ℕ, Bool, ◌==◌, if◌then◌else◌, List, ◌++◌, length, codes, decimal, Ok, Err}
 use Rattle.std.specs.List.{flat_map}
 use Rattle.octal.specs.Octal.{octal_text}
 use Rattle.tape_image.specs.Word.{WordValue, word_fields}
@@ -7,10 +7,10 @@ use Rattle.byte_io.specs.Text.{line}
 use Rattle.reading_core.specs.declared.phase.End.TheVariants.{Complete, GaveUp as HostGaveUp, NoWord as HostFoundNoWord}
 use Rattle.reading_core.specs.Reader.{Reader}
 use Rattle.looking_engine.specs.Stopping.{LookStop}
-use Rattle.looking_engine.specs.declared.stop.Stop.TheVariants.{Ended, LineFailed as LineHasFailed, TurnsOver as TurnsAreOver}
+use Rattle.engine.specs.Stopping.{cut_name}
 use Rattle.machine_look.specs.declared.difference.Difference.{Difference}
 use Rattle.machine_look.specs.declared.verify_end.VerifyEnd.{VerifyEnd}
-use Rattle.machine_look.specs.declared.verify_end.VerifyEnd.TheVariants.{Same, Changed, Differs, NoWord, GaveUp, TurnsOver, LineFailed}
+use Rattle.machine_look.specs.declared.verify_end.VerifyEnd.TheVariants.{Same, Changed, Differs, NoWord, GaveUp, CutOff}
 use Rattle.reading_core.specs.declared.care.Care.{Care}
 use Rattle.machine_look.specs.Differences.{differences}
 use Rattle.machine_look.specs.Trust.{is_trusted}
@@ -18,11 +18,10 @@ use Rattle.machine_look.specs.Trust.{is_trusted}
 -- how it ends, by whether what was read may be believed, how many words differ, and how the reading stopped: memory is the same only where
 -- every word was read
 abbrev pub verify_end : (trusted : Bool) → ℕ → LookStop → VerifyEnd
-verify_end trusted differ (Ended Complete) = if differ == 0 then (if trusted then Same else Changed) else Differs
-verify_end trusted differ (Ended HostGaveUp) = GaveUp
-verify_end trusted differ (Ended (HostFoundNoWord address)) = NoWord address
-verify_end trusted differ (LineHasFailed fault) = LineFailed fault
-verify_end trusted differ TurnsAreOver = TurnsOver
+verify_end trusted differ (Ok Complete) = if differ == 0 then (if trusted then Same else Changed) else Differs
+verify_end trusted differ (Ok HostGaveUp) = GaveUp
+verify_end trusted differ (Ok (HostFoundNoWord address)) = NoWord address
+verify_end trusted differ (Err cut) = CutOff cut
 
 -- the name of an end
 abbrev pub verify_end_name : VerifyEnd → List ℕ
@@ -31,8 +30,7 @@ verify_end_name Changed = codes "Changed"
 verify_end_name Differs = codes "Differs"
 verify_end_name (NoWord address) = codes "NoWord " ++ octal_text address
 verify_end_name GaveUp = codes "GaveUp"
-verify_end_name TurnsOver = codes "TurnsOver"
-verify_end_name (LineFailed fault) = codes "LineFailed"
+verify_end_name (CutOff cut) = cut_name cut
 
 -- a word's address, mask and value, and the whole word that memory holds there
 abbrev pub difference_text : Difference → List ℕ

@@ -2,6 +2,7 @@
 ghost use Rattle.std.specs.Prelude.{◌≡◌, [], IfErr, IfOk, OnOk};
 ghost use Rattle.std.specs.Io.KnownBytes.{Appends};
 ghost use Rattle.console_lines.specs.Console.{console_told};
+ghost use Rattle.console_lines.specs.Path.{call_of};
 ghost use Rattle.host_devices.specs.Devices.{line_told};
 ghost use Rattle.host_devices.specs.Turns.{most_turns};
 ghost use Rattle.reading_core.specs.Invariant.{IsReader};
@@ -15,10 +16,10 @@ ghost use Rattle.machine_look.specs.VerifyReport.{difference_lines};
 
 use crate::differences::Differences;
 use crate::look_fault::LookFault;
-use console_lines::Reach;
-use engine::lead;
+use console_lines::{Consoles, Dial};
+use engine::{Cut, lead};
 use host_devices::{Line, MOST_TURNS, Onlooker};
-use looking_engine::{Reading, Stop, stop_from};
+use looking_engine::{Reading, stop_from};
 use reading_core::{End, ReadingCore};
 use std::io::Write;
 use tape_image::Word;
@@ -28,29 +29,30 @@ use tape_image::Word;
 ///
 /// `Connect` comes where the console can't be reached, and nothing was sent; `WriteOutput` where a line can't be
 /// written whole, and then nothing more is read or sent.
-pub(crate) fn compare_over<R: Reach, W: Write, O: Onlooker>(
+pub(crate) fn compare_over<C: Consoles, W: Write, O: Onlooker>(
     core: ReadingCore,
     words: &[Word],
-    console: &mut R,
+    consoles: &mut C,
+    dial: Dial<'_>,
     out: &mut W,
     onlooker: &O,
-) -> Result<(ReadingCore, Stop<End>), LookFault>
+) -> Result<(ReadingCore, Result<End, Cut>), LookFault>
     requires { core.values ≡ [] }
-    ensures look { IfOk result (λ looked. IsLook (core ⇒ looked.0) looked.1 (R.lines console.old ⇒ R.lines console.new)) }
-    ensures asked { OnOk result (AsksOnce (ended core.phase) (R.call console.old) (R.asked console.old) (R.asked console.new)) }
+    ensures look { IfOk result (λ looked. IsLook (core ⇒ looked.0) looked.1 (C.lines consoles.old ⇒ C.lines consoles.new)) }
+    ensures asked { OnOk result (AsksOnce (ended core.phase) (call_of dial.entry) (C.asked consoles.old) (C.asked consoles.new)) }
     ensures shown { IfOk result (λ looked. Appends (W.contents out.old) (W.contents out.new) (difference_lines words.now looked.0.values)) }
-    ensures call { R.call console.new ≡ R.call console.old }
     ensures fault { IfErr result (IsCompareFault words.now core
-        (console_told R.Reach W.Write console.old out.old ⇒ console_told R.Reach W.Write console.new out.new)) }
+        (console_told C.Consoles W.Write (call_of dial.entry) consoles.old out.old
+        ⇒ console_told C.Consoles W.Write (call_of dial.entry) consoles.new out.new)) }
 {
     if let Some(end) = core.end() {
-        return Ok((core, Stop::Ended(end)));
+        return Ok((core, Ok(end)));
     }
-    let mut line = console.reach()?;
+    let mut line = consoles.reach(dial)?;
     onlooker.begins(0, core.addresses().len() as u32);
     let (core, stop) = compare(core, words, &mut line, out, onlooker);
     onlooker.ends();
-    console.let_go(line);
+    consoles.let_go(line);
     match stop {
         Some(stop) => Ok((core, stop)),
         None => Err(LookFault::WriteOutput),
@@ -65,7 +67,7 @@ fn compare<L: Line, W: Write, O: Onlooker>(
     line: &mut L,
     out: &mut W,
     onlooker: &O,
-) -> (ReadingCore, Option<Stop<End>>)
+) -> (ReadingCore, Option<Result<End, Cut>>)
     requires fresh { core.values ≡ [] }
     requires kept { IsReader core }
     ensures inquired { IsInquired most_turns (inquiry core result.0 result.1) (line_told L.Line line.old) (line_told L.Line line.new) }
@@ -81,7 +83,7 @@ fn read_and_show<L: Line, W: Write, O: Onlooker>(
     line: &mut L,
     differences: &mut Differences<'_, W, O>,
     onlooker: &O,
-) -> (ReadingCore, Option<Stop<End>>)
+) -> (ReadingCore, Option<Result<End, Cut>>)
     requires fresh { core.values ≡ [] }
     requires kept { IsReader core }
     ensures inquired { IsInquired most_turns (inquiry core result.0 result.1) (line_told L.Line line.old) (line_told L.Line line.new) }

@@ -1,6 +1,7 @@
 //! Reading, with each block on the shelf as soon as its last word was read.
 ghost use Rattle.std.specs.Prelude.{◌≡◌, ◌+◌, ◌*◌, ◌<◌, ◌≤◌, ◌↔◌, ◌++◌, [], length, IfErr, IfOk, IsTrue};
 ghost use Rattle.tape_values.specs.Block.{top};
+ghost use Rattle.console_lines.specs.Path.{call_of};
 ghost use Rattle.host_devices.specs.Devices.{line_told};
 ghost use Rattle.host_devices.specs.Turns.{most_turns};
 ghost use Rattle.reading_core.specs.Invariant.{IsReader};
@@ -18,10 +19,10 @@ use crate::blocks::Blocks;
 use crate::hosts::Hosts;
 use crate::look_fault::LookFault;
 use crate::saving::SaveOptions;
-use console_lines::Reach;
-use engine::lead;
+use console_lines::{Consoles, Dial};
+use engine::{Cut, lead};
 use host_devices::{Line, MOST_TURNS, Onlooker, Unwatched};
-use looking_engine::{Reading, Stop, stop_from};
+use looking_engine::{Reading, stop_from};
 use reading_core::{End, ReadingCore};
 use sample_looks::{Finding, Looked, look_at_samples};
 use tape_shelf::{Shelf, words_of};
@@ -33,7 +34,7 @@ pub(crate) enum Course {
     HeldUp(Looked),
 
     /// What was found stands, as far as this host looked, and this one read behind it, and stopped so.
-    Read(ReadingCore, ReadingCore, Stop<End>),
+    Read(ReadingCore, ReadingCore, Result<End, Cut>),
 }
 
 /// Reaches the console and looks at samples of what was found; where they stand, puts its blocks on the shelf,
@@ -42,22 +43,22 @@ pub(crate) enum Course {
 ///
 /// `Connect` comes where the console can't be reached, and nothing was sent; `WriteTape` where a block can't be
 /// added, and then nothing more is read.
-pub(crate) fn read_over<S: Shelf, R: Reach, O: Onlooker>(
+pub(crate) fn read_over<S: Shelf, C: Consoles, O: Onlooker>(
     options: SaveOptions,
     hosts: Hosts,
     found: &[u16],
     shelf: &mut S,
-    console: &mut R,
+    consoles: &mut C,
+    dial: Dial<'_>,
     onlooker: &O,
 ) -> Result<Course, LookFault>
     requires fill { FillBlocks options.range found.now }
     requires hosts { AreHosts options found.now hosts }
     requires begins { options.start < 65536 }
     ensures course { IfOk result (IsCourse (record { options = options; found = found.now })
-        (save_at S.Shelf R.Reach shelf.old console.old) (save_at S.Shelf R.Reach shelf.new console.new)) }
-    ensures call { R.call console.new ≡ R.call console.old }
+        (save_at S.Shelf C.Consoles (call_of dial.entry) shelf.old consoles.old) (save_at S.Shelf C.Consoles (call_of dial.entry) shelf.new consoles.new)) }
     ensures fault { IfErr result (IsReadFault (record { options = options; found = found.now })
-        (save_at S.Shelf R.Reach shelf.old console.old) (save_at S.Shelf R.Reach shelf.new console.new)) }
+        (save_at S.Shelf C.Consoles (call_of dial.entry) shelf.old consoles.old) (save_at S.Shelf C.Consoles (call_of dial.entry) shelf.new consoles.new)) }
 {
     let Hosts {
         samples,
@@ -65,12 +66,12 @@ pub(crate) fn read_over<S: Shelf, R: Reach, O: Onlooker>(
         addresses,
         room,
     } = hosts;
-    let mut line = console.reach()?;
+    let mut line = consoles.reach(dial)?;
     onlooker.begins(found.len() as u32, words_of(options.range) as u32);
     let looked = look_at_samples(looker, &samples, &mut line, &Unwatched);
     if !all_stand(looked.finding) {
         onlooker.ends();
-        console.let_go(line);
+        consoles.let_go(line);
         return Ok(Course::HeldUp(looked));
     }
     let looks = looked.reader;
@@ -79,7 +80,7 @@ pub(crate) fn read_over<S: Shelf, R: Reach, O: Onlooker>(
     let behind = Behind::new(onlooker, found.len() as u32, looks.spent());
     let (core, stop) = read_behind(core, options.range.from(), found, shelf, &mut line, &behind);
     onlooker.ends();
-    console.let_go(line);
+    consoles.let_go(line);
     match stop {
         Some(stop) => Ok(Course::Read(looks, core, stop)),
         None => Err(LookFault::WriteTape),
@@ -106,7 +107,7 @@ fn read_behind<S: Shelf, L: Line, O: Onlooker>(
     shelf: &mut S,
     line: &mut L,
     onlooker: &O,
-) -> (ReadingCore, Option<Stop<End>>)
+) -> (ReadingCore, Option<Result<End, Cut>>)
     requires below { from + 2 * (length found.now + length core.addresses) ≤ top }
     requires fresh { core.values ≡ [] }
     requires kept { IsReader core }
@@ -124,7 +125,7 @@ fn read_into<S: Shelf, L: Line, O: Onlooker>(
     blocks: &mut Blocks<'_, S>,
     line: &mut L,
     onlooker: &O,
-) -> (ReadingCore, Option<Stop<End>>)
+) -> (ReadingCore, Option<Result<End, Cut>>)
     requires below { blocks.old.from + 2 * (length found.now + length core.addresses) ≤ top }
     requires empty { blocks.old.numbers.items ≡ [] }
     requires fresh { core.values ≡ [] }

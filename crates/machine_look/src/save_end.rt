@@ -1,4 +1,4 @@
-use host_devices::LineFault;
+use engine::Cut;
 
 /// How a `save` ended.
 #[derive(Clone, Copy, Debug, PartialEq, Eq)]
@@ -16,11 +16,8 @@ pub enum SaveEnd {
     /// There were more mishaps than the patience.
     GaveUp,
 
-    /// The turns were over before all words were read.
-    TurnsOver,
-
-    /// The line failed.
-    LineFailed(LineFault),
+    /// The line failed, or the turns were over before all words were read.
+    CutOff(Cut),
 
     /// Memory does not hold the word at this address that an earlier save read there, and nothing was read.
     Stale(u16),

@@ -8,7 +8,7 @@ ghost use Rattle.machine_look.specs.SaveReport.{held_end, save_counts_text, save
 use crate::save_end::SaveEnd;
 use crate::verify_report::{LastLines, push_no_word};
 use byte_io::{push_bytes, push_decimal, push_octal};
-use looking_engine::Stop;
+use engine::Cut;
 use reading_core::End;
 use sample_looks::Finding;
 
@@ -39,21 +39,20 @@ pub(crate) fn save_report(counts: SaveCounts, end: SaveEnd) -> LastLines
 }
 
 /// How a reading ends whose words are saved, and may be believed or not.
-pub(crate) fn save_end(stop: Stop<End>, trusted: bool) -> SaveEnd
+pub(crate) fn save_end(stop: Result<End, Cut>, trusted: bool) -> SaveEnd
     ensures { result ≡ save_end stop trusted }
 {
     match stop {
-        Stop::Ended(End::Complete) if trusted => SaveEnd::Saved,
-        Stop::Ended(End::NoWord(address)) if trusted => SaveEnd::NoWord(address),
-        Stop::Ended(End::Complete | End::NoWord(_)) => SaveEnd::Changed,
-        Stop::Ended(End::GaveUp) => SaveEnd::GaveUp,
-        Stop::LineFailed(fault) => SaveEnd::LineFailed(fault),
-        Stop::TurnsOver => SaveEnd::TurnsOver,
+        Ok(End::Complete) if trusted => SaveEnd::Saved,
+        Ok(End::NoWord(address)) if trusted => SaveEnd::NoWord(address),
+        Ok(End::Complete | End::NoWord(_)) => SaveEnd::Changed,
+        Ok(End::GaveUp) => SaveEnd::GaveUp,
+        Err(cut) => SaveEnd::CutOff(cut),
     }
 }
 
 /// How a save ends that its looks held up.
-pub(crate) fn held_end(finding: Finding, stop: Stop<End>) -> SaveEnd
+pub(crate) fn held_end(finding: Finding, stop: Result<End, Cut>) -> SaveEnd
     ensures { result ≡ held_end finding stop }
 {
     match finding {
@@ -97,8 +96,7 @@ fn push_end_name(text: &mut LastLines, end: SaveEnd)
         SaveEnd::Changed => push_bytes(text, b"Changed"),
         SaveEnd::NoWord(address) => push_no_word(text, address),
         SaveEnd::GaveUp => push_bytes(text, b"GaveUp"),
-        SaveEnd::TurnsOver => push_bytes(text, b"TurnsOver"),
-        SaveEnd::LineFailed(_) => push_bytes(text, b"LineFailed"),
+        SaveEnd::CutOff(cut) => push_bytes(text, cut.name()),
         SaveEnd::Stale(address) => push_stale(text, address),
     }
 }

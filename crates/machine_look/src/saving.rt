@@ -2,6 +2,7 @@
 ghost use Rattle.std.specs.Prelude.{◌≡◌, ◌*◌, ◌+◌, ◌++◌, ◌<◌, ◌≤◌, List, ℕ, length, IfErr, IfOk, OnOk};
 ghost use Rattle.tape_values.specs.Block.{top};
 ghost use Rattle.console_lines.specs.Console.{console_told};
+ghost use Rattle.console_lines.specs.Path.{call_of};
 ghost use Rattle.machine_look.specs.Course.{HasRoomForCounts, IsTapeClosed, IsUnclosed, closing_text, counts_of, end_of};
 ghost use Rattle.tape_shelf.specs.FoundPart.{FillBlocks};
 ghost use Rattle.machine_look.specs.LookFault.{IsKeepFault, IsSaveFault, TakesUpNothing};
@@ -19,9 +20,9 @@ use crate::save_end::SaveEnd;
 use crate::save_report::{SaveCounts, held_end, save_end, save_report};
 use crate::trust::are_trusted;
 use byte_io::write_and_flush;
-use console_lines::Reach;
+use console_lines::{Consoles, Dial};
+use engine::Cut;
 use host_devices::Onlooker;
-use looking_engine::Stop;
 use reading_core::{Care, End};
 use request_values::AddressRange;
 use std::alloc::Global;
@@ -60,25 +61,25 @@ pub struct SaveOptions {
 /// that were added stay on the shelf. `Connect` comes before anything was sent. `WriteOutput` is a report that
 /// could not be written whole; the tape is where it belongs. `Memory` comes only where a growth was refused, for
 /// the host or for the shelf, before the console is reached.
-pub fn save<S: Shelf, R: Reach, W: Write, O: Onlooker>(
+pub fn save<S: Shelf, C: Consoles, W: Write, O: Onlooker>(
     alloc: Global,
     options: SaveOptions,
     shelf: &mut S,
-    console: &mut R,
+    consoles: &mut C,
+    dial: Dial<'_>,
     out: &mut W,
     onlooker: &O,
 ) -> Result<SaveEnd, LookFault>
     ensures ok { IfOk result (IsSavedAndReported options
-        (save_told (S.told shelf.old) (console_told R.Reach W.Write console.old out.old))
-        (save_told (S.told shelf.new) (console_told R.Reach W.Write console.new out.new))) }
-    ensures call { R.call console.new ≡ R.call console.old }
+        (save_told (S.told shelf.old) (console_told C.Consoles W.Write (call_of dial.entry) consoles.old out.old))
+        (save_told (S.told shelf.new) (console_told C.Consoles W.Write (call_of dial.entry) consoles.new out.new))) }
     ensures err { IfErr result (IsSaveFault options
-        (save_told (S.told shelf.old) (console_told R.Reach W.Write console.old out.old))
-        (save_told (S.told shelf.new) (console_told R.Reach W.Write console.new out.new))) }
+        (save_told (S.told shelf.old) (console_told C.Consoles W.Write (call_of dial.entry) consoles.old out.old))
+        (save_told (S.told shelf.new) (console_told C.Consoles W.Write (call_of dial.entry) consoles.new out.new))) }
 {
     let found = take_up(alloc, options.range, shelf)?;
     let hosts = Hosts::new(alloc, options, &found)?;
-    let course = read_over(options, hosts, &found, shelf, console, onlooker)?;
+    let course = read_over(options, hosts, &found, shelf, consoles, dial, onlooker)?;
     let (counts, end) = conclude(options, &found, course, shelf)?;
     write_and_flush(out, &save_report(counts, end))?;
     Ok(end)
@@ -149,12 +150,12 @@ fn conclude<S: Shelf>(
 }
 
 // Whether a reading that stopped so has all that can be had, and may be believed.
-fn has_all(stop: Stop<End>, trusted: bool) -> bool
+fn has_all(stop: Result<End, Cut>, trusted: bool) -> bool
     ensures { result ≡ has_all stop trusted }
 {
     match stop {
-        Stop::Ended(End::Complete | End::NoWord(_)) => trusted,
-        Stop::Ended(End::GaveUp) | Stop::LineFailed(_) | Stop::TurnsOver => false,
+        Ok(End::Complete | End::NoWord(_)) => trusted,
+        Ok(End::GaveUp) | Err(_) => false,
     }
 }
 

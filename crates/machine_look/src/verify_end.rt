@@ -1,4 +1,4 @@
-use host_devices::LineFault;
+use engine::Cut;
 
 /// How a `verify` ended.
 #[derive(Clone, Copy, Debug, PartialEq, Eq)]
@@ -18,9 +18,6 @@ pub enum VerifyEnd {
     /// There were more mishaps than the patience.
     GaveUp,
 
-    /// The turns were over before all words were looked at.
-    TurnsOver,
-
-    /// The line failed.
-    LineFailed(LineFault),
+    /// The line failed, or the turns were over before all words were looked at.
+    CutOff(Cut),
 }

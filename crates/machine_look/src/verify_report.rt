@@ -9,7 +9,7 @@ use crate::difference::Difference;
 use crate::verify_end::VerifyEnd;
 use arrayvec::ArrayVec;
 use byte_io::{push_bytes, push_decimal, push_octal};
-use looking_engine::Stop;
+use engine::Cut;
 use reading_core::{End, ReadingCore};
 
 // Room for the line of a difference: four words of six digits, what stands between them, and its end.
@@ -22,17 +22,16 @@ const LAST_ROOM: usize = 151;
 pub(crate) type LastLines = ArrayVec<u8, LAST_ROOM>;
 
 /// How a reading ends that may be believed or not, and with which so many words differ.
-pub(crate) fn verify_end(trusted: bool, differ: usize, stop: Stop<End>) -> VerifyEnd
+pub(crate) fn verify_end(trusted: bool, differ: usize, stop: Result<End, Cut>) -> VerifyEnd
     ensures { result ≡ verify_end trusted differ stop }
 {
     match stop {
-        Stop::Ended(End::Complete) if differ > 0 => VerifyEnd::Differs,
-        Stop::Ended(End::Complete) if trusted => VerifyEnd::Same,
-        Stop::Ended(End::Complete) => VerifyEnd::Changed,
-        Stop::Ended(End::GaveUp) => VerifyEnd::GaveUp,
-        Stop::Ended(End::NoWord(address)) => VerifyEnd::NoWord(address),
-        Stop::LineFailed(fault) => VerifyEnd::LineFailed(fault),
-        Stop::TurnsOver => VerifyEnd::TurnsOver,
+        Ok(End::Complete) if differ > 0 => VerifyEnd::Differs,
+        Ok(End::Complete) if trusted => VerifyEnd::Same,
+        Ok(End::Complete) => VerifyEnd::Changed,
+        Ok(End::GaveUp) => VerifyEnd::GaveUp,
+        Ok(End::NoWord(address)) => VerifyEnd::NoWord(address),
+        Err(cut) => VerifyEnd::CutOff(cut),
     }
 }
 
@@ -59,7 +58,7 @@ pub(crate) fn last_lines(
     core: &ReadingCore,
     trusted: bool,
     differ: usize,
-    stop: Stop<End>,
+    stop: Result<End, Cut>,
 ) -> LastLines
     ensures { result.items ≡ last_lines trusted (length core.now.addresses) core.now differ stop }
 {
@@ -117,8 +116,7 @@ fn push_end_name(text: &mut LastLines, end: VerifyEnd)
         VerifyEnd::Differs => push_bytes(text, b"Differs"),
         VerifyEnd::NoWord(address) => push_no_word(text, address),
         VerifyEnd::GaveUp => push_bytes(text, b"GaveUp"),
-        VerifyEnd::TurnsOver => push_bytes(text, b"TurnsOver"),
-        VerifyEnd::LineFailed(_) => push_bytes(text, b"LineFailed"),
+        VerifyEnd::CutOff(cut) => push_bytes(text, cut.name()),
     }
 }
 

@@ -1,9 +1,10 @@
 -- What a test of memory leaves, over honest lines.
-use Rattle.std.proofs.Common.{◌≡◌, ℕ, zero, suc, ◌+◌, ◌^◌, ◌<◌, ◌≤◌, List, [], ◌∷◌, ◌++◌, length, get_or, Option, Some, None, Bool, true, false, nat_lt, if◌then◌else◌, refl, arith, ap, sym, subst, inl, inr, ◌∙◌}
+use Rattle.std.proofs.Common.{◌≡◌, ℕ, zero, suc, ◌+◌, ◌^◌, ◌<◌, ◌≤◌, List, [], ◌∷◌, ◌++◌, length, get_or, Option, Some, None, Ok, Err, Bool, true, false, nat_lt, if◌then◌else◌, refl, arith, ap, sym, subst, inl, inr, ◌∙◌}
 use Rattle.std.specs.Prelude.{◌==◌, All, ⊤}
 use Rattle.std.proofs.lemmas.List.Elements.{All-nil, All-cons, All-append, All-head, All-tail}
 use Rattle.odt_machine.specs.Machine.{Machine, is_word, stored, word_at}
 use Rattle.host_devices.specs.declared.item.Item.{Item}
+use Rattle.engine.specs.declared.stop.Cut.TheVariants.{LineFailed, TurnsOver}
 use Rattle.engine.specs.declared.stop.Stop.{Stop}
 use Rattle.engine.specs.declared.stop.Stop.TheVariants as stop
 use Rattle.honest_line.specs.Honest.{IsHonest}
@@ -28,7 +29,7 @@ use Rattle.memory_engine.specs.Tested.{NoKeepFault}
 use Rattle.memory_engine.proofs.Beliefs.{led_is, said_told, tested_believable}
 use Rattle.memory_core.specs.Laws.{led}
 use Rattle.memory_core.proofs.Lives.{led_addresses}
-use Rattle.memory_report.specs.declared.findings.TestEnd.{TestEnd}
+use Rattle.memory_report.specs.declared.test_end.TestEnd.{TestEnd}
 use Rattle.memory_report.specs.declared.findings.Word.{Word}
 use Rattle.probe_report.specs.declared.findings.Findings.{Findings}
 use Rattle.probe_report.specs.declared.findings.Sighting.{Sighting}
@@ -44,11 +45,10 @@ use Rattle.machine_memory.specs.declared.course.Place.TheVariants.{Trying, Testi
 use Rattle.machine_memory.specs.declared.memory_options.MemoryOptions.{MemoryOptions}
 use Rattle.load_engine.specs.Driving.{LoadStop}
 use Rattle.host_core.specs.declared.phase.End.TheVariants as loaded
-use Rattle.looking_engine.specs.declared.stop.Stop.TheVariants as looking
 use Rattle.looking_engine.specs.Stopping.{LookStop}
 use Rattle.reading_core.specs.declared.phase.End.TheVariants as looked_end
 use Rattle.memory_law.proofs.Ahead.{stored_own, stored_there, stored_twice}
-use Rattle.memory_report.specs.declared.findings.TestEnd.TheVariants as test
+use Rattle.memory_report.specs.declared.test_end.TestEnd.TheVariants as test
 use Rattle.memory_report.specs.Bus.{BusFound, same_words}
 use Rattle.machine_memory.specs.Belief.{AreBelievable, Remains}
 use Rattle.machine_memory.specs.Bus.{mark, number_at, reading}
@@ -110,8 +110,7 @@ first_stands before to s f (look.Number old) now held none ready same words quie
 first_stands before to s f look.NoWord now held none ready same words quiet unread =
     record { ready = ready; memory = none_borrowed before s.borrowed now.memory none same; words = words; free = free_try f.address (next_bank f.address to) s.borrowed none; touches = quiet; at = unread_try before f.address (next_bank f.address to) s.bus now.memory unread }
 first_stands before to s f look.GaveUp now held none ready same words quiet unread = record { ready = ready; memory = same; words = words; free = tt; touches = quiet; at = unread_apart s.bus unread }
-first_stands before to s f look.TurnsOver now held none ready same words quiet unread = record { ready = ready; memory = same; words = words; free = tt; touches = quiet; at = unread_apart s.bus unread }
-first_stands before to s f (look.LineFailed fault) now held none ready same words quiet unread = record { ready = ready; memory = same; words = words; free = tt; touches = quiet; at = unread_apart s.bus unread }
+first_stands before to s f (look.CutOff cut) now held none ready same words quiet unread = record { ready = ready; memory = same; words = words; free = tt; touches = quiet; at = unread_apart s.bus unread }
 
 verdict_stands : (before : List ℕ) (to : ℕ) (s : Standing) (f : Findings) (verdict : Verdict) (now : Machine) → stores verdict ≡ false → ((number : ℕ) → f.first ≡ look.Number number → number ≡ word_at before f.address) →
     s.borrowed ≡ None → IsReadyMachine now → now.memory ≡ before → AreTrue before s.words → s.bus.touches ≡ false → IsUnread s.bus → Stands before (by_verdict to s f verdict) now
@@ -153,9 +152,8 @@ stop_stands before to s (stop.Ended (core.NoWord gap)) None now is none ready wo
     record { ready = ready; memory = none_borrowed before s.borrowed now.memory none is; words = words; free = free_test (next_bank gap to) s.borrowed none; touches = quiet; at = unread_test before (next_bank gap to) s.bus now.memory unread }
 stop_stands before to s (stop.Ended (core.NoWord gap)) (Some word) now is none ready words quiet unread = record { ready = ready; memory = is; words = words; free = tt; touches = quiet; at = unread_apart s.bus unread }
 stop_stands before to s (stop.Ended core.GaveUp) word now is none ready words quiet unread = record { ready = ready; memory = is; words = words; free = tt; touches = quiet; at = unread_apart s.bus unread }
-stop_stands before to s (stop.LineFailed fault) word now is none ready words quiet unread = record { ready = ready; memory = is; words = words; free = tt; touches = quiet; at = unread_apart s.bus unread }
 stop_stands before to s (stop.KeepFailed fault) word now is none ready words quiet unread = record { ready = ready; memory = is; words = words; free = tt; touches = quiet; at = unread_apart s.bus unread }
-stop_stands before to s stop.TurnsOver word now is none ready words quiet unread = record { ready = ready; memory = is; words = words; free = tt; touches = quiet; at = unread_apart s.bus unread }
+stop_stands before to s (stop.CutOff cut) word now is none ready words quiet unread = record { ready = ready; memory = is; words = words; free = tt; touches = quiet; at = unread_apart s.bus unread }
 
 -- what was tested is true, whatever the losses
 record HasTested (machine : List ℕ) (last : Tester) (now : List ℕ) : Type 0 where
@@ -164,8 +162,8 @@ record HasTested (machine : List ℕ) (last : Tester) (now : List ℕ) : Type 0 
 
 tested_at : (stopped : Stop End) (first last : Tester) (said : List Item) (m now : Machine) (lost : ℕ) → NoKeepFault stopped → IsBelievableAt (Some stopped) first last said → MayTest first m → IsHonest m said lost now → HasTested m.memory last now.memory
 tested_at (stop.Ended end) first last said m now lost never b may honest = record { lost = lost + 0; is = b m now lost may honest }
-tested_at stop.TurnsOver first last said m now lost never b may honest = record { lost = lost + 0; is = b m now lost may honest }
-tested_at (stop.LineFailed fault) first last said m now lost never b may honest = record { lost = lost + 1; is = b.0 m now lost may honest }
+tested_at (stop.CutOff TurnsOver) first last said m now lost never b may honest = record { lost = lost + 0; is = b m now lost may honest }
+tested_at (stop.CutOff (LineFailed fault)) first last said m now lost never b may honest = record { lost = lost + 1; is = b.0 m now lost may honest }
 tested_at (stop.KeepFailed fault) first last said m now lost never b may honest = absurd never
 
 -- a test leaves the machine ready, whatever it came to
@@ -187,9 +185,8 @@ stop_bus to s (stop.Ended core.Complete) word = refl
 stop_bus to s (stop.Ended (core.NoWord gap)) None = refl
 stop_bus to s (stop.Ended (core.NoWord gap)) (Some word) = refl
 stop_bus to s (stop.Ended core.GaveUp) word = refl
-stop_bus to s (stop.LineFailed fault) word = refl
 stop_bus to s (stop.KeepFailed fault) word = refl
-stop_bus to s stop.TurnsOver word = refl
+stop_bus to s (stop.CutOff cut) word = refl
 
 -- what is true of a word that is lent
 record MayLend (before : List ℕ) (word : Borrowed) : Type 0 where
@@ -239,8 +236,7 @@ bus_stands before every s now are unread k = by s.place s.borrowed (first_good s
     by (Over test.NotTrusted) word found there none may = k
     by (Over (test.NoWord address)) word found there none may = k
     by (Over test.GaveUp) word found there none may = k
-    by (Over test.TurnsOver) word found there none may = k
-    by (Over (test.LineFailed fault)) word found there none may = k
+    by (Over (test.CutOff cut)) word found there none may = k
     by (Trying address) word found there none may = k
     by (Testing address) word found there none may = k
     by (Marking w place) word found there none may = k
@@ -315,9 +311,8 @@ mark_stops before place s word (stop.Ended loaded.Started) now held l = ended_st
 mark_stops before place s word (stop.Ended loaded.Uncertain) now held l = ended_stands before s word test.GaveUp now l
 mark_stops before place s word (stop.Ended loaded.MaybeStarted) now held l = ended_stands before s word test.GaveUp now l
 mark_stops before place s word (stop.Ended loaded.GaveUp) now held l = ended_stands before s word test.GaveUp now l
-mark_stops before place s word (stop.LineFailed fault) now held l = ended_stands before s word (test.LineFailed fault) now l
-mark_stops before place s word (stop.KeepFailed fault) now held l = ended_stands before s word test.TurnsOver now l
-mark_stops before place s word stop.TurnsOver now held l = ended_stands before s word test.TurnsOver now l
+mark_stops before place s word (stop.KeepFailed fault) now held l = ended_stands before s word (test.CutOff TurnsOver) now l
+mark_stops before place s word (stop.CutOff cut) now held l = ended_stands before s word (test.CutOff cut) now l
 
 mark_stands : (options : MemoryOptions) (before : List ℕ) (word : Borrowed) (place : ℕ) (s after : Standing) (m now : Machine) (parts : List (List Item)) (lost : ℕ) → Lends before s word m →
     IsMarkStep options word place s after parts → AreHonest m parts lost now → Stands before after now
@@ -353,9 +348,8 @@ put_back_stops before s word (stop.Ended loaded.Started) now held is l = ended_s
 put_back_stops before s word (stop.Ended loaded.Uncertain) now held is l = ended_stands before s word test.GaveUp now l
 put_back_stops before s word (stop.Ended loaded.MaybeStarted) now held is l = ended_stands before s word test.GaveUp now l
 put_back_stops before s word (stop.Ended loaded.GaveUp) now held is l = ended_stands before s word test.GaveUp now l
-put_back_stops before s word (stop.LineFailed fault) now held is l = ended_stands before s word (test.LineFailed fault) now l
-put_back_stops before s word (stop.KeepFailed fault) now held is l = ended_stands before s word test.TurnsOver now l
-put_back_stops before s word stop.TurnsOver now held is l = ended_stands before s word test.TurnsOver now l
+put_back_stops before s word (stop.KeepFailed fault) now held is l = ended_stands before s word (test.CutOff TurnsOver) now l
+put_back_stops before s word (stop.CutOff cut) now held is l = ended_stands before s word (test.CutOff cut) now l
 
 put_back_stands : (options : MemoryOptions) (before : List ℕ) (word : Borrowed) (s after : Standing) (m now : Machine) (parts : List (List Item)) (lost : ℕ) → Lends before s word m →
     IsPutBackStep options word s after parts → AreHonest m parts lost now → Stands before after now
@@ -374,9 +368,8 @@ named_stops before s word (stop.Ended loaded.Started) now l = ended_stands befor
 named_stops before s word (stop.Ended loaded.Uncertain) now l = ended_stands before s word test.GaveUp now l
 named_stops before s word (stop.Ended loaded.MaybeStarted) now l = ended_stands before s word test.GaveUp now l
 named_stops before s word (stop.Ended loaded.GaveUp) now l = ended_stands before s word test.GaveUp now l
-named_stops before s word (stop.LineFailed fault) now l = ended_stands before s word (test.LineFailed fault) now l
-named_stops before s word (stop.KeepFailed fault) now l = ended_stands before s word test.TurnsOver now l
-named_stops before s word stop.TurnsOver now l = ended_stands before s word test.TurnsOver now l
+named_stops before s word (stop.KeepFailed fault) now l = ended_stands before s word (test.CutOff TurnsOver) now l
+named_stops before s word (stop.CutOff cut) now l = ended_stands before s word (test.CutOff cut) now l
 
 named_stands : (options : MemoryOptions) (before : List ℕ) (word : Borrowed) (s after : Standing) (m now : Machine) (parts : List (List Item)) (lost : ℕ) → Lends before s word m →
     IsNamedStep options word s after parts → AreHonest m parts lost now → Stands before after now
@@ -401,8 +394,8 @@ remains_lent : (before : List ℕ) (word : Option Borrowed) (w : Borrowed) (now 
 remains_lent before word w now is lent = subst (λ (x : Option Borrowed). Remains before x now) (sym is) (lent_remains before w now lent)
 
 look_stops : (before : List ℕ) (s : Standing) (word : Borrowed) (stopped : LookStop) (now : Machine) → s.borrowed ≡ Some word → Lends before s word now → Stands before (by_look s word stopped) now
-look_stops before s word (looking.Ended looked_end.Complete) now is l = record { ready = l.ready; memory = remains_lent before s.borrowed word now.memory is l.lent; words = l.words; free = tt; touches = l.touches; at = (l.lent, l.marks) }
-look_stops before s word (looking.Ended (looked_end.NoWord gap)) now is l = record {
+look_stops before s word (Ok looked_end.Complete) now is l = record { ready = l.ready; memory = remains_lent before s.borrowed word now.memory is l.lent; words = l.words; free = tt; touches = l.touches; at = (l.lent, l.marks) }
+look_stops before s word (Ok (looked_end.NoWord gap)) now is l = record {
   ready = l.ready;
   memory = remains_lent before s.borrowed word now.memory is l.lent;
   words = l.words;
@@ -410,9 +403,8 @@ look_stops before s word (looking.Ended (looked_end.NoWord gap)) now is l = reco
   touches = l.touches;
   at = lent_on before word s.bus now.memory (in_bus gap) l.lent l.marks;
 }
-look_stops before s word (looking.Ended looked_end.GaveUp) now is l = ended_stands before s word test.GaveUp now l
-look_stops before s word looking.TurnsOver now is l = ended_stands before s word test.TurnsOver now l
-look_stops before s word (looking.LineFailed fault) now is l = ended_stands before s word (test.LineFailed fault) now l
+look_stops before s word (Ok looked_end.GaveUp) now is l = ended_stands before s word test.GaveUp now l
+look_stops before s word (Err cut) now is l = ended_stands before s word (test.CutOff cut) now l
 
 look_stands : (options : MemoryOptions) (before : List ℕ) (word : Borrowed) (first : ℕ) (s after : Standing) (m now : Machine) (parts : List (List Item)) (lost : ℕ) → options.patience < 2 ^ 32 → IsAddress first → s.borrowed ≡ Some word → Lends before s word m →
     IsLookStep options word first s after parts → AreHonest m parts lost now → Stands before after now
@@ -455,8 +447,8 @@ free_again word (Some next) other = tt
 free_again word None other = tt
 
 second_look_stops : (before : List ℕ) (s : Standing) (word : Borrowed) (stopped : LookStop) (now : Machine) → Remains before s.borrowed now.memory → Again before s word now → Stands before (by_second_look s word stopped) now
-second_look_stops before s word (looking.Ended looked_end.Complete) now is a = again_ended before s word test.Tested now a
-second_look_stops before s word (looking.Ended (looked_end.NoWord gap)) now is a = record {
+second_look_stops before s word (Ok looked_end.Complete) now is a = again_ended before s word test.Tested now a
+second_look_stops before s word (Ok (looked_end.NoWord gap)) now is a = record {
   ready = a.ready;
   memory = is;
   words = a.words;
@@ -464,9 +456,8 @@ second_look_stops before s word (looking.Ended (looked_end.NoWord gap)) now is a
   touches = a.touches;
   at = again_on before word s.bus now.memory (in_bus gap) a.same a.marks;
 }
-second_look_stops before s word (looking.Ended looked_end.GaveUp) now is a = again_ended before s word test.GaveUp now a
-second_look_stops before s word looking.TurnsOver now is a = again_ended before s word test.TurnsOver now a
-second_look_stops before s word (looking.LineFailed fault) now is a = again_ended before s word (test.LineFailed fault) now a
+second_look_stops before s word (Ok looked_end.GaveUp) now is a = again_ended before s word test.GaveUp now a
+second_look_stops before s word (Err cut) now is a = again_ended before s word (test.CutOff cut) now a
 
 second_look_stands : (options : MemoryOptions) (before : List ℕ) (word : Borrowed) (first : ℕ) (s after : Standing) (m now : Machine) (parts : List (List Item)) (lost : ℕ) → options.patience < 2 ^ 32 → IsAddress first → Remains before s.borrowed m.memory → Again before s word m →
     IsLookAgainStep options word first s after parts → AreHonest m parts lost now → Stands before after now

@@ -1,5 +1,5 @@
 -- What one host of a test of a bus makes of the line.
-use Rattle.std.proofs.Common.{◌≡◌, ℕ, ◌+◌, ◌*◌, ◌/◌, ◌<◌, Bool, true, false, nat_lt, if◌then◌else◌, List, [], ◌∷◌, ◌++◌, Option, Some, None, refl, arith, sym, subst, inl, inr, append-nil}
+use Rattle.std.proofs.Common.{◌≡◌, ℕ, ◌+◌, ◌*◌, ◌/◌, ◌<◌, Bool, true, false, nat_lt, if◌then◌else◌, List, [], ◌∷◌, ◌++◌, Option, Some, None, Ok, Err, refl, arith, sym, subst, inl, inr, append-nil}
 use Rattle.std.specs.Prelude.{◌==◌, All}
 use Rattle.std.specs.List.{fold}
 use Rattle.std.proofs.lemmas.List.Elements.{All-append, All-cons, All-head, All-nil, All-tail}
@@ -15,7 +15,6 @@ use Rattle.engine.specs.Stopping.{TellsEnd}
 use Rattle.engine.specs.declared.stop.Stop.TheVariants as load
 use Rattle.host_core.specs.declared.phase.End.TheVariants as loaded
 use Rattle.load_engine.specs.Driving.{LoadSession, LoadStop, driving}
-use Rattle.looking_engine.specs.declared.stop.Stop.TheVariants as look
 use Rattle.looking_engine.specs.Inquired.{Inquired, inquiry}
 use Rattle.looking_engine.specs.Stopping.{LookStop, TellsEnd as TellsLookEnd}
 use Rattle.reading_core.specs.declared.phase.End.TheVariants as looked
@@ -28,7 +27,7 @@ use Rattle.memory_core.specs.declared.seen.Seen.{Seen}
 use Rattle.memory_core.specs.declared.stage.Borrowed.{Borrowed}
 use Rattle.memory_core.specs.Tester.{Tester, borrowed}
 use Rattle.memory_report.specs.declared.findings.Word.{Word}
-use Rattle.memory_report.specs.declared.findings.TestEnd.TheVariants as test
+use Rattle.memory_report.specs.declared.test_end.TestEnd.TheVariants as test
 use Rattle.memory_report.specs.Words.{is_bad}
 use Rattle.machine_probe.specs.PuttingBack.{IsDeposit}
 use Rattle.machine_probe.specs.declared.putting_back.Deposit.{Deposit}
@@ -169,9 +168,8 @@ mark_within to place s word (load.Ended loaded.Started) is = tt
 mark_within to place s word (load.Ended loaded.Uncertain) is = tt
 mark_within to place s word (load.Ended loaded.MaybeStarted) is = tt
 mark_within to place s word (load.Ended loaded.GaveUp) is = tt
-mark_within to place s word (load.LineFailed fault) is = tt
 mark_within to place s word (load.KeepFailed fault) is = tt
-mark_within to place s word load.TurnsOver is = tt
+mark_within to place s word (load.CutOff cut) is = tt
 
 pub mark_words : (place : ℕ) (s : Standing) (word : Borrowed) (stop : LoadStop) → (behind_mark s word place stop).words ≡ s.words
 mark_words place s word (load.Ended loaded.Loaded) = refl
@@ -181,9 +179,8 @@ mark_words place s word (load.Ended loaded.Started) = refl
 mark_words place s word (load.Ended loaded.Uncertain) = refl
 mark_words place s word (load.Ended loaded.MaybeStarted) = refl
 mark_words place s word (load.Ended loaded.GaveUp) = refl
-mark_words place s word (load.LineFailed fault) = refl
 mark_words place s word (load.KeepFailed fault) = refl
-mark_words place s word load.TurnsOver = refl
+mark_words place s word (load.CutOff cut) = refl
 
 put_back_next_within : (to : ℕ) (word : Borrowed) (marked : List ℕ) → IsWithin to (put_back_next word marked)
 put_back_next_within to word [] = tt
@@ -197,9 +194,8 @@ put_back_within to s word (load.Ended loaded.Started) = tt
 put_back_within to s word (load.Ended loaded.Uncertain) = tt
 put_back_within to s word (load.Ended loaded.MaybeStarted) = tt
 put_back_within to s word (load.Ended loaded.GaveUp) = tt
-put_back_within to s word (load.LineFailed fault) = tt
 put_back_within to s word (load.KeepFailed fault) = tt
-put_back_within to s word load.TurnsOver = tt
+put_back_within to s word (load.CutOff cut) = tt
 
 pub stopped_within : (to : ℕ) (s : Standing) (word : Borrowed) (stop : LoadStop) → IsWithin to (stopped_load s word stop).place
 stopped_within to s word (load.Ended loaded.Loaded) = tt
@@ -209,9 +205,8 @@ stopped_within to s word (load.Ended loaded.Started) = tt
 stopped_within to s word (load.Ended loaded.Uncertain) = tt
 stopped_within to s word (load.Ended loaded.MaybeStarted) = tt
 stopped_within to s word (load.Ended loaded.GaveUp) = tt
-stopped_within to s word (load.LineFailed fault) = tt
 stopped_within to s word (load.KeepFailed fault) = tt
-stopped_within to s word load.TurnsOver = tt
+stopped_within to s word (load.CutOff cut) = tt
 
 pub stopped_words : (s : Standing) (word : Borrowed) (stop : LoadStop) → (stopped_load s word stop).words ≡ s.words
 stopped_words s word (load.Ended loaded.Loaded) = refl
@@ -221,9 +216,8 @@ stopped_words s word (load.Ended loaded.Started) = refl
 stopped_words s word (load.Ended loaded.Uncertain) = refl
 stopped_words s word (load.Ended loaded.MaybeStarted) = refl
 stopped_words s word (load.Ended loaded.GaveUp) = refl
-stopped_words s word (load.LineFailed fault) = refl
 stopped_words s word (load.KeepFailed fault) = refl
-stopped_words s word load.TurnsOver = refl
+stopped_words s word (load.CutOff cut) = refl
 
 pub stopped_ready : (s : Standing) (word : Borrowed) (stop : LoadStop) → IsUnlent (stopped_load s word stop).place
 stopped_ready s word (load.Ended loaded.Loaded) options back = tt
@@ -233,9 +227,8 @@ stopped_ready s word (load.Ended loaded.Started) options back = tt
 stopped_ready s word (load.Ended loaded.Uncertain) options back = tt
 stopped_ready s word (load.Ended loaded.MaybeStarted) options back = tt
 stopped_ready s word (load.Ended loaded.GaveUp) options back = tt
-stopped_ready s word (load.LineFailed fault) options back = tt
 stopped_ready s word (load.KeepFailed fault) options back = tt
-stopped_ready s word load.TurnsOver options back = tt
+stopped_ready s word (load.CutOff cut) options back = tt
 
 -- the host that puts back stays where a word is lent
 next_mark_ready : (options : MemoryOptions) (place : ℕ) (word : Borrowed) (back : Option Deposit) (more : Bool) → HasBack options word back → IsReady options (if more then Marking word (place + 1) else Looking word 0) back
@@ -250,20 +243,18 @@ mark_ready options place s word (load.Ended loaded.Started) back has = tt
 mark_ready options place s word (load.Ended loaded.Uncertain) back has = tt
 mark_ready options place s word (load.Ended loaded.MaybeStarted) back has = tt
 mark_ready options place s word (load.Ended loaded.GaveUp) back has = tt
-mark_ready options place s word (load.LineFailed fault) back has = tt
 mark_ready options place s word (load.KeepFailed fault) back has = tt
-mark_ready options place s word load.TurnsOver back has = tt
+mark_ready options place s word (load.CutOff cut) back has = tt
 
 on_ready : (options : MemoryOptions) (word : Borrowed) (next : Option ℕ) (back : Option Deposit) → HasBack options word back → IsReady options (on_from word next) back
 on_ready options word None back has = has
 on_ready options word (Some next) back has = has
 
 pub look_ready : (options : MemoryOptions) (s : Standing) (word : Borrowed) (last : Reader) (stop : LookStop) (back : Option Deposit) → HasBack options word back → IsReady options (behind_look s word last stop).place back
-look_ready options s word last (look.Ended looked.Complete) back has = has
-look_ready options s word last (look.Ended (looked.NoWord gap)) back has = on_ready options word (in_bus gap) back has
-look_ready options s word last (look.Ended looked.GaveUp) back has = tt
-look_ready options s word last look.TurnsOver back has = tt
-look_ready options s word last (look.LineFailed fault) back has = tt
+look_ready options s word last (Ok looked.Complete) back has = has
+look_ready options s word last (Ok (looked.NoWord gap)) back has = on_ready options word (in_bus gap) back has
+look_ready options s word last (Ok looked.GaveUp) back has = tt
+look_ready options s word last (Err cut) back has = tt
 
 put_back_next_ready : (word : Borrowed) (marked : List ℕ) → IsUnlent (put_back_next word marked)
 put_back_next_ready word [] options back = tt
@@ -277,20 +268,18 @@ put_back_ready s word (load.Ended loaded.Started) options back = tt
 put_back_ready s word (load.Ended loaded.Uncertain) options back = tt
 put_back_ready s word (load.Ended loaded.MaybeStarted) options back = tt
 put_back_ready s word (load.Ended loaded.GaveUp) options back = tt
-put_back_ready s word (load.LineFailed fault) options back = tt
 put_back_ready s word (load.KeepFailed fault) options back = tt
-put_back_ready s word load.TurnsOver options back = tt
+put_back_ready s word (load.CutOff cut) options back = tt
 
 again_ready : (word : Borrowed) (next : Option ℕ) → IsUnlent (again_from word next)
 again_ready word None options back = tt
 again_ready word (Some next) options back = tt
 
 pub second_look_ready : (s : Standing) (word : Borrowed) (last : Reader) (stop : LookStop) → IsUnlent (behind_second_look s word last stop).place
-second_look_ready s word last (look.Ended looked.Complete) options back = tt
-second_look_ready s word last (look.Ended (looked.NoWord gap)) options back = again_ready word (in_bus gap) options back
-second_look_ready s word last (look.Ended looked.GaveUp) options back = tt
-second_look_ready s word last look.TurnsOver options back = tt
-second_look_ready s word last (look.LineFailed fault) options back = tt
+second_look_ready s word last (Ok looked.Complete) options back = tt
+second_look_ready s word last (Ok (looked.NoWord gap)) options back = again_ready word (in_bus gap) options back
+second_look_ready s word last (Ok looked.GaveUp) options back = tt
+second_look_ready s word last (Err cut) options back = tt
 
 pub put_back_words : (s : Standing) (word : Borrowed) (stop : LoadStop) → (behind_put_back s word stop).words ≡ s.words
 put_back_words s word (load.Ended loaded.Loaded) = refl
@@ -300,9 +289,8 @@ put_back_words s word (load.Ended loaded.Started) = refl
 put_back_words s word (load.Ended loaded.Uncertain) = refl
 put_back_words s word (load.Ended loaded.MaybeStarted) = refl
 put_back_words s word (load.Ended loaded.GaveUp) = refl
-put_back_words s word (load.LineFailed fault) = refl
 put_back_words s word (load.KeepFailed fault) = refl
-put_back_words s word load.TurnsOver = refl
+put_back_words s word (load.CutOff cut) = refl
 
 next_is : (gap : ℕ) → nat_lt gap 0o157776 ≡ true → IsAddress (gap / 2 * 2 + 2)
 next_is gap low = record { even = omega arith; below = below gap low }
@@ -319,32 +307,28 @@ again_within to gap word true low = next_is gap low
 again_within to gap word false high = tt
 
 pub look_within : (to : ℕ) (s : Standing) (word : Borrowed) (r : Reader) (stop : LookStop) → IsAddress word.address → IsWithin to (behind_look s word r stop).place
-look_within to s word r (look.Ended looked.Complete) is = is
-look_within to s word r (look.Ended (looked.NoWord gap)) is = look_on_within to gap word (nat_lt gap 0o157776) refl is
-look_within to s word r (look.Ended looked.GaveUp) is = tt
-look_within to s word r look.TurnsOver is = tt
-look_within to s word r (look.LineFailed fault) is = tt
+look_within to s word r (Ok looked.Complete) is = is
+look_within to s word r (Ok (looked.NoWord gap)) is = look_on_within to gap word (nat_lt gap 0o157776) refl is
+look_within to s word r (Ok looked.GaveUp) is = tt
+look_within to s word r (Err cut) is = tt
 
 pub look_words : (s : Standing) (word : Borrowed) (r : Reader) (stop : LookStop) → (behind_look s word r stop).words ≡ s.words
-look_words s word r (look.Ended looked.Complete) = refl
-look_words s word r (look.Ended (looked.NoWord gap)) = refl
-look_words s word r (look.Ended looked.GaveUp) = refl
-look_words s word r look.TurnsOver = refl
-look_words s word r (look.LineFailed fault) = refl
+look_words s word r (Ok looked.Complete) = refl
+look_words s word r (Ok (looked.NoWord gap)) = refl
+look_words s word r (Ok looked.GaveUp) = refl
+look_words s word r (Err cut) = refl
 
 pub second_look_within : (to : ℕ) (s : Standing) (word : Borrowed) (r : Reader) (stop : LookStop) → IsWithin to (behind_second_look s word r stop).place
-second_look_within to s word r (look.Ended looked.Complete) = tt
-second_look_within to s word r (look.Ended (looked.NoWord gap)) = again_within to gap word (nat_lt gap 0o157776) refl
-second_look_within to s word r (look.Ended looked.GaveUp) = tt
-second_look_within to s word r look.TurnsOver = tt
-second_look_within to s word r (look.LineFailed fault) = tt
+second_look_within to s word r (Ok looked.Complete) = tt
+second_look_within to s word r (Ok (looked.NoWord gap)) = again_within to gap word (nat_lt gap 0o157776) refl
+second_look_within to s word r (Ok looked.GaveUp) = tt
+second_look_within to s word r (Err cut) = tt
 
 pub second_look_words : (s : Standing) (word : Borrowed) (r : Reader) (stop : LookStop) → (behind_second_look s word r stop).words ≡ s.words
-second_look_words s word r (look.Ended looked.Complete) = refl
-second_look_words s word r (look.Ended (looked.NoWord gap)) = refl
-second_look_words s word r (look.Ended looked.GaveUp) = refl
-second_look_words s word r look.TurnsOver = refl
-second_look_words s word r (look.LineFailed fault) = refl
+second_look_words s word r (Ok looked.Complete) = refl
+second_look_words s word r (Ok (looked.NoWord gap)) = refl
+second_look_words s word r (Ok looked.GaveUp) = refl
+second_look_words s word r (Err cut) = refl
 
 -- ---- where the test of the bus begins
 
@@ -381,8 +365,7 @@ begins_within to every s (Over test.Tested) (Some other) found good within = wit
 begins_within to every s (Over test.NotTrusted) borrowed found good within = within
 begins_within to every s (Over (test.NoWord address)) borrowed found good within = within
 begins_within to every s (Over test.GaveUp) borrowed found good within = within
-begins_within to every s (Over test.TurnsOver) borrowed found good within = within
-begins_within to every s (Over (test.LineFailed fault)) borrowed found good within = within
+begins_within to every s (Over (test.CutOff cut)) borrowed found good within = within
 begins_within to every s (Trying address) borrowed found good within = within
 begins_within to every s (Testing address) borrowed found good within = within
 begins_within to every s (Marking word place) borrowed found good within = within
@@ -404,8 +387,7 @@ begins_words every s (Over test.Tested) (Some other) found = refl
 begins_words every s (Over test.NotTrusted) borrowed found = refl
 begins_words every s (Over (test.NoWord address)) borrowed found = refl
 begins_words every s (Over test.GaveUp) borrowed found = refl
-begins_words every s (Over test.TurnsOver) borrowed found = refl
-begins_words every s (Over (test.LineFailed fault)) borrowed found = refl
+begins_words every s (Over (test.CutOff cut)) borrowed found = refl
 begins_words every s (Trying address) borrowed found = refl
 begins_words every s (Testing address) borrowed found = refl
 begins_words every s (Marking word place) borrowed found = refl
@@ -429,9 +411,8 @@ stop_words to s (load.Ended core.Complete) word = refl
 stop_words to s (load.Ended (core.NoWord gap)) None = refl
 stop_words to s (load.Ended (core.NoWord gap)) (Some word) = refl
 stop_words to s (load.Ended core.GaveUp) word = refl
-stop_words to s (load.LineFailed fault) word = refl
 stop_words to s (load.KeepFailed fault) word = refl
-stop_words to s load.TurnsOver word = refl
+stop_words to s (load.CutOff cut) word = refl
 
 pub test_words : (to : ℕ) (s : Standing) (t : Tester) (stopped : Stop End) → AreWords s.words → AreAddresses t.addresses → AreWords (behind_test to s t stopped).words
 test_words to s t stopped are asked =

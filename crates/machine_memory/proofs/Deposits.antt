@@ -19,6 +19,7 @@ use Rattle.host_core.specs.Laws.{led, replay}
 use Rattle.host_core.proofs.Lives.{led_kept, led_plan}
 use Rattle.host_devices.specs.declared.item.Item.{Item}
 use Rattle.host_devices.specs.Dialogue.{dialogue}
+use Rattle.engine.specs.declared.stop.Cut.TheVariants.{LineFailed, TurnsOver}
 use Rattle.engine.specs.declared.stop.Stop.TheVariants as load
 use Rattle.engine.specs.Session.{session_told}
 use Rattle.engine.specs.Stopping.{TellsEnd}
@@ -129,10 +130,10 @@ ready_at plan patience heard machine now lost none host ready honest =
 
 told_load : (stop : LoadStop) (all said : List Item) → IsSaid (Some stop) all said → IsToldOf all said
 told_load (load.Ended end) all said is = inl is
-told_load load.TurnsOver all said is = inl is
+told_load (load.CutOff TurnsOver) all said is = inl is
 told_load (load.KeepFailed fault) all said lacks = inr lacks
-told_load (load.LineFailed fault) all said (inl whole) = inl whole
-told_load (load.LineFailed fault) all said (inr lacks) = inr lacks
+told_load (load.CutOff (LineFailed fault)) all said (inl whole) = inl whole
+told_load (load.CutOff (LineFailed fault)) all said (inr lacks) = inr lacks
 
 begins_listening : (core : Core) (heard : List Heard) → BeginsByListening (dialogue core heard)
 begins_listening core [] = tt

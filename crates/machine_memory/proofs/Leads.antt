@@ -136,8 +136,7 @@ first_within : (to : ℕ) (s : Standing) (f : Findings) (first : Sighting) → I
 first_within to s f (look.Number old) is = tt
 first_within to s f look.NoWord is = try_within f.address to is (next_bank f.address to) refl
 first_within to s f look.GaveUp is = tt
-first_within to s f look.TurnsOver is = tt
-first_within to s f (look.LineFailed fault) is = tt
+first_within to s f (look.CutOff cut) is = tt
 
 verdict_within : (to : ℕ) (s : Standing) (f : Findings) (verdict : Verdict) → IsRange f.address to → IsWithin to (by_verdict to s f verdict).place
 verdict_within to s f Forgets range = range
@@ -153,9 +152,8 @@ stop_within to s (stop.Ended core.Complete) word is = tt
 stop_within to s (stop.Ended (core.NoWord gap)) None is = more_within gap to is (next_bank gap to) refl
 stop_within to s (stop.Ended (core.NoWord gap)) (Some word) is = tt
 stop_within to s (stop.Ended core.GaveUp) word is = tt
-stop_within to s (stop.LineFailed fault) word is = tt
 stop_within to s (stop.KeepFailed fault) word is = tt
-stop_within to s stop.TurnsOver word is = tt
+stop_within to s (stop.CutOff cut) word is = tt
 
 -- and behind a test
 pub test_within : (to : ℕ) (s : Standing) (t : Tester) (stopped : Stop End) → IsAddress to → IsWithin to (behind_test to s t stopped).place
@@ -167,8 +165,7 @@ first_words : (to : ℕ) (s : Standing) (f : Findings) (first : Sighting) → (b
 first_words to s f (look.Number old) = refl
 first_words to s f look.NoWord = refl
 first_words to s f look.GaveUp = refl
-first_words to s f look.TurnsOver = refl
-first_words to s f (look.LineFailed fault) = refl
+first_words to s f (look.CutOff cut) = refl
 
 verdict_words : (to : ℕ) (s : Standing) (f : Findings) (verdict : Verdict) → (by_verdict to s f verdict).words ≡ s.words
 verdict_words to s f Forgets = refl
@@ -188,8 +185,7 @@ first_ready : (to : ℕ) (s : Standing) (f : Findings) (first : Sighting) → Is
 first_ready to s f (look.Number old) options back = tt
 first_ready to s f look.NoWord options back = try_ready f.address (next_bank f.address to) options back
 first_ready to s f look.GaveUp options back = tt
-first_ready to s f look.TurnsOver options back = tt
-first_ready to s f (look.LineFailed fault) options back = tt
+first_ready to s f (look.CutOff cut) options back = tt
 
 verdict_ready : (to : ℕ) (s : Standing) (f : Findings) (verdict : Verdict) → IsUnlent (by_verdict to s f verdict).place
 verdict_ready to s f Forgets options back = tt

@@ -1,15 +1,15 @@
 -- A test of a bus between two hosts: what was found so far, and what comes next (this project's own).
-use Rattle.std.specs.Prelude.{ℕ, ◌+◌, ◌*◌, ◌/◌, ◌==◌, true, nat_lt, if◌then◌else◌, min, List, [], ◌∷◌, ◌++◌, length, Option, Some, None}
+use Rattle.std.specs.Prelude.{ℕ, ◌+◌, ◌*◌, ◌/◌, ◌==◌, true, nat_lt, if◌then◌else◌, min, List, [], ◌∷◌, ◌++◌, length, Option, Some, None, Ok, Err}
 use Rattle.std.specs.List.{fold}
+use Rattle.engine.specs.declared.stop.Cut.TheVariants.{TurnsOver}
 use Rattle.engine.specs.declared.stop.Stop.TheVariants as load
 use Rattle.host_core.specs.declared.phase.End.TheVariants as loaded
 use Rattle.load_engine.specs.Driving.{LoadStop}
-use Rattle.looking_engine.specs.declared.stop.Stop.TheVariants as look
 use Rattle.looking_engine.specs.Stopping.{LookStop}
 use Rattle.reading_core.specs.declared.phase.End.TheVariants as looked
 use Rattle.reading_core.specs.Reader.{Reader}
 use Rattle.memory_core.specs.declared.stage.Borrowed.{Borrowed}
-use Rattle.memory_report.specs.declared.findings.TestEnd.TheVariants.{Tested, NoWord, GaveUp, TurnsOver, LineFailed}
+use Rattle.memory_report.specs.declared.test_end.TestEnd.TheVariants.{Tested, NoWord, GaveUp, CutOff}
 use Rattle.memory_report.specs.declared.findings.Word.{Word}
 use Rattle.memory_report.specs.Words.{is_bad}
 use Rattle.machine_memory.specs.declared.course.Place.{Place}
@@ -50,8 +50,8 @@ next_mark word place = if nat_lt place 3 then Marking word (place + 1) else Look
 abbrev pub stopped_load : Standing → Borrowed → LoadStop → Standing
 stopped_load s word (load.Ended (loaded.NoWord address)) = over s (NoWord address) (Some word)
 stopped_load s word (load.Ended end) = over s GaveUp (Some word)
-stopped_load s word (load.LineFailed fault) = over s (LineFailed fault) (Some word)
-stopped_load s word stopped = over s TurnsOver (Some word)
+stopped_load s word (load.CutOff cut) = over s (CutOff cut) (Some word)
+stopped_load s word (load.KeepFailed fault) = over s (CutOff TurnsOver) (Some word)
 
 -- of the number at a place
 abbrev pub behind_mark : Standing → Borrowed → ℕ → LoadStop → Standing
@@ -93,11 +93,10 @@ with_marked s word r = record s {
 }
 
 abbrev pub by_look : Standing → Borrowed → LookStop → Standing
-by_look s word (look.Ended looked.Complete) = record s { place = PuttingBack word }
-by_look s word (look.Ended (looked.NoWord gap)) = record s { place = look_on word gap }
-by_look s word (look.Ended looked.GaveUp) = over s GaveUp (Some word)
-by_look s word look.TurnsOver = over s TurnsOver (Some word)
-by_look s word (look.LineFailed fault) = over s (LineFailed fault) (Some word)
+by_look s word (Ok looked.Complete) = record s { place = PuttingBack word }
+by_look s word (Ok (looked.NoWord gap)) = record s { place = look_on word gap }
+by_look s word (Ok looked.GaveUp) = over s GaveUp (Some word)
+by_look s word (Err cut) = over s (CutOff cut) (Some word)
 
 abbrev pub behind_look : Standing → Borrowed → Reader → LookStop → Standing
 behind_look s word r stopped = by_look (with_marked s word r) word stopped
@@ -115,11 +114,10 @@ abbrev pub with_returned : Standing → Borrowed → Reader → Standing
 with_returned s word r = record s { bus = record s.bus { returned = s.bus.returned ++ reading word.old r.addresses r.values } }
 
 abbrev pub by_second_look : Standing → Borrowed → LookStop → Standing
-by_second_look s word (look.Ended looked.Complete) = over s Tested None
-by_second_look s word (look.Ended (looked.NoWord gap)) = record s { place = second_look_on word gap }
-by_second_look s word (look.Ended looked.GaveUp) = over s GaveUp None
-by_second_look s word look.TurnsOver = over s TurnsOver None
-by_second_look s word (look.LineFailed fault) = over s (LineFailed fault) None
+by_second_look s word (Ok looked.Complete) = over s Tested None
+by_second_look s word (Ok (looked.NoWord gap)) = record s { place = second_look_on word gap }
+by_second_look s word (Ok looked.GaveUp) = over s GaveUp None
+by_second_look s word (Err cut) = over s (CutOff cut) None
 
 abbrev pub behind_second_look : Standing → Borrowed → Reader → LookStop → Standing
 behind_second_look s word r stopped = by_second_look (with_returned s word r) word stopped

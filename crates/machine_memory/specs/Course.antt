@@ -1,14 +1,15 @@
 -- A test of memory between two hosts: what was found so far, and what comes next (this project's own).
 use Rattle.std.specs.Prelude.{ℕ, ◌+◌, ◌*◌, ◌/◌, Bool, true, false, nat_le, if◌then◌else◌, List, [], ◌∷◌, ◌++◌, All, Option, Some, None, ⊤}
 use Rattle.reading_core.specs.Addresses.{IsAddress, IsRange}
+use Rattle.engine.specs.declared.stop.Cut.TheVariants.{TurnsOver}
 use Rattle.engine.specs.declared.stop.Stop.{Stop}
 use Rattle.engine.specs.declared.stop.Stop.TheVariants as stop
 use Rattle.memory_core.specs.declared.phase.End.{End}
 use Rattle.memory_core.specs.declared.phase.End.TheVariants as core
 use Rattle.memory_core.specs.declared.stage.Borrowed.{Borrowed}
 use Rattle.memory_core.specs.Tester.{Tester, borrowed}
-use Rattle.memory_report.specs.declared.findings.TestEnd.{TestEnd}
-use Rattle.memory_report.specs.declared.findings.TestEnd.TheVariants.{Tested, NotTrusted, NoWord, GaveUp, TurnsOver, LineFailed}
+use Rattle.memory_report.specs.declared.test_end.TestEnd.{TestEnd}
+use Rattle.memory_report.specs.declared.test_end.TestEnd.TheVariants.{Tested, NotTrusted, NoWord, GaveUp, CutOff}
 use Rattle.memory_report.specs.declared.findings.Word.{Word}
 use Rattle.memory_report.specs.Bus.{BusFound}
 use Rattle.probe_report.specs.declared.findings.TrialFindings.{TrialFindings}
@@ -65,13 +66,11 @@ borrowed_behind address old (Some true) = None
 borrowed_behind address old put_back = Some (record { address = address; old = old })
 
 abbrev pub unknown_end : TrialEnd → TestEnd
-unknown_end (trial.LineFailed fault) = LineFailed fault
-unknown_end trial.TurnsOver = TurnsOver
+unknown_end (trial.CutOff cut) = CutOff cut
 unknown_end end = GaveUp
 
 abbrev pub sighting_end : Sighting → TestEnd
-sighting_end (look.LineFailed fault) = LineFailed fault
-sighting_end look.TurnsOver = TurnsOver
+sighting_end (look.CutOff cut) = CutOff cut
 sighting_end second = GaveUp
 
 -- what kept it from being known whether the console forgets
@@ -91,8 +90,7 @@ by_first to s f (look.Number old) = over s (unknown_behind f.trial f.second) (So
 -- nothing answers: it is tried at the next bank
 by_first to s f look.NoWord = with_gap s f.address (try_next f.address (next_bank f.address to))
 by_first to s f look.GaveUp = over s GaveUp None
-by_first to s f look.TurnsOver = over s TurnsOver None
-by_first to s f (look.LineFailed fault) = over s (LineFailed fault) None
+by_first to s f (look.CutOff cut) = over s (CutOff cut) None
 
 abbrev pub by_verdict : ℕ → Standing → Findings → Verdict → Standing
 -- it forgets: the words are tested from here on
@@ -116,9 +114,8 @@ by_stop to s (stop.Ended core.Complete) borrowed = over s Tested borrowed
 by_stop to s (stop.Ended (core.NoWord gap)) None = with_gap s gap (test_next (next_bank gap to))
 by_stop to s (stop.Ended (core.NoWord address)) (Some word) = over s (NoWord address) (Some word)
 by_stop to s (stop.Ended core.GaveUp) borrowed = over s GaveUp borrowed
-by_stop to s (stop.LineFailed fault) borrowed = over s (LineFailed fault) borrowed
-by_stop to s (stop.KeepFailed fault) borrowed = over s TurnsOver borrowed
-by_stop to s stop.TurnsOver borrowed = over s TurnsOver borrowed
+by_stop to s (stop.KeepFailed fault) borrowed = over s (CutOff TurnsOver) borrowed
+by_stop to s (stop.CutOff cut) borrowed = over s (CutOff cut) borrowed
 
 abbrev pub behind_test : ℕ → Standing → Tester → Stop End → Standing
 behind_test to s t stopped = by_stop to (record s { words = s.words ++ words_of t.addresses t.seen }) stopped (borrowed t)

@@ -10,7 +10,7 @@ use Rattle.looking_law.specs.Rows.{in_a_row}
 use Rattle.memory_report.specs.Report.{memory_text}
 use Rattle.request_values.specs.Change.{Change, ◌⇒◌}
 use Rattle.tape_values.specs.Told.{IsAsTold}
-use Rattle.machine_probe.specs.Probe.{OfLine}
+use Rattle.machine_probe.specs.Probe.{OfLine, said_on}
 use Rattle.machine_memory.specs.declared.memory_end.MemoryEnd.{MemoryEnd}
 use Rattle.machine_memory.specs.declared.memory_options.MemoryOptions.{MemoryOptions}
 use Rattle.machine_memory.specs.Belief.{AreBelievable, AreBelievableOver}
@@ -53,8 +53,8 @@ pub record IsCutShortOn (options : MemoryOptions) (line : Change (Option (List I
 
 -- a test was reported, over a line on which nothing more was said until it was given back
 abbrev pub IsMemoryTested : OfLine → MemoryOptions → Change ConsoleTold → MemoryEnd → Type 0
-IsMemoryTested over options console end = over (console.before.lines ⇒ console.after.lines) (λ line. IsReportedOn options line console end)
+IsMemoryTested over options console end = over (console.before.lines ⇒ console.after.lines) (λ line. IsReportedOn options (said_on line) console end)
 
 -- the same, with a report that may be cut short
 abbrev pub IsMemoryCutShort : OfLine → MemoryOptions → Change ConsoleTold → Type 0
-IsMemoryCutShort over options console = over (console.before.lines ⇒ console.after.lines) (λ line. IsCutShortOn options line console)
+IsMemoryCutShort over options console = over (console.before.lines ⇒ console.after.lines) (λ line. IsCutShortOn options (said_on line) console)

@@ -9,16 +9,16 @@ ghost use Rattle.machine_memory.specs.BusCourse.{in_bus, look_on, next_mark, put
 use crate::bus_numbers::{NUMBERS, mark};
 use crate::course::{Course, Place};
 use crate::neighbours::{LAST_WORD, note_reading, push_reading};
+use engine::Cut;
 use host_core::End as LoadEnd;
 use load_engine::Stop as LoadStop;
-use looking_engine::Stop as LookStop;
 use memory_core::Borrowed;
 use memory_report::{Bus, TestEnd, Word};
 use reading_core::{End as LookEnd, ReadingCore};
 use std::alloc::AllocError;
 
 /// How a look stopped.
-type Looked = LookStop<LookEnd>;
+type LookStop = Result<LookEnd, Cut>;
 
 impl Course {
     /// Where each word of the range was tested, and none is lent, the bus is tested at the first word that holds.
@@ -69,8 +69,8 @@ impl Course {
         let end = match stop {
             LoadStop::Ended(LoadEnd::NoWord(address)) => TestEnd::NoWord(address),
             LoadStop::Ended(_) => TestEnd::GaveUp,
-            LoadStop::LineFailed(fault) => TestEnd::LineFailed(fault),
-            LoadStop::TurnsOver | LoadStop::KeepFailed(_) => TestEnd::TurnsOver,
+            LoadStop::KeepFailed(_) => TestEnd::CutOff(Cut::TurnsOver),
+            LoadStop::CutOff(cut) => TestEnd::CutOff(cut),
         };
         self.over(end, Some(word))
     }
@@ -127,7 +127,7 @@ impl Course {
         word: Borrowed,
         core: &ReadingCore,
         marked: Vec<u16>,
-        stop: Looked,
+        stop: LookStop,
     ) -> Course
         requires same { marked.items ≡ self.bus.marked }
         requires ample { length marked.items + length core.now.values ≤ vec_capacity marked }
@@ -135,11 +135,10 @@ impl Course {
     {
         let course = self.with_marked(word, core, marked);
         match stop {
-            Looked::Ended(LookEnd::Complete) => course.at(Place::PuttingBack(word)),
-            Looked::Ended(LookEnd::NoWord(gap)) => course.at(look_on(word, gap)),
-            Looked::Ended(LookEnd::GaveUp) => course.over(TestEnd::GaveUp, Some(word)),
-            Looked::TurnsOver => course.over(TestEnd::TurnsOver, Some(word)),
-            Looked::LineFailed(fault) => course.over(TestEnd::LineFailed(fault), Some(word)),
+            Ok(LookEnd::Complete) => course.at(Place::PuttingBack(word)),
+            Ok(LookEnd::NoWord(gap)) => course.at(look_on(word, gap)),
+            Ok(LookEnd::GaveUp) => course.over(TestEnd::GaveUp, Some(word)),
+            Err(cut) => course.over(TestEnd::CutOff(cut), Some(word)),
         }
     }
 
@@ -148,17 +147,16 @@ impl Course {
         self,
         word: Borrowed,
         core: &ReadingCore,
-        stop: Looked,
+        stop: LookStop,
     ) -> Result<Course, AllocError>
         ensures { IfOk result (λ course. course ≡ behind_second_look self word core.now stop) }
     {
         let course = self.with_returned(word, core)?;
         Ok(match stop {
-            Looked::Ended(LookEnd::Complete) => course.over(TestEnd::Tested, None),
-            Looked::Ended(LookEnd::NoWord(gap)) => course.at(second_look_on(word, gap)),
-            Looked::Ended(LookEnd::GaveUp) => course.over(TestEnd::GaveUp, None),
-            Looked::TurnsOver => course.over(TestEnd::TurnsOver, None),
-            Looked::LineFailed(fault) => course.over(TestEnd::LineFailed(fault), None),
+            Ok(LookEnd::Complete) => course.over(TestEnd::Tested, None),
+            Ok(LookEnd::NoWord(gap)) => course.at(second_look_on(word, gap)),
+            Ok(LookEnd::GaveUp) => course.over(TestEnd::GaveUp, None),
+            Err(cut) => course.over(TestEnd::CutOff(cut), None),
         })
     }
 

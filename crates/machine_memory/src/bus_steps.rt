@@ -18,10 +18,10 @@ use crate::memory_options::MemoryOptions;
 use crate::neighbours::{neighbours, with_room};
 use host_devices::{Line, MOST_TURNS, Unwatched};
 use load_engine::{Stop as LoadStop, drive};
-use looking_engine::{Stop as LookStop, inquire};
+use looking_engine::inquire;
 use machine_probe::{Deposit, ProbeOptions};
 use memory_core::Borrowed;
-use reading_core::{End as LookEnd, ReadingCore};
+use reading_core::ReadingCore;
 use std::alloc::{AllocError, Global};
 
 /// A host that is to look at words, and room for those that read the mark, behind the earlier ones.

@@ -3,8 +3,9 @@ ghost use Rattle.std.specs.Prelude.{◌≡◌, [], IfErr, IfOk, OnErr, OnOk};
 ghost use Rattle.host_devices.specs.Told.{Gains};
 ghost use Rattle.console_lines.specs.Dialling.{asked_once};
 ghost use Rattle.console_lines.specs.Console.{console_told};
+ghost use Rattle.console_lines.specs.Path.{call_of};
 ghost use Rattle.request_values.specs.Change.{◌⇒◌};
-ghost use Rattle.machine_probe.specs.Probe.{OverLine};
+ghost use Rattle.machine_probe.specs.Probe.{OverLine, said_on};
 ghost use Rattle.machine_probe.specs.ProbeFault.{way_told};
 ghost use Rattle.memory_report.specs.Report.{memory_text};
 ghost use Rattle.machine_memory.specs.Ending.{end_at, found_at, memory_end};
@@ -14,12 +15,13 @@ ghost use Rattle.machine_memory.specs.Tested.{IsMemoryTested, IsReport};
 
 use crate::course::{Course, Place};
 use crate::memory_end::{MemoryEnd, memory_end};
-use crate::memory_fault::MemoryFault;
 use crate::memory_options::MemoryOptions;
 use crate::steps::make_steps;
 use byte_io::write_and_flush;
-use console_lines::Reach;
+use console_lines::{Consoles, Dial};
+use engine::Cut;
 use host_devices::Onlooker;
+use machine_probe::ProbeFault;
 use memory_engine::WordWatch;
 use memory_report::{Findings, Report, TestEnd, push_report};
 use std::alloc::Global;
@@ -36,52 +38,55 @@ use std::io::Write;
 ///
 /// `Connect` comes before anything was sent. `WriteOutput` is a report that could not be written whole. `Memory` comes only
 /// where a growth was refused, with nothing reported.
-pub fn test_memory<R: Reach, W: Write, O: Onlooker + WordWatch>(
+pub fn test_memory<C: Consoles, W: Write, O: Onlooker + WordWatch>(
     alloc: Global,
     options: MemoryOptions,
-    console: &mut R,
+    consoles: &mut C,
+    dial: Dial<'_>,
     out: &mut W,
     onlooker: &O,
-) -> Result<MemoryEnd, MemoryFault>
+) -> Result<MemoryEnd, ProbeFault>
     requires { IsAsked options }
-    ensures ok { IfOk result (IsMemoryTested (OverLine R.Line.Line) options
-        (console_told R.Reach W.Write console.old out.old ⇒ console_told R.Reach W.Write console.new out.new)) }
-    ensures err { IfErr result (IsMemoryFault (OverLine R.Line.Line) options
-        (console_told R.Reach W.Write console.old out.old ⇒ console_told R.Reach W.Write console.new out.new)) }
-    ensures call { R.call console.new ≡ R.call console.old }
+    ensures ok { IfOk result (IsMemoryTested (OverLine C.Line.Line) options
+        (console_told C.Consoles W.Write (call_of dial.entry) consoles.old out.old
+        ⇒ console_told C.Consoles W.Write (call_of dial.entry) consoles.new out.new)) }
+    ensures err { IfErr result (IsMemoryFault (OverLine C.Line.Line) options
+        (console_told C.Consoles W.Write (call_of dial.entry) consoles.old out.old
+        ⇒ console_told C.Consoles W.Write (call_of dial.entry) consoles.new out.new)) }
 {
     let mut report = Report::new();
-    let end = gather(alloc, options, console, onlooker, &mut report)?;
+    let end = gather(alloc, options, consoles, dial, onlooker, &mut report)?;
     write_and_flush(out, &report)?;
     Ok(end)
 }
 
 // Reaches the console, makes the test, and puts its report into an empty text. Everything that fails here comes before
 // anything was reported.
-fn gather<R: Reach, O: Onlooker + WordWatch>(
+fn gather<C: Consoles, O: Onlooker + WordWatch>(
     alloc: Global,
     options: MemoryOptions,
-    console: &mut R,
+    consoles: &mut C,
+    dial: Dial<'_>,
     onlooker: &O,
     report: &mut Report,
-) -> Result<MemoryEnd, MemoryFault>
+) -> Result<MemoryEnd, ProbeFault>
     requires asked { IsAsked options }
     requires empty { report.old.items ≡ [] }
-    ensures report { IfOk result (λ end. OverLine R.Line.Line (R.lines console.old ⇒ R.lines console.new)
-        (λ line. IsReport options line report.new.items end)) }
-    ensures asked { OnOk result (Gains (R.asked console.old) (R.asked console.new) (asked_once (R.call console.old))) }
-    ensures call { R.call console.new ≡ R.call console.old }
-    ensures fault { IfErr result (IsUnreported (OverLine R.Line.Line) options (way_told R.Reach console.old ⇒ way_told R.Reach console.new)) }
+    ensures report { IfOk result (λ end. OverLine C.Line.Line (C.lines consoles.old ⇒ C.lines consoles.new)
+        (λ line. IsReport options (said_on line) report.new.items end)) }
+    ensures asked { OnOk result (Gains (C.asked consoles.old) (C.asked consoles.new) (asked_once (call_of dial.entry))) }
+    ensures fault { IfErr result (IsUnreported (OverLine C.Line.Line) options
+        (way_told C.Consoles (call_of dial.entry) consoles.old ⇒ way_told C.Consoles (call_of dial.entry) consoles.new)) }
 {
     let course = Course::new(alloc, options.from, options.count() as usize)?;
-    let mut line = console.reach()?;
+    let mut line = consoles.reach(dial)?;
     onlooker.begins(0, options.count());
     let outcome = make_steps(alloc, course, options, &mut line, onlooker);
     onlooker.ends();
-    console.let_go(line);
+    consoles.let_go(line);
     match outcome {
         Ok(course) => Ok(put_report(course, options, report)),
-        Err(_) => Err(MemoryFault::Memory),
+        Err(_) => Err(ProbeFault::Memory),
     }
 }
 
@@ -118,6 +123,6 @@ fn end_at(place: Place) -> TestEnd
 {
     match place {
         Place::Over(end) => end,
-        _ => TestEnd::TurnsOver,
+        _ => TestEnd::CutOff(Cut::TurnsOver),
     }
 }

@@ -8,7 +8,7 @@ ghost use Rattle.machine_memory.specs.Course.{behind_test, behind_trial, begun, 
 ghost use Rattle.machine_memory.specs.Course.{test_next, try_next, unknown_behind, unknown_end};
 
 use crate::words::push_words;
-use engine::Stop;
+use engine::{Cut, Stop};
 use memory_core::{Borrowed, End, MemoryCore};
 use memory_report::{Bus, TestEnd, Word};
 use probe_report::{Findings as Tried, Sighting, TrialEnd, TrialFindings, Verdict, judge};
@@ -167,8 +167,7 @@ impl Course {
             }
             Sighting::NoWord => self.with_gap(address, try_next(address, next_bank(address, to))),
             Sighting::GaveUp => Ok(self.over(TestEnd::GaveUp, None)),
-            Sighting::TurnsOver => Ok(self.over(TestEnd::TurnsOver, None)),
-            Sighting::LineFailed(fault) => Ok(self.over(TestEnd::LineFailed(fault), None)),
+            Sighting::CutOff(cut) => Ok(self.over(TestEnd::CutOff(cut), None)),
         }
     }
 
@@ -193,10 +192,8 @@ impl Course {
                 Ok(course.over(TestEnd::NoWord(address), borrowed))
             }
             (Stop::Ended(End::GaveUp), _) => Ok(course.over(TestEnd::GaveUp, borrowed)),
-            (Stop::LineFailed(fault), _) => Ok(course.over(TestEnd::LineFailed(fault), borrowed)),
-            (Stop::TurnsOver | Stop::KeepFailed(_), _) => {
-                Ok(course.over(TestEnd::TurnsOver, borrowed))
-            }
+            (Stop::KeepFailed(_), _) => Ok(course.over(TestEnd::CutOff(Cut::TurnsOver), borrowed)),
+            (Stop::CutOff(cut), _) => Ok(course.over(TestEnd::CutOff(cut), borrowed)),
         }
     }
 }
@@ -270,8 +267,7 @@ fn unknown_end(end: TrialEnd) -> TestEnd
     ensures { result ≡ unknown_end end }
 {
     match end {
-        TrialEnd::LineFailed(fault) => TestEnd::LineFailed(fault),
-        TrialEnd::TurnsOver => TestEnd::TurnsOver,
+        TrialEnd::CutOff(cut) => TestEnd::CutOff(cut),
         TrialEnd::Tried | TrialEnd::NoWord | TrialEnd::GaveUp => TestEnd::GaveUp,
     }
 }
@@ -280,8 +276,7 @@ fn sighting_end(second: Sighting) -> TestEnd
     ensures { result ≡ sighting_end second }
 {
     match second {
-        Sighting::LineFailed(fault) => TestEnd::LineFailed(fault),
-        Sighting::TurnsOver => TestEnd::TurnsOver,
+        Sighting::CutOff(cut) => TestEnd::CutOff(cut),
         Sighting::Number(_) | Sighting::NoWord | Sighting::GaveUp => TestEnd::GaveUp,
     }
 }

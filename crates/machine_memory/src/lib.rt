@@ -15,14 +15,14 @@ mod bus_steps;
 mod command;
 mod course;
 mod memory_end;
-mod memory_fault;
 mod memory_options;
 mod neighbours;
 mod steps;
 mod words;
 
 pub use command::test_memory;
+pub use machine_probe::ProbeFault;
 pub use memory_end::MemoryEnd;
 pub use memory_engine::{Borrowed, WordWatch};
-pub use memory_fault::MemoryFault;
 pub use memory_options::MemoryOptions;
+pub use memory_report::TestEnd;

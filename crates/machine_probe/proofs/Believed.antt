@@ -1,5 +1,5 @@
 -- What the runs of a probe leave, over honest lines.
-use Rattle.std.proofs.Common.{◌≡◌, ℕ, ◌+◌, ◌^◌, ◌<◌, Bool, true, false, List, [], ◌∷◌, ◌++◌, length, get_or, Option, Some, None, inl, inr, refl, arith, ap, sym, subst, ◌∙◌}
+use Rattle.std.proofs.Common.{◌≡◌, ℕ, ◌+◌, ◌^◌, ◌<◌, Bool, true, false, List, [], ◌∷◌, ◌++◌, length, get_or, Option, Some, None, Ok, Err, inl, inr, refl, arith, ap, sym, subst, ◌∙◌}
 use Rattle.std.proofs.lemmas.Bool.{eq-eqb}
 use Rattle.std.proofs.lemmas.List.Elements.{All-nil, All-cons}
 use Rattle.tape_image.specs.Memory.{top_of}
@@ -26,7 +26,7 @@ use Rattle.reading_core.specs.Reader.{Reader}
 use Rattle.reading_core.proofs.Lives.{led_addresses}
 use Rattle.looking_law.specs.Belief.{IsReadyMachine}
 use Rattle.looking_engine.specs.Stopping.{LookStop, TrialStop}
-use Rattle.looking_engine.specs.declared.stop.Stop.TheVariants.{Ended, LineFailed, TurnsOver}
+use Rattle.engine.specs.declared.stop.Cut.TheVariants.{LineFailed, TurnsOver}
 use Rattle.looking_engine.specs.Session.{IsSaid}
 use Rattle.looking_law.specs.Again.{looker}
 use Rattle.looking_law.specs.Runs.{Look, Run, Try, dialogue_of}
@@ -42,16 +42,16 @@ use Rattle.machine_probe.specs.Runs.{LooksAt, IsSearch, IsTrialOf}
 -- ---- what was said is a dialogue, perhaps without its last key
 
 pub told_look : (stop : LookStop) (left : ℕ) (all said : List Item) → IsSaid (Some stop) left all said → IsToldOf all said
-told_look (Ended end) left all said is = inl is
-told_look TurnsOver left all said is = inl is.0
-told_look (LineFailed fault) left all said (inl whole) = inl whole.0
-told_look (LineFailed fault) left all said (inr lacks) = inr lacks
+told_look (Ok end) left all said is = inl is
+told_look (Err TurnsOver) left all said is = inl is.0
+told_look (Err (LineFailed fault)) left all said (inl whole) = inl whole.0
+told_look (Err (LineFailed fault)) left all said (inr lacks) = inr lacks
 
 pub told_trial : (stop : TrialStop) (left : ℕ) (all said : List Item) → IsSaid (Some stop) left all said → IsToldOf all said
-told_trial (Ended end) left all said is = inl is
-told_trial TurnsOver left all said is = inl is.0
-told_trial (LineFailed fault) left all said (inl whole) = inl whole.0
-told_trial (LineFailed fault) left all said (inr lacks) = inr lacks
+told_trial (Ok end) left all said is = inl is
+told_trial (Err TurnsOver) left all said is = inl is.0
+told_trial (Err (LineFailed fault)) left all said (inl whole) = inl whole.0
+told_trial (Err (LineFailed fault)) left all said (inr lacks) = inr lacks
 
 -- ---- one run
 
@@ -69,12 +69,11 @@ record Leaves (machine now : Machine) : Type 0 where
 
 -- a number that a look gives is the first that was read
 is_first : (stop : LookStop) (values : List ℕ) (number : ℕ) → look.Number number ≡ sighting_of stop (first_of values) → (0 < length values) × (get_or values 0 0 ≡ number)
-is_first (Ended Complete) [] number is = absurd (cc is)
-is_first (Ended Complete) (value ∷ more) number is = (omega arith, cc is)
-is_first (Ended GaveUp) values number is = absurd (cc is)
-is_first (Ended (NoWord address)) values number is = absurd (cc is)
-is_first TurnsOver values number is = absurd (cc is)
-is_first (LineFailed fault) values number is = absurd (cc is)
+is_first (Ok Complete) [] number is = absurd (cc is)
+is_first (Ok Complete) (value ∷ more) number is = (omega arith, cc is)
+is_first (Ok GaveUp) values number is = absurd (cc is)
+is_first (Ok (NoWord address)) values number is = absurd (cc is)
+is_first (Err cut) values number is = absurd (cc is)
 
 -- what a look leaves
 record LookLeaves (options : ProbeOptions) (changed : ℕ) (found : Option Sighting) (machine now : Machine) : Type 0 where
@@ -171,9 +170,8 @@ unmade {A} false run (Some thing) parts off is = absurd is
 -- memory's end, where a search found it
 end_right : (search : Search) (memory : List ℕ) (patience lost top : ℕ) → IsTrueEnd search memory patience lost → extent.Top top ≡ extent_of search → top_of memory ≡ top
 end_right (search.Ends found) memory patience lost top right is = right ∙ cc is
-end_right (search.Stopped (Ended end)) memory patience lost top right is = absurd (cc is)
-end_right (search.Stopped TurnsOver) memory patience lost top right is = absurd (cc is)
-end_right (search.Stopped (LineFailed fault)) memory patience lost top right is = absurd (cc is)
+end_right (search.Stopped (Ok end)) memory patience lost top right is = absurd (cc is)
+end_right (search.Stopped (Err cut)) memory patience lost top right is = absurd (cc is)
 
 -- what a search leaves
 record SearchLeaves (changed : ℕ) (found : Option Extent) (machine now : Machine) : Type 0 where
@@ -197,8 +195,7 @@ same_is_kept : (end : TrialEnd) → stores (on_same_number end) ≡ false
 same_is_kept trial.Tried = refl
 same_is_kept trial.NoWord = refl
 same_is_kept trial.GaveUp = refl
-same_is_kept trial.TurnsOver = refl
-same_is_kept (trial.LineFailed fault) = refl
+same_is_kept (trial.CutOff cut) = refl
 
 numbers_kept : (old now : ℕ) (end : TrialEnd) → now ≡ old → stores (on_numbers old now end) ≡ false
 numbers_kept old now end is = rw (eq-eqb now old is) (same_is_kept end)
@@ -208,14 +205,12 @@ never_stores : (word : ℕ) (first : Sighting) (attempt : Option TrialFindings) 
 never_stores word (look.Number old) (Some attempt) (Some (look.Number now)) h k = numbers_kept old now attempt.end (k now refl ∙ sym (h old refl))
 never_stores word (look.Number old) (Some attempt) (Some look.NoWord) h k = refl
 never_stores word (look.Number old) (Some attempt) (Some look.GaveUp) h k = refl
-never_stores word (look.Number old) (Some attempt) (Some look.TurnsOver) h k = refl
-never_stores word (look.Number old) (Some attempt) (Some (look.LineFailed fault)) h k = refl
+never_stores word (look.Number old) (Some attempt) (Some (look.CutOff cut)) h k = refl
 never_stores word (look.Number old) (Some attempt) None h k = refl
 never_stores word (look.Number old) None second h k = refl
 never_stores word look.NoWord attempt second h k = refl
 never_stores word look.GaveUp attempt second h k = refl
-never_stores word look.TurnsOver attempt second h k = refl
-never_stores word (look.LineFailed fault) attempt second h k = refl
+never_stores word (look.CutOff cut) attempt second h k = refl
 
 -- ---- all of it
 

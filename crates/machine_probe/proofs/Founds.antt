@@ -1,5 +1,5 @@
 -- What a reading of last words finds.
-use Rattle.std.proofs.Common.{◌≡◌, ℕ, zero, suc, ◌+◌, ◌-◌, ◌*◌, ◌%◌, ◌<◌, ◌≤◌, true, List, length, get_or, Some, refl, arith, ap, subst, ◌∙◌, mul-zero, mul-suc, mul-le-mul_left}
+use Rattle.std.proofs.Common.{◌≡◌, ℕ, zero, suc, ◌+◌, ◌-◌, ◌*◌, ◌%◌, ◌<◌, ◌≤◌, true, List, length, get_or, Some, Ok, Err, refl, arith, ap, subst, ◌∙◌, mul-zero, mul-suc, mul-le-mul_left}
 use Rattle.std.proofs.lemmas.Bool.Decides.{nat_tests}
 use Rattle.tape_image.specs.Memory.{top_of}
 use Rattle.odt_machine.specs.Machine.{is_word}
@@ -11,7 +11,6 @@ use Rattle.reading_core.specs.Invariant.{Basis, EndFits, PhaseFits, IsReader, ba
 use Rattle.reading_core.specs.Reader.{Reader, address_nr, ended}
 use Rattle.looking_law.specs.Harmless.{HasCause, EndIsPaid, HoldsRead}
 use Rattle.looking_engine.specs.Stopping.{LookStop, TellsEnd}
-use Rattle.looking_engine.specs.declared.stop.Stop.TheVariants.{Ended, LineFailed, TurnsOver}
 use Rattle.machine_probe.specs.declared.pieces.Pieces.{Pieces}
 use Rattle.machine_probe.specs.Passes.{ArePieces, last_words, found}
 use Rattle.machine_probe.specs.Passes.{passed}
@@ -94,11 +93,10 @@ lies_within from address pieces last are is lacks = (
 )
 
 pub passed_within : (from : ℕ) (pieces : Pieces) (stop : LookStop) (last : Reader) → ArePieces from pieces → IsOver from pieces last → TellsEnd stop (ended last.phase) → LiesWithin from pieces (passed stop (found from pieces last))
-passed_within from pieces (Ended (NoWord address)) last are is lacks = lies_within from address pieces last are is lacks
-passed_within from pieces (Ended Complete) last are is ends = tt
-passed_within from pieces (Ended GaveUp) last are is ends = tt
-passed_within from pieces TurnsOver last are is ends = tt
-passed_within from pieces (LineFailed fault) last are is ends = tt
+passed_within from pieces (Ok (NoWord address)) last are is lacks = lies_within from address pieces last are is lacks
+passed_within from pieces (Ok Complete) last are is ends = tt
+passed_within from pieces (Ok GaveUp) last are is ends = tt
+passed_within from pieces (Err cut) last are is ends = tt
 
 -- ---- memory goes on to there
 

@@ -8,7 +8,7 @@ use Rattle.probe_report.specs.declared.findings.TrialFindings.{TrialFindings}
 use Rattle.probe_report.specs.declared.findings.Extent.{Extent}
 use Rattle.probe_report.specs.declared.findings.Findings.{Findings}
 use Rattle.probe_report.specs.declared.findings.Sighting.{Sighting}
-use Rattle.probe_report.specs.declared.findings.Sighting.TheVariants.{Number, NoWord, GaveUp, TurnsOver, LineFailed}
+use Rattle.probe_report.specs.declared.findings.Sighting.TheVariants.{Number, NoWord, GaveUp, CutOff}
 use Rattle.probe_report.specs.declared.judging.Verdict.{Verdict}
 use Rattle.probe_report.specs.declared.judging.Verdict.TheVariants.{Forgets, Stores, Unknown}
 use Rattle.probe_report.specs.Judging.{on_looks, verdict_of}
@@ -124,8 +124,7 @@ pub can_put_back : (options : ProbeOptions) (first : Sighting) (trial : Option T
 can_put_back options (Number old) trial second is has = has
 can_put_back options NoWord trial second is has = cc is
 can_put_back options GaveUp trial second is has = cc is
-can_put_back options TurnsOver trial second is has = cc is
-can_put_back options (LineFailed fault) trial second is has = cc is
+can_put_back options (CutOff cut) trial second is has = cc is
 
 -- and it is the number that was read
 pub deposit_of : (options : ProbeOptions) (first : Sighting) (trial : Option TrialFindings) (second : Option Sighting) (deposit : Deposit) (P : ℕ → Type 0) → stores (on_looks first trial second) ≡ true →
@@ -133,8 +132,7 @@ pub deposit_of : (options : ProbeOptions) (first : Sighting) (trial : Option Tri
 deposit_of options (Number old) trial second deposit P is so has = so old has
 deposit_of options NoWord trial second deposit P is so has = absurd (cc is)
 deposit_of options GaveUp trial second deposit P is so has = absurd (cc is)
-deposit_of options TurnsOver trial second deposit P is so has = absurd (cc is)
-deposit_of options (LineFailed fault) trial second deposit P is so has = absurd (cc is)
+deposit_of options (CutOff cut) trial second deposit P is so has = absurd (cc is)
 
 pub not_stores : (verdict : Verdict) → (verdict ≡ Stores → ⊥) → stores verdict ≡ false
 not_stores Forgets other = refl

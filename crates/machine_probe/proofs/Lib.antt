@@ -5,6 +5,7 @@ mod Stepping
 pub mod Believed
 mod Faults
 mod Joins
+mod Left
 mod Noting
 pub mod OneLine
 mod OneWord

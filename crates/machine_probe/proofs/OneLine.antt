@@ -1,5 +1,5 @@
 -- One honest line on which the runs of a probe were made is an honest line for each of them.
-use Rattle.std.proofs.Common.{◌≡◌, ℕ, ◌+◌, ◌*◌, ◌^◌, ◌<◌, ◌≤◌, ◌%◌, Bool, true, false, List, [], ◌∷◌, ◌++◌, Option, Some, None, ◌⊎◌, inl, inr, refl, arith, ap, sym, subst, ◌∙◌, append-nil}
+use Rattle.std.proofs.Common.{◌≡◌, ℕ, ◌+◌, ◌*◌, ◌^◌, ◌<◌, ◌≤◌, ◌%◌, Bool, true, false, List, [], ◌∷◌, ◌++◌, Option, Some, None, Ok, Err, ◌⊎◌, inl, inr, refl, arith, ap, sym, subst, ◌∙◌, append-nil}
 use Rattle.std.specs.Prelude.{⊤}
 use Rattle.odt_machine.specs.Machine.{Machine}
 use Rattle.host_devices.specs.declared.item.Item.{Item}
@@ -35,7 +35,7 @@ use Rattle.reading_core.proofs.Lives.{led_addresses, led_kept}
 use Rattle.reading_core.proofs.Turns.{fresh_kept}
 use Rattle.looking_law.specs.Belief.{IsReadyMachine}
 use Rattle.looking_engine.specs.Stopping.{LookStop}
-use Rattle.looking_engine.specs.declared.stop.Stop.TheVariants.{Ended, LineFailed, TurnsOver}
+use Rattle.engine.specs.declared.stop.Cut.TheVariants.{LineFailed, TurnsOver}
 use Rattle.looking_law.specs.Parts.{LeavesReady}
 use Rattle.looking_law.specs.Runs.{Look, Run, Try, dialogue_of}
 use Rattle.looking_law.specs.Splitting.{BeginsByListening, PartsAt}
@@ -134,10 +134,10 @@ load_begins core (heard ∷ more) = tt
 
 told_load : (stop : LoadStop) (all said : List Item) → IsSaidOfLoad (Some stop) all said → IsToldOf all said
 told_load (load.Ended end) all said is = inl is
-told_load load.TurnsOver all said is = inl is
+told_load (load.CutOff TurnsOver) all said is = inl is
 told_load (load.KeepFailed fault) all said lacks = inr lacks
-told_load (load.LineFailed fault) all said (inl whole) = inl whole
-told_load (load.LineFailed fault) all said (inr lacks) = inr lacks
+told_load (load.CutOff (LineFailed fault)) all said (inl whole) = inl whole
+told_load (load.CutOff (LineFailed fault)) all said (inr lacks) = inr lacks
 
 pub deposit_begins : (options : ProbeOptions) (old : ℕ) (is_back : Bool) (parts : List (List Item)) → (p : PutsBack options old is_back parts) → BeginsByListening p.said
 deposit_begins options old is_back parts p =
@@ -158,7 +158,7 @@ record NextAt (from next : ℕ) (pieces : Pieces) : Type 0 where
   pub even : next % 2 ≡ 0
   pub within : next + pieces.bytes ≤ from + pieces.bytes * pieces.count
 
-next_at : (limits : Limits) (from address : ℕ) (pieces : Pieces) (last : Reader) (said : List Item) → limits.patience < 2 ^ 32 → ArePieces from pieces → IsPass (pass_over limits from pieces) (Ended (NoWord address)) last said → NextAt from (found from pieces last) pieces
+next_at : (limits : Limits) (from address : ℕ) (pieces : Pieces) (last : Reader) (said : List Item) → limits.patience < 2 ^ 32 → ArePieces from pieces → IsPass (pass_over limits from pieces) (Ok (NoWord address)) last said → NextAt from (found from pieces last) pieces
 next_at limits from address pieces last said long are p =
     let s = p.inquired in
     let first : Reader = begun (last_words from pieces.bytes pieces.count) [] limits.patience in
@@ -166,16 +166,15 @@ next_at limits from address pieces last said long are p =
       addresses = ap (λ (r : Reader). r.addresses) s.host ∙ led_addresses first s.heard;
       kept = subst IsReader (sym s.host) (led_kept first s.heard (fresh_kept (last_words from pieces.bytes pieces.count) limits.patience (last_asked from pieces are) long));
     } in
-    let w = passed_within from pieces (Ended (NoWord address)) last are over p.end in
+    let w = passed_within from pieces (Ok (NoWord address)) last are over p.end in
     record { even = w.0; within = w.1 }
 
 -- only a word that is not there lets a pass lack one
-lacking_is : (stop : LookStop) (found next : ℕ) → passed stop found ≡ Lacking next → (address : ℕ) × (stop ≡ Ended (NoWord address)) × (next ≡ found)
-lacking_is (Ended (NoWord address)) found next is = (address, refl, cc is)
-lacking_is (Ended Complete) found next is = absurd (cc is)
-lacking_is (Ended GaveUp) found next is = absurd (cc is)
-lacking_is TurnsOver found next is = absurd (cc is)
-lacking_is (LineFailed fault) found next is = absurd (cc is)
+lacking_is : (stop : LookStop) (found next : ℕ) → passed stop found ≡ Lacking next → (address : ℕ) × (stop ≡ Ok (NoWord address)) × (next ≡ found)
+lacking_is (Ok (NoWord address)) found next is = (address, refl, cc is)
+lacking_is (Ok Complete) found next is = absurd (cc is)
+lacking_is (Ok GaveUp) found next is = absurd (cc is)
+lacking_is (Err cut) found next is = absurd (cc is)
 
 -- a pass that lacked a word, and where the next one begins
 lacked_at : (at : Ahead) (pieces : Pieces) (next changed : ℕ) (said : List Item) → at.limits.patience < 2 ^ 32 → ArePieces at.from pieces → CameTo (pass_over at.limits at.from pieces) (Lacking next) changed said → NextAt at.from next pieces

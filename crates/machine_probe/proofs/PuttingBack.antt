@@ -19,7 +19,7 @@ use Rattle.honest_line.proofs.Trusted.{trustworthy}
 use Rattle.looking_law.specs.Belief.{IsReadyMachine}
 use Rattle.load_engine.specs.Driving.{LoadSession, LoadStop as Stop, driving}
 use Rattle.load_engine.proofs.Sessions.{core_is, session_said}
-use Rattle.engine.specs.declared.stop.Stop.TheVariants.{Ended, LineFailed, KeepFailed, TurnsOver}
+use Rattle.engine.specs.declared.stop.Stop.TheVariants.{Ended, KeepFailed, CutOff}
 use Rattle.engine.specs.Session.{SessionTold, session_told}
 use Rattle.engine.specs.Stopping.{TellsEnd}
 use Rattle.machine_probe.specs.declared.putting_back.Deposit.{Deposit}
@@ -95,9 +95,8 @@ again_of (Ended MaybeStarted) address old patience turns plan last before after 
 again_of (Ended GaveUp) address old patience turns plan last before after of first host same end session is = absurd (cc is)
 again_of (Ended (NoWord a)) address old patience turns plan last before after of first host same end session is = absurd (cc is)
 again_of (Ended (WontHold a)) address old patience turns plan last before after of first host same end session is = absurd (cc is)
-again_of (LineFailed fault) address old patience turns plan last before after of first host same end session is = absurd (cc is)
 again_of (KeepFailed fault) address old patience turns plan last before after of first host same end session is = absurd (cc is)
-again_of TurnsOver address old patience turns plan last before after of first host same end session is = absurd (cc is)
+again_of (CutOff cut) address old patience turns plan last before after of first host same end session is = absurd (cc is)
 
 -- the same session, over a line that tells from there on
 told_alone : (turns : ℕ) (stop : Stop) (core last : Core) (before after : SessionTold Kept) → (session : LoadSession turns (driving core last (Some stop)) before after) →

@@ -1,5 +1,5 @@
 -- Passes one after another: what was said in them, and what they find.
-use Rattle.std.proofs.Common.{◌≡◌, ℕ, ◌+◌, ◌*◌, ◌<◌, ◌≤◌, List, [], ◌∷◌, length, Some, refl, arith, ap, subst, sym, ◌∙◌, append-nil}
+use Rattle.std.proofs.Common.{◌≡◌, ℕ, ◌+◌, ◌*◌, ◌<◌, ◌≤◌, List, [], ◌∷◌, length, Some, Ok, Err, refl, arith, ap, subst, sym, ◌∙◌, append-nil}
 use Rattle.tape_image.specs.Memory.{top_of}
 use Rattle.odt_machine.specs.Machine.{Machine}
 use Rattle.host_devices.specs.declared.item.Item.{Item}
@@ -10,7 +10,7 @@ use Rattle.host_devices.specs.Told.{Gains}
 use Rattle.host_devices.proofs.Told.{gains_none, gains_join}
 use Rattle.looking_engine.specs.Honest.{IsHonest}
 use Rattle.looking_engine.specs.Stopping.{LookStop, line_fault}
-use Rattle.looking_engine.specs.declared.stop.Stop.TheVariants.{Ended, LineFailed, TurnsOver}
+use Rattle.engine.specs.declared.stop.Cut.TheVariants.{LineFailed, TurnsOver}
 use Rattle.looking_engine.specs.Belief.{IsBelievableAt}
 use Rattle.looking_engine.proofs.Beliefs.{inquired_believable}
 use Rattle.reading_core.specs.declared.phase.End.{End}
@@ -61,13 +61,13 @@ believed limits from pieces stop last said reads pass =
     inquired_believable limits.turns (Some stop) (first limits.patience from pieces) last (Some []) (Some said) reads pass.inquired said ([], refl, refl)
 
 -- a pass over an honest line that told an end
-true_at : (limits : Limits) (from : ℕ) (pieces : Pieces) (end : End) (last : Reader) (said : List Item) (machine now : Machine) (lost : ℕ) → IsReader (first limits.patience from pieces) → IsPass (pass_over limits from pieces) (Ended end) last said →
+true_at : (limits : Limits) (from : ℕ) (pieces : Pieces) (end : End) (last : Reader) (said : List Item) (machine now : Machine) (lost : ℕ) → IsReader (first limits.patience from pieces) → IsPass (pass_over limits from pieces) (Ok end) last said →
     IsReadyMachine machine → IsHonest machine said lost now → IsTrueReading machine.memory last now.memory (keys_of said) (lost + 0)
 true_at limits from pieces end last said machine now lost reads pass ready honest =
-    believed limits from pieces (Ended end) last said reads pass machine now lost (may_look (last_words from pieces.bytes pieces.count) limits.patience machine ready) honest
+    believed limits from pieces (Ok end) last said reads pass machine now lost (may_look (last_words from pieces.bytes pieces.count) limits.patience machine ready) honest
 
 -- behind it the next pass may begin
-ready_at : (limits : Limits) (from : ℕ) (pieces : Pieces) (end : End) (last : Reader) (said : List Item) (machine now : Machine) (lost : ℕ) → IsReader (first limits.patience from pieces) → IsPass (pass_over limits from pieces) (Ended end) last said →
+ready_at : (limits : Limits) (from : ℕ) (pieces : Pieces) (end : End) (last : Reader) (said : List Item) (machine now : Machine) (lost : ℕ) → IsReader (first limits.patience from pieces) → IsPass (pass_over limits from pieces) (Ok end) last said →
     IsReadyMachine machine → IsHonest machine said lost now → IsReadyMachine now
 ready_at limits from pieces end last said machine now lost reads pass ready honest =
     let s = pass.inquired in
@@ -109,9 +109,9 @@ run_none limits from line = record {
 -- what is right of a pass that ended the search
 over_right : (limits : Limits) (from : ℕ) (pieces : Pieces) (stop : LookStop) (last : Reader) (said : List Item) (search : Search) (changed : ℕ) → ArePieces from pieces → IsReader (first limits.patience from pieces) → IsPass (pass_over limits from pieces) stop last said →
     Over search ≡ passed stop (found from pieces last) → changed ≡ last.foreign → FindsFrom from (from + pieces.bytes * pieces.count) limits.patience search changed (said ∷ [])
-over_right limits from pieces (Ended Complete) last said search changed are reads pass is counted machine now lost ready reaches within (between, lost_first, lost_later, honest, (same, none), all) =
+over_right limits from pieces (Ok Complete) last said search changed are reads pass is counted machine now lost ready reaches within (between, lost_first, lost_later, honest, (same, none), all) =
     let t = true_at limits from pieces Complete last said machine between lost_first reads pass ready honest in
-    let o = is_over limits from pieces (Ended Complete) last said reads pass in
+    let o = is_over limits from pieces (Ok Complete) last said reads pass in
     let far : found from pieces last ≤ top_of machine.memory = reached machine.memory from pieces last are o reaches (subst (λ m. HoldsRead m last) t.same t.read) in
     let whole : length last.values ≡ pieces.count = all_read from pieces last o pass.end in
     let top : top_of machine.memory ≡ found from pieces last = omega (arith, far, within, ap (λ n. pieces.bytes * n) whole) in
@@ -119,26 +119,26 @@ over_right limits from pieces (Ended Complete) last said search changed are read
   where
     searched : {found : ℕ} → Over search ≡ Over (Ends found) → search ≡ Ends found
     searched e = cc e
-over_right limits from pieces (Ended (NoWord a)) last said search changed are reads pass is counted machine now lost ready reaches within honest = absurd (cc is)
-over_right limits from pieces (Ended GaveUp) last said search changed are reads pass is counted machine now lost ready reaches within (between, lost_first, lost_later, honest, (same, none), all) =
+over_right limits from pieces (Ok (NoWord a)) last said search changed are reads pass is counted machine now lost ready reaches within honest = absurd (cc is)
+over_right limits from pieces (Ok GaveUp) last said search changed are reads pass is counted machine now lost ready reaches within (between, lost_first, lost_later, honest, (same, none), all) =
     let t = true_at limits from pieces GaveUp last said machine between lost_first reads pass ready honest in
     let paid : last.patience < lost_first + 0 = paid_at last.phase GaveUp between.memory last.patience (lost_first + 0) pass.end t.cause in
-    let more : limits.patience < lost = omega (arith, paid, same_patience limits from pieces (Ended GaveUp) last said pass, none, all) in
+    let more : limits.patience < lost = omega (arith, paid, same_patience limits from pieces (Ok GaveUp) last said pass, none, all) in
     (ap (λ (m : Machine). m.memory) same ∙ t.same, subst (λ s. IsTrueEnd s machine.memory limits.patience lost) (sym (searched is)) more, counted ∙ t.foreign)
   where
-    searched : Over search ≡ Over (Stopped (Ended GaveUp)) → search ≡ Stopped (Ended GaveUp)
+    searched : Over search ≡ Over (Stopped (Ok GaveUp)) → search ≡ Stopped (Ok GaveUp)
     searched e = cc e
-over_right limits from pieces TurnsOver last said search changed are reads pass is counted machine now lost ready reaches within (between, lost_first, lost_later, honest, (same, none), all) =
-    let t = believed limits from pieces TurnsOver last said reads pass machine between lost_first (may_look (last_words from pieces.bytes pieces.count) limits.patience machine ready) honest in
+over_right limits from pieces (Err TurnsOver) last said search changed are reads pass is counted machine now lost ready reaches within (between, lost_first, lost_later, honest, (same, none), all) =
+    let t = believed limits from pieces (Err TurnsOver) last said reads pass machine between lost_first (may_look (last_words from pieces.bytes pieces.count) limits.patience machine ready) honest in
     (ap (λ (m : Machine). m.memory) same ∙ t.same, subst (λ s. IsTrueEnd s machine.memory limits.patience lost) (sym (searched is)) tt, counted ∙ t.foreign)
   where
-    searched : Over search ≡ Over (Stopped TurnsOver) → search ≡ Stopped TurnsOver
+    searched : Over search ≡ Over (Stopped (Err TurnsOver)) → search ≡ Stopped (Err TurnsOver)
     searched e = cc e
-over_right limits from pieces (LineFailed fault) last said search changed are reads pass is counted machine now lost ready reaches within (between, lost_first, lost_later, honest, (same, none), all) =
-    let t = (believed limits from pieces (LineFailed fault) last said reads pass).0 machine between lost_first (may_look (last_words from pieces.bytes pieces.count) limits.patience machine ready) honest in
+over_right limits from pieces (Err (LineFailed fault)) last said search changed are reads pass is counted machine now lost ready reaches within (between, lost_first, lost_later, honest, (same, none), all) =
+    let t = (believed limits from pieces (Err (LineFailed fault)) last said reads pass).0 machine between lost_first (may_look (last_words from pieces.bytes pieces.count) limits.patience machine ready) honest in
     (ap (λ (m : Machine). m.memory) same ∙ t.same, subst (λ s. IsTrueEnd s machine.memory limits.patience lost) (sym (searched is)) tt, counted ∙ t.foreign)
   where
-    searched : Over search ≡ Over (Stopped (LineFailed fault)) → search ≡ Stopped (LineFailed fault)
+    searched : Over search ≡ Over (Stopped (Err (LineFailed fault))) → search ≡ Stopped (Err (LineFailed fault))
     searched e = cc e
 
 run_over : (pieces : Pieces) (passes : List Pieces) (limits : Limits) (from : ℕ) (search : Search) (changed : ℕ) (line line' : LineTold) → ArePieces from pieces → Stepped (pass_over limits from pieces) (Over search) changed line line' →
@@ -157,9 +157,9 @@ run_over pieces passes limits from search changed line line' are s = record {
 more_right : (limits : Limits) (from limit next : ℕ) (pieces : Pieces) (stop : LookStop) (last : Reader) (said : List Item) (search : Search) (changed more : ℕ) (parts : List (List Item)) → ArePieces from pieces → IsReader (first limits.patience from pieces) →
     IsPass (pass_over limits from pieces) stop last said → Lacking next ≡ passed stop (found from pieces last) → changed ≡ last.foreign → next + pieces.bytes ≤ limit + 2 → FindsFrom next limit limits.patience search more parts →
     FindsFrom from (from + pieces.bytes * pieces.count) limits.patience search (changed + more) (said ∷ parts)
-more_right limits from limit next pieces (Ended (NoWord a)) last said search changed more parts are reads pass is counted fits finds machine now lost ready reaches within (between, lost_first, lost_later, honest, rest, all) =
+more_right limits from limit next pieces (Ok (NoWord a)) last said search changed more parts are reads pass is counted fits finds machine now lost ready reaches within (between, lost_first, lost_later, honest, rest, all) =
     let t = true_at limits from pieces (NoWord a) last said machine between lost_first reads pass ready honest in
-    let o = is_over limits from pieces (Ended (NoWord a)) last said reads pass in
+    let o = is_over limits from pieces (Ok (NoWord a)) last said reads pass in
     let far : found from pieces last ≤ top_of machine.memory = reached machine.memory from pieces last are o reaches (subst (λ m. HoldsRead m last) t.same t.read) in
     let past : top_of between.memory ≤ a = paid_at last.phase (NoWord a) between.memory last.patience (lost_first + 0) pass.end t.cause in
     let tops : top_of between.memory ≡ top_of machine.memory = ap top_of t.same in
@@ -172,15 +172,13 @@ more_right limits from limit next pieces (Ended (NoWord a)) last said search cha
 
     right_more : (search : Search) (memory before : List ℕ) (patience lost more : ℕ) → memory ≡ before → lost ≤ more → IsTrueEnd search memory patience lost → IsTrueEnd search before patience more
     right_more (Ends top) memory before patience lost more same le right = sym (ap top_of same) ∙ right
-    right_more (Stopped (Ended GaveUp)) memory before patience lost more same le right = omega (arith, right, le)
-    right_more (Stopped (Ended Complete)) memory before patience lost more same le right = tt
-    right_more (Stopped (Ended (NoWord a))) memory before patience lost more same le right = tt
-    right_more (Stopped TurnsOver) memory before patience lost more same le right = tt
-    right_more (Stopped (LineFailed fault)) memory before patience lost more same le right = tt
-more_right limits from limit next pieces (Ended Complete) last said search changed more parts are reads pass is counted fits finds machine now lost ready reaches within honest = absurd (cc is)
-more_right limits from limit next pieces (Ended GaveUp) last said search changed more parts are reads pass is counted fits finds machine now lost ready reaches within honest = absurd (cc is)
-more_right limits from limit next pieces TurnsOver last said search changed more parts are reads pass is counted fits finds machine now lost ready reaches within honest = absurd (cc is)
-more_right limits from limit next pieces (LineFailed fault) last said search changed more parts are reads pass is counted fits finds machine now lost ready reaches within honest = absurd (cc is)
+    right_more (Stopped (Ok GaveUp)) memory before patience lost more same le right = omega (arith, right, le)
+    right_more (Stopped (Ok Complete)) memory before patience lost more same le right = tt
+    right_more (Stopped (Ok (NoWord a))) memory before patience lost more same le right = tt
+    right_more (Stopped (Err cut)) memory before patience lost more same le right = tt
+more_right limits from limit next pieces (Ok Complete) last said search changed more parts are reads pass is counted fits finds machine now lost ready reaches within honest = absurd (cc is)
+more_right limits from limit next pieces (Ok GaveUp) last said search changed more parts are reads pass is counted fits finds machine now lost ready reaches within honest = absurd (cc is)
+more_right limits from limit next pieces (Err cut) last said search changed more parts are reads pass is counted fits finds machine now lost ready reaches within honest = absurd (cc is)
 
 run_more : (pieces : Pieces) (passes : List Pieces) (limits : Limits) (from next limit : ℕ) (search : Search) (changed more : ℕ) (line line' line'' : LineTold) → ArePieces from pieces → Stepped (pass_over limits from pieces) (Lacking next) changed line line' →
     next + pieces.bytes ≤ limit + 2 → Runs passes limits next limit search more line' line'' → Runs (pieces ∷ passes) limits from (from + pieces.bytes * pieces.count) search (changed + more) line line''

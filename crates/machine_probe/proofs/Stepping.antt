@@ -1,12 +1,11 @@
 -- What the engine of the looks makes of a pass.
-use Rattle.std.proofs.Common.{◌≡◌, ℕ, [], Some, refl, ap, subst, ◌∙◌}
+use Rattle.std.proofs.Common.{◌≡◌, ℕ, [], Some, Ok, Err, refl, ap, subst, ◌∙◌}
 use Rattle.host_devices.specs.Devices.{LineTold}
 use Rattle.host_devices.specs.Failures.{CountsFault, IsLastFault}
 use Rattle.reading_core.specs.declared.phase.End.TheVariants.{Complete, GaveUp, NoWord}
 use Rattle.reading_core.specs.Invariant.{IsReader}
 use Rattle.reading_core.specs.Reader.{Reader}
 use Rattle.looking_engine.specs.Stopping.{LookStop, line_fault}
-use Rattle.looking_engine.specs.declared.stop.Stop.TheVariants.{Ended, LineFailed, TurnsOver}
 use Rattle.looking_engine.specs.Inquired.{Inquired, IsInquired, inquiry}
 use Rattle.machine_probe.specs.declared.memory_end.Limits.{Limits}
 use Rattle.machine_probe.specs.declared.pieces.Pieces.{Pieces}
@@ -17,11 +16,10 @@ use Rattle.machine_probe.proofs.Founds.{passed_within}
 
 -- the fault that stopped a pass is the one that is answered
 same_fault : (stop : LookStop) (end : ℕ) → line_fault (Some stop) ≡ line_fault (stop_in (passed stop end))
-same_fault (Ended Complete) end = refl
-same_fault (Ended GaveUp) end = refl
-same_fault (Ended (NoWord address)) end = refl
-same_fault (LineFailed fault) end = refl
-same_fault TurnsOver end = refl
+same_fault (Ok Complete) end = refl
+same_fault (Ok GaveUp) end = refl
+same_fault (Ok (NoWord address)) end = refl
+same_fault (Err cut) end = refl
 
 pub stepped : (limits : Limits) (from : ℕ) (pieces : Pieces) (core last : Reader) (stop : LookStop) (before after : LineTold) → ArePieces from pieces → core ≡ reader_of (pass_over limits from pieces) → IsReader core
     → IsInquired limits.turns (inquiry core last (Some stop)) before after → Stepped (pass_over limits from pieces) (passed stop (found from pieces last)) last.foreign before after

@@ -1,6 +1,7 @@
 -- Which runs a probe makes.
 use Rattle.std.specs.Prelude.{◌≡◌, ◌⊎◌, ℕ, Bool, true, false, List, [], ◌++◌, Option, Some, None}
 use Rattle.host_devices.specs.declared.item.Item.{Item}
+use Rattle.engine.specs.declared.stop.Cut.TheVariants.{LineFailed}
 use Rattle.probe_report.specs.declared.findings.TrialFindings.{TrialFindings}
 use Rattle.probe_report.specs.declared.findings.Findings.{Findings}
 use Rattle.probe_report.specs.declared.findings.Sighting.{Sighting}
@@ -26,7 +27,7 @@ number_in sighting = 0
 
 -- the line goes on behind a trial with this end
 abbrev pub has_line : TrialEnd → Bool
-has_line (trial.LineFailed fault) = false
+has_line (trial.CutOff (LineFailed fault)) = false
 has_line end = true
 
 -- there was a trial, and the line goes on behind it

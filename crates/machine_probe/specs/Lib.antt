@@ -4,6 +4,7 @@ pub mod Steps
 pub mod Belief
 pub mod Came
 pub mod Follow
+pub mod Left
 pub mod Noted
 pub mod Probe
 pub mod ProbeFault

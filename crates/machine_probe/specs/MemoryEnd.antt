@@ -1,5 +1,5 @@
 -- What a search for the end of memory says, and what of it may be believed.
-use Rattle.std.specs.Prelude.{◌≡◌, ℕ, ◌<◌, List, Option, Some, None, ⊤}
+use Rattle.std.specs.Prelude.{◌≡◌, ℕ, ◌<◌, List, Option, Some, None, Ok, ⊤}
 use Rattle.tape_image.specs.Memory.{top_of}
 use Rattle.odt_machine.specs.Machine.{Machine}
 use Rattle.host_devices.specs.declared.item.Item.{Item}
@@ -8,7 +8,6 @@ use Rattle.host_devices.specs.Failures.{CountsFault, IsLastFault}
 use Rattle.host_devices.specs.Told.{Gains}
 use Rattle.reading_core.specs.declared.phase.End.TheVariants.{GaveUp}
 use Rattle.looking_engine.specs.Stopping.{LookStop, line_fault}
-use Rattle.looking_engine.specs.declared.stop.Stop.TheVariants.{Ended}
 use Rattle.machine_probe.specs.declared.memory_end.Limits.{Limits}
 use Rattle.machine_probe.specs.declared.search.Search.{Search}
 use Rattle.machine_probe.specs.declared.search.Search.TheVariants.{Ends, Stopped}
@@ -24,7 +23,7 @@ stop_of (Stopped stop) = Some stop
 -- what is answered is so: memory ends there; and the host gave up after more losses than its patience
 abbrev pub IsTrueEnd : Search → List ℕ → (patience lost : ℕ) → Type 0
 IsTrueEnd (Ends top) memory patience lost = top_of memory ≡ top
-IsTrueEnd (Stopped (Ended GaveUp)) memory patience lost = patience < lost
+IsTrueEnd (Stopped (Ok GaveUp)) memory patience lost = patience < lost
 IsTrueEnd (Stopped stop) memory patience lost = ⊤
 
 -- over every machine that runs no program, and honest lines in a row: memory is what it was, what is answered is so, and no character came that no

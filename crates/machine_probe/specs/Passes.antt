@@ -1,11 +1,10 @@
 -- The passes of looks that find where memory ends (this project's choice).
-use Rattle.std.specs.Prelude.{◌≡◌, ℕ, zero, suc, ◌+◌, ◌-◌, ◌*◌, ◌%◌, ◌≤◌, List, [], ◌∷◌, length, vec_capacity, Some}
+use Rattle.std.specs.Prelude.{◌≡◌, ℕ, zero, suc, ◌+◌, ◌-◌, ◌*◌, ◌%◌, ◌≤◌, List, [], ◌∷◌, length, vec_capacity, Some, Ok}
 use Rattle.tape_values.specs.Block.{top}
 use Rattle.host_devices.specs.declared.item.Item.{Item}
 use Rattle.reading_core.specs.declared.phase.End.TheVariants.{Complete, NoWord}
 use Rattle.reading_core.specs.Reader.{Reader, begun, ended}
 use Rattle.looking_engine.specs.Stopping.{LookStop, TellsEnd}
-use Rattle.looking_engine.specs.declared.stop.Stop.TheVariants.{Ended}
 use Rattle.looking_engine.specs.Inquired.{Inquired, inquiry}
 use Rattle.machine_probe.specs.declared.memory_end.Limits.{Limits}
 use Rattle.machine_probe.specs.declared.memory_end.PassEnd.{PassEnd}
@@ -67,8 +66,8 @@ found from pieces last = from + pieces.bytes * length last.values
 
 -- what a pass that stopped so and found memory up to an address comes to
 abbrev pub passed : LookStop → ℕ → PassEnd
-passed (Ended (NoWord address)) found = Lacking found
-passed (Ended Complete) found = Over (Ends found)
+passed (Ok (NoWord address)) found = Lacking found
+passed (Ok Complete) found = Over (Ends found)
 passed stop found = Over (Stopped stop)
 
 -- a pass came to this, with what was said of it, and so many characters that no loss explains

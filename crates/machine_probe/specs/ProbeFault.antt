@@ -12,8 +12,8 @@ use Rattle.machine_probe.specs.declared.probe_options.ProbeOptions.{ProbeOptions
 use Rattle.machine_probe.specs.Follow.{IsBrokenOff}
 use Rattle.console_lines.specs.Console.{ConsoleTold}
 use Rattle.host_devices.specs.Devices.{LineTold}
-use Rattle.console_lines.specs.declared.reach.Reach.{Ghosts as Reach}
-use Rattle.machine_probe.specs.Probe.{IsProbeCutShort, OfLine}
+use Rattle.console_lines.specs.declared.consoles.Consoles.{Ghosts as Consoles}
+use Rattle.machine_probe.specs.Probe.{IsProbeCutShort, OfLine, said_on}
 use Rattle.machine_probe.specs.Runs.{OnLine}
 
 -- what a way to a console tells: what was asked for a line, where that one leads, and what the lines tell that were given back
@@ -22,9 +22,9 @@ pub record WayTold : Type 0 where
   pub call : Call
   pub lines : Option (List LineTold)
 
--- what this one tells
-abbrev pub way_told : {R L : Type 0} → Reach R L → R → WayTold
-way_told tell console = record { asked = tell.asked console; call = tell.call console; lines = tell.lines console }
+-- what these consoles tell, of which this one is called
+abbrev pub way_told : {C L : Type 0} → Consoles C L → Call → C → WayTold
+way_told tell call consoles = record { asked = tell.asked consoles; call = call; lines = tell.lines consoles }
 
 -- the same of a console and an output
 abbrev pub way_of : ConsoleTold → WayTold
@@ -43,7 +43,7 @@ pub record IsBrokenOffOn (options : ProbeOptions) (line : Change (Option (List I
 
 -- where memory was wanting: before the console was asked for, or once it was reached, over a line that was given back
 abbrev pub IsWanting : OfLine → ProbeOptions → Change WayTold → Type 0
-IsWanting over options way = IsUnasked way ⊎ over (way.before.lines ⇒ way.after.lines) (λ line. IsBrokenOffOn options line way)
+IsWanting over options way = IsUnasked way ⊎ over (way.before.lines ⇒ way.after.lines) (λ line. IsBrokenOffOn options (said_on line) way)
 
 -- what makes it come to nothing before there is a report
 abbrev pub IsUnreported : OfLine → ProbeOptions → Change WayTold → ProbeFault → Type 0

@@ -8,8 +8,9 @@ ghost use Rattle.machine_probe.specs.Steps.{Stepped};
 use crate::pieces::{LARGE, Pieces, SMALL, WORDS};
 use crate::room::Room;
 use crate::search::{Search, Searched};
+use engine::Cut;
 use host_devices::{Line, Onlooker};
-use looking_engine::{Stop, inquire};
+use looking_engine::inquire;
 use reading_core::End;
 use std::alloc::{AllocError, Global};
 
@@ -95,12 +96,12 @@ fn pass<L: Line, O: Onlooker>(
 }
 
 // What a pass comes to that stopped so and found memory up to an address.
-fn passed(stop: Stop<End>, found: u16) -> PassEnd
+fn passed(stop: Result<End, Cut>, found: u16) -> PassEnd
     ensures { result ≡ passed stop found }
 {
     match stop {
-        Stop::Ended(End::NoWord(_)) => PassEnd::Lacking(found),
-        Stop::Ended(End::Complete) => PassEnd::Over(Search::Ends(found)),
+        Ok(End::NoWord(_)) => PassEnd::Lacking(found),
+        Ok(End::Complete) => PassEnd::Over(Search::Ends(found)),
         _ => PassEnd::Over(Search::Stopped(stop)),
     }
 }

@@ -2,17 +2,17 @@ use byte_io::WriteFault;
 use host_devices::LineFault;
 use std::alloc::AllocError;
 
-/// Why a probe came to nothing.
+/// Why a probe, or a test of memory, came to nothing.
 #[derive(Clone, Copy, Debug, PartialEq, Eq)]
 pub enum ProbeFault {
     /// The console can't be reached. Nothing was sent.
     Connect,
 
-    /// The report can't be written whole. The probe was made.
+    /// The report can't be written whole. The probe or the test was made.
     WriteOutput,
 
-    /// A growth of memory was refused, and nothing was reported. No digit was typed into a word, or the
-    /// word holds the number that it held.
+    /// A growth of memory was refused, and nothing was reported. Of a probe no digit was typed into a word, or the word holds
+    /// the number that it held.
     Memory,
 }
 

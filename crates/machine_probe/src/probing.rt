@@ -1,10 +1,12 @@
 //! The command `probe`.
 ghost use Rattle.std.specs.Prelude.{◌≡◌, [], IfErr, IfOk, OnErr, OnOk};
+ghost use Rattle.host_devices.specs.Devices.{line_told};
 ghost use Rattle.host_devices.specs.Told.{Gains};
 ghost use Rattle.console_lines.specs.Dialling.{asked_once};
 ghost use Rattle.tape_values.specs.Told.{IsAsTold};
 ghost use Rattle.reading_core.specs.Addresses.{IsAddress};
 ghost use Rattle.console_lines.specs.Console.{console_told};
+ghost use Rattle.console_lines.specs.Path.{call_of};
 ghost use Rattle.machine_probe.specs.Follow.{IsBrokenOff};
 ghost use Rattle.machine_probe.specs.Probe.{IsReport, IsProbeReported, OverLine};
 ghost use Rattle.machine_probe.specs.ProbeFault.{way_told, IsProbeFault, IsUnreported};
@@ -17,7 +19,7 @@ use crate::probe_fault::ProbeFault;
 use crate::probe_options::ProbeOptions;
 use crate::runs::{Lookers, make_runs};
 use byte_io::write_and_flush;
-use console_lines::Reach;
+use console_lines::{Consoles, Dial};
 use host_devices::{Line, Onlooker};
 use probe_report::{ProbeEnd, Report, push_report};
 use std::alloc::{AllocError, Global};
@@ -37,51 +39,54 @@ use std::time::Clock;
 /// `Connect` comes before anything was sent. `WriteOutput` is a report that could not be written whole.
 /// `Memory` comes only where a growth was refused, with nothing reported: before a digit was typed, or
 /// behind a second look that read the same number.
-pub fn probe<R: Reach, W: Write, C: Clock, O: Onlooker>(
+pub fn probe<C: Consoles, W: Write, T: Clock, O: Onlooker>(
     alloc: Global,
     options: ProbeOptions,
-    console: &mut R,
+    consoles: &mut C,
+    dial: Dial<'_>,
     out: &mut W,
-    clock: &C,
+    clock: &T,
     onlooker: &O,
 ) -> Result<ProbeEnd, ProbeFault>
     requires { IsAddress options.address }
-    ensures ok { IfOk result (IsProbeReported (OverLine R.Line.Line) options
-        (console_told R.Reach W.Write console.old out.old ⇒ console_told R.Reach W.Write console.new out.new)) }
-    ensures err { IfErr result (IsProbeFault (OverLine R.Line.Line) options
-        (console_told R.Reach W.Write console.old out.old ⇒ console_told R.Reach W.Write console.new out.new)) }
-    ensures call { R.call console.new ≡ R.call console.old }
+    ensures ok { IfOk result (IsProbeReported (OverLine C.Line.Line) options
+        (console_told C.Consoles W.Write (call_of dial.entry) consoles.old out.old
+        ⇒ console_told C.Consoles W.Write (call_of dial.entry) consoles.new out.new)) }
+    ensures err { IfErr result (IsProbeFault (OverLine C.Line.Line) options
+        (console_told C.Consoles W.Write (call_of dial.entry) consoles.old out.old
+        ⇒ console_told C.Consoles W.Write (call_of dial.entry) consoles.new out.new)) }
 {
     let mut report = Report::new();
-    let end = gather(alloc, options, console, clock, onlooker, &mut report)?;
+    let end = gather(alloc, options, consoles, dial, clock, onlooker, &mut report)?;
     write_and_flush(out, &report)?;
     Ok(end)
 }
 
 // Reaches the console, makes the probe, and puts its report into an empty text. Everything that fails
 // here comes before anything was reported.
-fn gather<R: Reach, C: Clock, O: Onlooker>(
+fn gather<C: Consoles, T: Clock, O: Onlooker>(
     alloc: Global,
     options: ProbeOptions,
-    console: &mut R,
-    clock: &C,
+    consoles: &mut C,
+    dial: Dial<'_>,
+    clock: &T,
     onlooker: &O,
     report: &mut Report,
 ) -> Result<ProbeEnd, ProbeFault>
     requires address { IsAddress options.address }
     requires empty { report.old.items ≡ [] }
-    ensures report { IfOk result (λ end. OverLine R.Line.Line (R.lines console.old ⇒ R.lines console.new)
+    ensures report { IfOk result (λ end. OverLine C.Line.Line (C.lines consoles.old ⇒ C.lines consoles.new)
         (λ line. IsReport options line report.new.items end)) }
-    ensures asked { OnOk result (Gains (R.asked console.old) (R.asked console.new) (asked_once (R.call console.old))) }
-    ensures call { R.call console.new ≡ R.call console.old }
-    ensures fault { IfErr result (IsUnreported (OverLine R.Line.Line) options (way_told R.Reach console.old ⇒ way_told R.Reach console.new)) }
+    ensures asked { OnOk result (Gains (C.asked consoles.old) (C.asked consoles.new) (asked_once (call_of dial.entry))) }
+    ensures fault { IfErr result (IsUnreported (OverLine C.Line.Line) options
+        (way_told C.Consoles (call_of dial.entry) consoles.old ⇒ way_told C.Consoles (call_of dial.entry) consoles.new)) }
 {
     let lookers = Lookers::new(alloc, options)?;
-    let line = console.reach()?;
-    let (outcome, line) = report_noted::<R::Line, C, O, Brand>(
+    let line = consoles.reach(dial)?;
+    let (outcome, line) = report_noted::<C::Line, T, O, Brand>(
         alloc, lookers, options, line, clock, onlooker, report,
     );
-    console.let_go(line);
+    consoles.let_go(line);
     match outcome {
         Ok(end) => Ok(end),
         Err(_) => Err(ProbeFault::Memory),
@@ -90,12 +95,12 @@ fn gather<R: Reach, C: Clock, O: Onlooker>(
 
 // Makes the runs of a probe over a fresh line, which comes back, and puts their report into an empty text. `E` names what the
 // line told at first.
-fn report_noted<L: Line, C: Clock, O: Onlooker, E: FirstTold>(
+fn report_noted<L: Line, T: Clock, O: Onlooker, E: FirstTold>(
     alloc: Global,
     lookers: Lookers,
     options: ProbeOptions,
     line: L,
-    clock: &C,
+    clock: &T,
     onlooker: &O,
     report: &mut Report,
 ) -> (Result<ProbeEnd, AllocError>, L)
@@ -104,20 +109,20 @@ fn report_noted<L: Line, C: Clock, O: Onlooker, E: FirstTold>(
     requires opening { L.told line ≡ E.told }
     requires fresh { IsAsTold (L.told line) [] }
     requires empty { report.old.items ≡ [] }
-    ensures report { IfOk result.0 (IsReport options (L.told line ⇒ L.told result.1) report.new.items) }
+    ensures report { IfOk result.0 (IsReport options (line_told L.Line line ⇒ line_told L.Line result.1) report.new.items) }
     ensures wanting { OnErr result.0 (OnLine (IsBrokenOff options) (L.told line) (L.told result.1)) }
 {
-    let mut noted: NotedLine<'_, L, C, E> = NotedLine::new(line, clock);
+    let mut noted: NotedLine<'_, L, T, E> = NotedLine::new(line, clock);
     let outcome = report_runs(alloc, lookers, options, &mut noted, onlooker, report);
     (outcome, noted.into_line())
 }
 
 // Makes the runs of a probe over a line that notes them, and puts their report into an empty text.
-fn report_runs<L: Line, C: Clock, O: Onlooker, E: FirstTold>(
+fn report_runs<L: Line, T: Clock, O: Onlooker, E: FirstTold>(
     alloc: Global,
     lookers: Lookers,
     options: ProbeOptions,
-    line: &mut NotedLine<'_, L, C, E>,
+    line: &mut NotedLine<'_, L, T, E>,
     onlooker: &O,
     report: &mut Report,
 ) -> Result<ProbeEnd, AllocError>
@@ -126,7 +131,7 @@ fn report_runs<L: Line, C: Clock, O: Onlooker, E: FirstTold>(
     requires opening { L.told line.old ≡ E.told }
     requires fresh { IsAsTold (L.told line.old) [] }
     requires empty { report.old.items ≡ [] }
-    ensures report { IfOk result (IsReport options (L.told line.old ⇒ L.told line.new) report.new.items) }
+    ensures report { IfOk result (IsReport options (line_told L.Line line.old ⇒ line_told L.Line line.new) report.new.items) }
     ensures wanting { OnErr result (OnLine (IsBrokenOff options) (L.told line.old) (L.told line.new)) }
 {
     let findings = make_runs(alloc, lookers, options, line, onlooker)?;

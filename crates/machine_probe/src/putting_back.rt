@@ -1,6 +1,9 @@
 //! Putting an old number back into a word.
 ghost use Rattle.std.specs.Prelude.{◌≡◌, ℕ, IfOk};
+ghost use Rattle.host_devices.specs.Devices.{line_told};
 ghost use Rattle.reading_core.specs.Addresses.{IsAddress};
+ghost use Rattle.request_values.specs.Change.{◌⇒◌};
+ghost use Rattle.machine_probe.specs.Left.{LeavesDeposit};
 ghost use Rattle.machine_probe.specs.PuttingBack.{IsDeposit, IsPlanOfWord, PutsBack, is_loaded};
 ghost use Rattle.machine_probe.specs.Runs.{OnLine};
 
@@ -50,7 +53,8 @@ impl Deposit {
 /// Makes the load over a line, and answers whether it came to its end: the word was read back and holds
 /// the old number again. It takes no memory.
 pub(crate) fn put_back<L: Line>(deposit: Deposit, options: ProbeOptions, line: &mut L) -> bool
-    ensures { (old : ℕ) → IsDeposit options old deposit → OnLine (PutsBack options old result) (L.told line.old) (L.told line.new) }
+    ensures made { (old : ℕ) → IsDeposit options old deposit → OnLine (PutsBack options old result) (L.told line.old) (L.told line.new) }
+    ensures left { LeavesDeposit result (line_told L.Line line.old ⇒ line_told L.Line line.new) }
 {
     let Deposit { core, mut keeper } = deposit;
     let (_, stop) = drive(core, line, &mut keeper, options.turns(), &Unwatched);

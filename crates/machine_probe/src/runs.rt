@@ -1,13 +1,16 @@
 //! The runs of a probe, one after another over one line.
-ghost use Rattle.std.specs.Prelude.{◌≡◌, true, IfOk, OnErr};
+ghost use Rattle.std.specs.Prelude.{◌≡◌, true, None, IfOk, OnErr};
 ghost use Rattle.reading_core.specs.Addresses.{IsAddress};
 ghost use Rattle.reading_core.specs.Invariant.{IsReader};
+ghost use Rattle.host_devices.specs.Devices.{line_told};
 ghost use Rattle.host_devices.specs.Told.{SaysNothing};
 ghost use Rattle.looking_law.specs.Again.{looker};
 ghost use Rattle.probe_report.specs.Judging.{verdict_of};
 ghost use Rattle.machine_probe.specs.Came.{trial_findings_of, extent_of, first_of, sighting_of, trial_end_of};
-ghost use Rattle.machine_probe.specs.Follow.{IsBrokenOff, IsProbe, IsTriedOut, IsUntried, CountedWhere, MadeWhere, forgets, goes_on, is_number, number_in, stores};
+ghost use Rattle.machine_probe.specs.Follow.{IsBrokenOff, IsProbe, IsTriedOut, IsUntried, CountedWhere, MadeWhere, forgets, goes_on, has_line, is_number, number_in, stores};
+ghost use Rattle.machine_probe.specs.Left.{AreLeftBy, LeavesDeposit, LeavesLook, LeavesSearch, LeavesTrial, LeftBy};
 ghost use Rattle.machine_probe.specs.PuttingBack.{PutsBack};
+ghost use Rattle.request_values.specs.Change.{◌⇒◌};
 ghost use Rattle.machine_probe.specs.Rooms.{AreLookers, HasDeposit};
 ghost use Rattle.machine_probe.specs.Runs.{LooksAt, IsSearch, IsTrialOf, OnLine};
 
@@ -15,8 +18,9 @@ use crate::memory_end::find_end;
 use crate::probe_options::ProbeOptions;
 use crate::putting_back::{Deposit, put_back};
 use crate::search::Search;
+use engine::Cut;
 use host_devices::{Line, Onlooker, Unwatched};
-use looking_engine::{Stop, conduct, inquire};
+use looking_engine::{conduct, inquire};
 use probe_report::{Changes, Extent, Findings, Sighting, TrialEnd, TrialFindings, Verdict, judge};
 use reading_core::{End, ReadingCore};
 use std::alloc::{AllocError, Global};
@@ -65,6 +69,7 @@ pub(crate) fn make_runs<L: Line, O: Onlooker>(
     requires address { IsAddress options.address }
     requires lookers { AreLookers options lookers }
     ensures made { IfOk result (λ found. OnLine (IsProbe options found) (L.told line.old) (L.told line.new)) }
+    ensures left { IfOk result (λ found. AreLeftBy found (line_told L.Line line.old ⇒ line_told L.Line line.new)) }
     ensures wanting { OnErr result (OnLine (IsBrokenOff options) (L.told line.old) (L.told line.new)) }
 {
     let found = try_out(alloc, lookers, options, line, onlooker)?;
@@ -108,6 +113,7 @@ fn try_out<L: Line, O: Onlooker>(
     requires address { IsAddress options.address }
     requires lookers { AreLookers options lookers }
     ensures made { IfOk result (λ found. OnLine (IsTriedOut options found) (L.told line.old) (L.told line.new)) }
+    ensures left { IfOk result (λ found. AreLeftBy (record found { search = None }) (line_told L.Line line.old ⇒ line_told L.Line line.new)) }
     ensures wanting { OnErr result (OnLine (IsUntried options) (L.told line.old) (L.told line.new)) }
     ensures broken_off { OnErr result (OnLine (IsBrokenOff options) (L.told line.old) (L.told line.new)) }
 {
@@ -144,7 +150,8 @@ fn look<L: Line, O: Onlooker>(
     onlooker: &O,
 ) -> (Sighting, u32)
     requires { core ≡ looker options.address options.patience }
-    ensures { OnLine (LooksAt options result.1 result.0) (L.told line.old) (L.told line.new) }
+    ensures made { OnLine (LooksAt options result.1 result.0) (L.told line.old) (L.told line.new) }
+    ensures left { LeavesLook result.0 (line_told L.Line line.old ⇒ line_told L.Line line.new) }
 {
     let (core, stop) = inquire(core, line, options.turns(), onlooker);
     let sighting = sighting_of(stop, first_of(core.values()));
@@ -162,16 +169,15 @@ fn first_of(numbers: &[u16]) -> Option<u16>
 }
 
 // What a look gave that stopped so and read this number.
-fn sighting_of(stop: Stop<End>, number: Option<u16>) -> Sighting
+fn sighting_of(stop: Result<End, Cut>, number: Option<u16>) -> Sighting
     ensures { result ≡ sighting_of stop number }
 {
     match (stop, number) {
-        (Stop::Ended(End::Complete), Some(number)) => Sighting::Number(number),
-        (Stop::Ended(End::Complete), None) => Sighting::GaveUp,
-        (Stop::Ended(End::GaveUp), _) => Sighting::GaveUp,
-        (Stop::Ended(End::NoWord(_)), _) => Sighting::NoWord,
-        (Stop::TurnsOver, _) => Sighting::TurnsOver,
-        (Stop::LineFailed(fault), _) => Sighting::LineFailed(fault),
+        (Ok(End::Complete), Some(number)) => Sighting::Number(number),
+        (Ok(End::Complete), None) => Sighting::GaveUp,
+        (Ok(End::GaveUp), _) => Sighting::GaveUp,
+        (Ok(End::NoWord(_)), _) => Sighting::NoWord,
+        (Err(cut), _) => Sighting::CutOff(cut),
     }
 }
 
@@ -196,7 +202,8 @@ fn deposit_for(
 // The trial, where the first look read the word.
 fn try_word<L: Line>(first: Sighting, options: ProbeOptions, line: &mut L) -> Option<TrialFindings>
     requires { IsAddress options.address }
-    ensures { OnLine (MadeWhere (is_number first) (IsTrialOf options (number_in first)) result) (L.told line.old) (L.told line.new) }
+    ensures made { OnLine (MadeWhere (is_number first) (IsTrialOf options (number_in first)) result) (L.told line.old) (L.told line.new) }
+    ensures left { LeftBy LeavesTrial result (line_told L.Line line.old ⇒ line_told L.Line line.new) }
 {
     match first {
         Sighting::Number(old) => Some(try_number(old, options, line)),
@@ -207,7 +214,8 @@ fn try_word<L: Line>(first: Sighting, options: ProbeOptions, line: &mut L) -> Op
 // A trial of the word, which holds this number.
 fn try_number<L: Line>(old: u16, options: ProbeOptions, line: &mut L) -> TrialFindings
     requires { IsAddress options.address }
-    ensures { OnLine (IsTrialOf options old result) (L.told line.old) (L.told line.new) }
+    ensures made { OnLine (IsTrialOf options old result) (L.told line.old) (L.told line.new) }
+    ensures left { LeavesTrial result (line_told L.Line line.old ⇒ line_told L.Line line.new) }
 {
     let trial = Trial::new(options.address, old, options.patience);
     let (trial, stop) = conduct(trial, line, options.turns());
@@ -215,7 +223,7 @@ fn try_number<L: Line>(old: u16, options: ProbeOptions, line: &mut L) -> TrialFi
 }
 
 // What a trial gave that stopped so.
-fn trial_findings_of(trial: Trial, stop: Stop<LastOfTrial>) -> TrialFindings
+fn trial_findings_of(trial: Trial, stop: Result<LastOfTrial, Cut>) -> TrialFindings
     ensures { result ≡ trial_findings_of trial stop }
 {
     TrialFindings {
@@ -226,15 +234,14 @@ fn trial_findings_of(trial: Trial, stop: Stop<LastOfTrial>) -> TrialFindings
 }
 
 // How a trial ended that stopped so.
-fn trial_end_of(stop: Stop<LastOfTrial>) -> TrialEnd
+fn trial_end_of(stop: Result<LastOfTrial, Cut>) -> TrialEnd
     ensures { result ≡ trial_end_of stop }
 {
     match stop {
-        Stop::Ended(LastOfTrial::Tried) => TrialEnd::Tried,
-        Stop::Ended(LastOfTrial::GaveUp) => TrialEnd::GaveUp,
-        Stop::Ended(LastOfTrial::NoWord) => TrialEnd::NoWord,
-        Stop::TurnsOver => TrialEnd::TurnsOver,
-        Stop::LineFailed(fault) => TrialEnd::LineFailed(fault),
+        Ok(LastOfTrial::Tried) => TrialEnd::Tried,
+        Ok(LastOfTrial::GaveUp) => TrialEnd::GaveUp,
+        Ok(LastOfTrial::NoWord) => TrialEnd::NoWord,
+        Err(cut) => TrialEnd::CutOff(cut),
     }
 }
 
@@ -247,20 +254,33 @@ fn look_again<L: Line, O: Onlooker>(
     onlooker: &O,
 ) -> (Option<Sighting>, u32)
     requires { core ≡ looker options.address options.patience }
-    ensures { OnLine (CountedWhere (goes_on trial) (LooksAt options) result.1 result.0) (L.told line.old) (L.told line.new) }
+    ensures made { OnLine (CountedWhere (goes_on trial) (LooksAt options) result.1 result.0) (L.told line.old) (L.told line.new) }
+    ensures left { LeftBy LeavesLook result.0 (line_told L.Line line.old ⇒ line_told L.Line line.new) }
+{
+    if !goes_on(trial) {
+        return (None, 0);
+    }
+    let (sighting, changed) = look(core, options, line, onlooker);
+    (Some(sighting), changed)
+}
+
+// Whether there was a trial, and the line goes on behind it.
+fn goes_on(trial: Option<TrialFindings>) -> bool
+    ensures { result ≡ goes_on trial }
 {
     match trial {
-        None => (None, 0),
-        Some(
-            TrialFindings {
-                end: TrialEnd::LineFailed(_),
-                ..
-            },
-        ) => (None, 0),
-        Some(_) => {
-            let (sighting, changed) = look(core, options, line, onlooker);
-            (Some(sighting), changed)
-        }
+        Some(found) => has_line(found.end),
+        None => false,
+    }
+}
+
+// Whether the line goes on behind a trial that ended so.
+fn has_line(end: TrialEnd) -> bool
+    ensures { result ≡ has_line end }
+{
+    match end {
+        TrialEnd::CutOff(Cut::LineFailed(_)) => false,
+        _ => true,
     }
 }
 
@@ -272,7 +292,8 @@ fn restore<L: Line>(
     line: &mut L,
 ) -> Option<bool>
     requires { HasDeposit options found.now.first deposit }
-    ensures { OnLine (MadeWhere (stores (verdict_of found.now)) (PutsBack options (number_in found.now.first)) result) (L.told line.old) (L.told line.new) }
+    ensures made { OnLine (MadeWhere (stores (verdict_of found.now)) (PutsBack options (number_in found.now.first)) result) (L.told line.old) (L.told line.new) }
+    ensures left { LeftBy LeavesDeposit result (line_told L.Line line.old ⇒ line_told L.Line line.new) }
 {
     match (judge(found), deposit) {
         (Verdict::Stores, Some(deposit)) => Some(put_back(deposit, options, line)),
@@ -289,6 +310,7 @@ fn find_memory<L: Line, O: Onlooker>(
     onlooker: &O,
 ) -> Result<(Option<Extent>, u64), AllocError>
     ensures searched { IfOk result (λ s. OnLine (CountedWhere (forgets verdict) (IsSearch options) s.1 s.0) (L.told line.old) (L.told line.new)) }
+    ensures left { IfOk result (λ s. LeftBy LeavesSearch s.0 (line_told L.Line line.old ⇒ line_told L.Line line.new)) }
     ensures wanting { OnErr result ((forgets verdict ≡ true) × SaysNothing (L.told line.old) (L.told line.new)) }
 {
     match verdict {
@@ -306,8 +328,7 @@ fn extent_of(search: Search) -> Extent
 {
     match search {
         Search::Ends(top) => Extent::Top(top),
-        Search::Stopped(Stop::Ended(_)) => Extent::GaveUp,
-        Search::Stopped(Stop::TurnsOver) => Extent::TurnsOver,
-        Search::Stopped(Stop::LineFailed(fault)) => Extent::LineFailed(fault),
+        Search::Stopped(Ok(_)) => Extent::GaveUp,
+        Search::Stopped(Err(cut)) => Extent::CutOff(cut),
     }
 }

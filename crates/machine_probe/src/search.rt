@@ -1,4 +1,4 @@
-use looking_engine::Stop;
+use engine::Cut;
 use reading_core::End;
 
 /// How a search for the end of memory came out.
@@ -9,7 +9,7 @@ pub enum Search {
     Ends(u16),
 
     /// A pass was not brought to its end: the host gave up, the line failed, or the turns were over.
-    Stopped(Stop<End>),
+    Stopped(Result<End, Cut>),
 }
 
 /// What a search for the end of memory came to.

@@ -14,6 +14,7 @@ use Rattle.machine_look.specs.VerifyReport.{difference_lines, last_lines, verify
 use Rattle.tape_shelf.proofs.OnShelf.{error_is}
 use Rattle.machine_look.proofs.Faults.{no_value}
 use Rattle.machine_look.proofs.Verified.{compare_fault, differ_is, last_is, verified_of}
+use Rattle.console_lines.specs.Path.{call_of}
 use Rattle.machine_look.proofs.verifying.verify.Goals as goal
 
 pub returns-in_err-core-clause-ok : goal.returns-in_err-core-clause-ok
@@ -22,7 +23,7 @@ returns-in_err-core-clause-ok g c = no_value c.from_residual.result _ _ c.from_r
 pub returns-in_err-core-clause-err : goal.returns-in_err-core-clause-err
 returns-in_err-core-clause-err g c =
     error_is c.from_residual.result Memory
-    (IsVerifyFault c.args.plan.now c.args.options (console_told g.R.Reach g.W.Write c.args.console.now c.args.out.now ⇒ console_told g.R.Reach g.W.Write c.args.console.now c.args.out.now))
+    (IsVerifyFault c.args.plan.now c.args.options (console_told g.C.Consoles g.W.Write (call_of c.args.dial) c.args.consoles.now c.args.out.now ⇒ console_told g.C.Consoles g.W.Write (call_of c.args.dial) c.args.consoles.now c.args.out.now))
     c.from_residual.ensures.1 (refl, refl, Keeps-refl (g.W.Write.contents c.args.out.now))
 
 pub returns-in_err-core-2-clause-ok : goal.returns-in_err-core-2-clause-ok
@@ -30,8 +31,8 @@ returns-in_err-core-2-clause-ok g c = no_value c.from_residual-in_err-core-2.res
 
 pub returns-in_err-core-2-clause-err : goal.returns-in_err-core-2-clause-err
 returns-in_err-core-2-clause-err g c =
-    let before = console_told g.R.Reach g.W.Write c.args.console.now c.args.out.now in
-    let after = console_told g.R.Reach g.W.Write c.compare_over.new.console c.compare_over.new.out in
+    let before = console_told g.C.Consoles g.W.Write (call_of c.args.dial) c.args.consoles.now c.args.out.now in
+    let after = console_told g.C.Consoles g.W.Write (call_of c.args.dial) c.compare_over.new.consoles c.compare_over.new.out in
     error_is c.from_residual-in_err-core-2.result c.in_err-core-2.field-0.0 (IsVerifyFault c.args.plan.now c.args.options (before ⇒ after)) c.from_residual-in_err-core-2.ensures.1
     (compare_fault c.args.plan.now c.args.options c.words-words.result.now c.in_ok-core.core (before ⇒ after) c.in_err-core-2.field-0.0 c.words-words.ensures.value c.in_ok-core.ensures.begun c.in_err-core-2.ensures.fault)
 
@@ -40,8 +41,8 @@ returns-in_err-write_and_flush-clause-ok g c = no_value c.from_residual-in_err-w
 
 pub returns-in_err-write_and_flush-clause-err : goal.returns-in_err-write_and_flush-clause-err
 returns-in_err-write_and_flush-clause-err g c =
-    let before = console_told g.R.Reach g.W.Write c.args.console.now c.args.out.now in
-    let after = console_told g.R.Reach g.W.Write c.compare_over.new.console c.write_and_flush.new.out in
+    let before = console_told g.C.Consoles g.W.Write (call_of c.args.dial) c.args.consoles.now c.args.out.now in
+    let after = console_told g.C.Consoles g.W.Write (call_of c.args.dial) c.compare_over.new.consoles c.write_and_flush.new.out in
     let plan = c.args.plan.now in
     let look = c.in_ok-core-2.ensures.look in
     let last = c.in_ok-core-2.core in
@@ -65,8 +66,8 @@ returns-in_err-write_and_flush-clause-err g c =
 
 pub returns-clause-ok : goal.returns-clause-ok
 returns-clause-ok g c =
-    let before = console_told g.R.Reach g.W.Write c.args.console.now c.args.out.now in
-    let after = console_told g.R.Reach g.W.Write c.compare_over.new.console c.write_and_flush.new.out in
+    let before = console_told g.C.Consoles g.W.Write (call_of c.args.dial) c.args.consoles.now c.args.out.now in
+    let after = console_told g.C.Consoles g.W.Write (call_of c.args.dial) c.compare_over.new.consoles c.write_and_flush.new.out in
     let plan = c.args.plan.now in
     let look = c.in_ok-core-2.ensures.look in
     let last = c.in_ok-core-2.core in

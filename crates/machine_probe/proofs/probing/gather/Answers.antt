@@ -10,6 +10,7 @@ use Rattle.machine_probe.specs.Probe.{IsReport, OverLine}
 use Rattle.machine_probe.specs.ProbeFault.{IsUnreported, way_told}
 use Rattle.machine_probe.specs.Runs.{OnLine}
 use Rattle.machine_probe.proofs.Faults.{error_is, no_ok, no_value}
+use Rattle.console_lines.specs.Path.{call_of}
 use Rattle.machine_probe.proofs.probing.gather.Goals as goal
 
 pub returns-in_err-lookers-clause-report : goal.returns-in_err-lookers-clause-report
@@ -20,8 +21,8 @@ returns-in_err-lookers-clause-asked g c = no_ok c.from_residual.result _ _ c.fro
 
 pub returns-in_err-lookers-clause-fault : goal.returns-in_err-lookers-clause-fault
 returns-in_err-lookers-clause-fault g c =
-    let told = way_told g.R.Reach c.args.console.now in
-    error_is c.from_residual.result Memory (IsUnreported (OverLine g.R.Line.Line) c.args.options (told ⇒ told)) c.from_residual.ensures.1 (inl (record { not_asked = refl; no_line = refl }))
+    let told = way_told g.C.Consoles (call_of c.args.dial) c.args.consoles.now in
+    error_is c.from_residual.result Memory (IsUnreported (OverLine g.C.Line.Line) c.args.options (told ⇒ told)) c.from_residual.ensures.1 (inl (record { not_asked = refl; no_line = refl }))
 
 pub returns-in_err-line-clause-report : goal.returns-in_err-line-clause-report
 returns-in_err-line-clause-report g c = no_value c.from_residual-in_err-line.result _ _ c.from_residual-in_err-line.ensures.1
@@ -31,29 +32,30 @@ returns-in_err-line-clause-asked g c = no_ok c.from_residual-in_err-line.result 
 
 pub returns-in_err-line-clause-fault : goal.returns-in_err-line-clause-fault
 returns-in_err-line-clause-fault g c =
-    error_is c.from_residual-in_err-line.result Connect (IsUnreported (OverLine g.R.Line.Line) c.args.options (way_told g.R.Reach c.args.console.now ⇒ way_told g.R.Reach c.reach.new.self))
+    error_is c.from_residual-in_err-line.result Connect (IsUnreported (OverLine g.C.Line.Line) c.args.options (way_told g.C.Consoles (call_of c.args.dial) c.args.consoles.now ⇒ way_told g.C.Consoles (call_of c.args.dial) c.reach.new.self))
     c.from_residual-in_err-line.ensures.1 (in_vain _ _ _ c.in_err-line.field-0.0 c.in_err-line.ensures.asked, c.in_err-line.ensures.lines)
 
 pub returns-in-Ok-clause-report : goal.returns-in-Ok-clause-report
 returns-in-Ok-clause-report g c =
-    let told = g.R.Line.Line.told in
     let last = c.report_noted-outcome.result.1 in (
       c.in_ok-line.line,
       last,
-      subst (λ lines. Gains lines (g.R.Reach.lines c.let_go.new.self) (line_told g.R.Line.Line last ∷ [])) c.in_ok-line.ensures.lines c.let_go.ensures.lines,
-      subst (λ outcome. IfOk outcome (IsReport c.args.options (told c.in_ok-line.line ⇒ told last) c.report_noted-outcome.new.report.items)) c.in-Ok.is c.report_noted-outcome.ensures.report,
+      c.in_ok-line.ensures.fresh,
+      subst (λ lines. Gains lines (g.C.Consoles.lines c.let_go.new.self) (line_told g.C.Line.Line last ∷ [])) c.in_ok-line.ensures.lines c.let_go.ensures.lines,
+      subst (λ outcome. IfOk outcome (IsReport c.args.options (line_told g.C.Line.Line c.in_ok-line.line ⇒ line_told g.C.Line.Line last) c.report_noted-outcome.new.report.items)) c.in-Ok.is c.report_noted-outcome.ensures.report,
     )
 
 pub returns-in-Err-clause-fault : goal.returns-in-Err-clause-fault
 returns-in-Err-clause-fault g c =
-    let told = g.R.Line.Line.told in
+    let told = g.C.Line.Line.told in
     let last = c.report_noted-outcome.result.1 in
     inr (
       c.in_ok-line.line,
       last,
-      subst (λ lines. Gains lines (g.R.Reach.lines c.let_go.new.self) (line_told g.R.Line.Line last ∷ [])) c.in_ok-line.ensures.lines c.let_go.ensures.lines,
+      c.in_ok-line.ensures.fresh,
+      subst (λ lines. Gains lines (g.C.Consoles.lines c.let_go.new.self) (line_told g.C.Line.Line last ∷ [])) c.in_ok-line.ensures.lines c.let_go.ensures.lines,
       record {
-        asked = subst (λ asked. Gains (g.R.Reach.asked c.args.console.now) asked (asked_once (g.R.Reach.call c.args.console.now))) (sym c.let_go.ensures.asked) c.in_ok-line.ensures.asked;
+        asked = subst (λ asked. Gains (g.C.Consoles.asked c.args.consoles.now) asked (asked_once (call_of c.args.dial))) (sym c.let_go.ensures.asked) c.in_ok-line.ensures.asked;
         fresh = c.in_ok-line.ensures.fresh.nothing_said;
         runs = subst (λ outcome. OnErr outcome (OnLine (IsBrokenOff c.args.options) (told c.in_ok-line.line) (told last))) c.in-Err.is c.report_noted-outcome.ensures.wanting;
       },

@@ -1,6 +1,6 @@
-//! A way to a machine in memory.
+//! A machine in memory, at which every name leads to one console.
 
-use console_lines::Reach;
+use console_lines::{Consoles, Dial};
 use honest_line::MemoryLine;
 use host_devices::LineFault;
 use odt_machine::Odt;
@@ -9,9 +9,15 @@ use std::alloc::Global;
 // How much may be said on a line.
 const ROOM: u32 = 1000;
 
-/// A way to a machine in memory, or to none.
+/// One of the names.
+pub(crate) const CALLED: Dial<'static> = Dial {
+    name: "127.0.0.1:2323",
+    quiet_ms: 100,
+};
+
+/// A machine in memory, or none.
 #[derive(Drop)]
-pub(crate) struct MemoryReach {
+pub(crate) struct MemoryConsoles {
     alloc: Global,
 
     /// The machine, while no line to it is open.
@@ -21,17 +27,17 @@ pub(crate) struct MemoryReach {
     fail_at: Option<u64>,
 }
 
-impl MemoryReach {
-    /// A way to this machine, whose lines do not fail.
-    pub(crate) fn new(alloc: Global, odt: Option<Odt>) -> MemoryReach {
-        MemoryReach {
+impl MemoryConsoles {
+    /// This machine, whose lines do not fail.
+    pub(crate) fn new(alloc: Global, odt: Option<Odt>) -> MemoryConsoles {
+        MemoryConsoles {
             alloc,
             odt,
             fail_at: None,
         }
     }
 
-    /// From now on it leads to another machine, or to none.
+    /// From now on there is another machine, or none.
     pub(crate) fn put_machine(&mut self, odt: Option<Odt>) {
         self.odt = odt;
     }
@@ -42,10 +48,10 @@ impl MemoryReach {
     }
 }
 
-impl Reach for MemoryReach {
+impl Consoles for MemoryConsoles {
     type Line = MemoryLine;
 
-    fn reach(&mut self) -> Result<MemoryLine, LineFault> {
+    fn reach(&mut self, _dial: Dial<'_>) -> Result<MemoryLine, LineFault> {
         let Some(odt) = self.odt.take() else {
             return Err(LineFault::Connect);
         };

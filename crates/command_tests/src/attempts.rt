@@ -22,6 +22,7 @@ pub const OUT_OF_MEMORY: &str = "ldaodt: out of memory\n";
 #[derive(Drop)]
 pub struct Ended {
     pub status: Status,
+    pub changed: u32,
     pub out: Vec<u8>,
     pub err: Vec<u8>,
 }
@@ -31,6 +32,7 @@ impl Ended {
     pub(crate) fn with_room(alloc: Global) -> Result<Ended, AllocError> {
         Ok(Ended {
             status: Status::Uncertain,
+            changed: 0,
             out: Vec::with_capacity(alloc, 1024)?,
             err: Vec::with_capacity(alloc, 1024)?,
         })
@@ -60,7 +62,7 @@ pub(crate) fn run<F: Locks + Devices + Net + Clock>(
     streams.out.clear();
     streams.err.clear();
     let system = SharedSystem::of(system);
-    let (_, status) = attempt(
+    let (_, attempted) = attempt(
         system,
         alloc,
         &request,
@@ -68,7 +70,8 @@ pub(crate) fn run<F: Locks + Devices + Net + Clock>(
         NOBODY,
         &Witness::new(),
     );
-    ended.status = status;
+    ended.status = attempted.status;
+    ended.changed = attempted.changed;
     ended.out = streams.out;
     ended.err = streams.err;
 }

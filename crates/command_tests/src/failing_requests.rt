@@ -38,7 +38,7 @@ fn is_told_alone<W: Output>(
     };
     let system = SimulatedSystem::new(rt, SystemSetting { reads, ..AMPLE });
     let system = SharedSystem::of(&system);
-    let (_, status) = attempt(
+    let (_, attempted) = attempt(
         system,
         rt.alloc(),
         &request,
@@ -46,7 +46,7 @@ fn is_told_alone<W: Output>(
         NOBODY,
         &Witness::new(),
     );
-    status == Status::DeviceFailed && streams.err.as_slice() == line
+    attempted.status == Status::DeviceFailed && streams.err.as_slice() == line
 }
 
 // Whether a request whose input fails before the byte at this place says so and reads no more, where this is

@@ -6,7 +6,7 @@ ghost use Rattle.console_lines.specs.Dialling.{asked_first};
 ghost use Rattle.simulated_system.specs.LineRequests.{asked_by, request};
 ghost use Rattle.command_tests.specs.ToldSystem.{lines_told};
 
-use console_lines::{Consoles, is_path};
+use console_lines::{Consoles, Dial, is_path};
 use honest_line::MemoryLine;
 use host_devices::LineFault;
 use odt_machine::Odt;
@@ -71,7 +71,8 @@ impl<'a, R: Abort> Consoles for ToldConsoles<'a, R> {
 
     ghost lines = { λ consoles. Some (lines_told consoles.given_back.items) };
 
-    fn reach(&mut self, name: &str, quiet_ms: u32) -> Result<MemoryLine, LineFault> {
+    fn reach(&mut self, dial: Dial<'_>) -> Result<MemoryLine, LineFault> {
+        let Dial { name, quiet_ms } = dial;
         self.tell_name(name, quiet_ms);
         let Some(odt) = self.odt.take() else {
             return Err(LineFault::Connect);

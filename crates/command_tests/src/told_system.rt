@@ -62,7 +62,7 @@ pub(crate) fn attempt_told<'a, R: Abort + Files + Clock>(
 ) -> (ToldSystem<'a, R>, Ended)
     ensures { (rest : List ℕ) × IsAttempted request.now
         (moment_told system.entry (held_told input.now [] []) ⇒ moment_told result.0 (held_told rest result.1.out.items result.1.err.items))
-        result.1.status }
+        (record { status = result.1.status; changed = result.1.changed }) }
 {
     let ToldSystem {
         inputs,
@@ -75,7 +75,7 @@ pub(crate) fn attempt_told<'a, R: Abort + Files + Clock>(
         out: Vec::new(alloc),
         err: Vec::new(alloc),
     };
-    let (system, status) = attempt(
+    let (system, attempted) = attempt(
         system,
         alloc,
         request,
@@ -84,7 +84,8 @@ pub(crate) fn attempt_told<'a, R: Abort + Files + Clock>(
         &Witness::new(),
     );
     let ended = Ended {
-        status,
+        status: attempted.status,
+        changed: attempted.changed,
         out: streams.out,
         err: streams.err,
     };

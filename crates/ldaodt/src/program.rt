@@ -7,18 +7,20 @@ ghost use Rattle.request_values.specs.declared.request.Request.{Request};
 ghost use Rattle.request_values.specs.declared.request.PrintRequest.{PrintRequest};
 ghost use Rattle.request_values.specs.declared.request.TapeRequest.{TapeRequest};
 ghost use Rattle.endings.specs.declared.status.Status.{Status};
+ghost use Rattle.endings.specs.Failure.{IsPrinted, status_of};
 ghost use Rattle.endings.specs.Status.{status_code};
 ghost use Rattle.requests.specs.Moment.{moment};
 ghost use Rattle.requests.specs.Attempt.{IsAttempted};
-ghost use Rattle.ldaodt.specs.Answer.{IsAnswered, IsLoggedIf, around};
+ghost use Rattle.requests.specs.declared.attempted.Attempted.{Attempted};
+ghost use Rattle.ldaodt.specs.Answer.{IsAnswered, IsLoggedIf, around, without_line};
 
 use crate::followed::say_followed;
 use crate::misplaced::misplaced;
 use crate::names::Names;
 use command_line::{Wanted, explain, parse};
-use endings::{FaultOutput, Output, Status, Streams, print_failure};
+use endings::{Failure, FaultOutput, Output, Streams, print_failure};
 use request_values::Request;
-use requests::{Kinds, System, attempt};
+use requests::{Attempted, Kinds, System, attempt};
 use run_log::{FirstHeld, NotedOutput, Run, log_run};
 use std::alloc::Global;
 use std::io::{Print, Read};
@@ -50,9 +52,9 @@ pub(crate) fn program<
 ) -> (System<K>, u8)
     requires { FitsInMemory R.row }
     // With no words, the tape on the input is checked.
-    ensures checked { words.now ≡ [] → (status : Status)
-        × IsAttempted (Request.Tape (TapeRequest.Print PrintRequest.CheckInput)) (moment K.Disk.holds system streams.old ⇒ moment K.Disk.holds result.0 streams.new) status
-        × (result.1 ≡ status_code status) }
+    ensures checked { words.now ≡ [] → (ended : Attempted)
+        × IsAttempted (Request.Tape (TapeRequest.Print PrintRequest.CheckInput)) (moment K.Disk.holds system streams.old ⇒ moment K.Disk.holds result.0 streams.new) ended
+        × (result.1 ≡ status_code ended.status) }
     // Whatever the words are, what they ask for is tried, and told to a log where that is wanted, or they are explained.
     ensures answered { (status : Status)
         × IsAnswered (around (N.told rt.now) F.held) (map string_bytes words.now)
@@ -63,8 +65,8 @@ pub(crate) fn program<
         Ok(wanted) => {
             let request = &wanted.request;
             // A name that can't be what its place asks for is told, and nothing is done.
-            let (system, status) = match misplaced(rt, request) {
-                Some(failure) => (system, print_failure(alloc, failure, &mut streams.err)),
+            let (system, ended) = match misplaced(rt, request) {
+                Some(failure) => (system, tell_misplaced(alloc, failure, &mut streams.err)),
                 None => {
                     if let Some(terminal) = terminal {
                         say_followed(rt, alloc, terminal, request);
@@ -72,8 +74,8 @@ pub(crate) fn program<
                     attempt(system, alloc, request, streams, terminal, witness)
                 }
             };
-            log_if_wanted(alloc, &system, &wanted, status, witness.changed(), streams);
-            (system, status.code())
+            log_if_wanted(alloc, &system, &wanted, ended, streams);
+            (system, ended.status.code())
         }
         Err(answer) => {
             let status = explain(alloc, answer, streams);
@@ -82,17 +84,26 @@ pub(crate) fn program<
     }
 }
 
-// Says the line of a run that ended with this status, and whose line changed so many characters, where one at a machine
-// is to be in a log.
+// Tells of a name that is out of place.
+fn tell_misplaced<E: FaultOutput>(alloc: Global, failure: Failure<'_>, err: &mut E) -> Attempted
+    ensures printed { IsPrinted (E.said err.old) (E.said err.new) failure.entry }
+    ensures ended { result ≡ without_line (status_of failure.entry) }
+{
+    Attempted {
+        status: print_failure(alloc, failure, err),
+        changed: 0,
+    }
+}
+
+// Says the line of a run that came to this, where one at a machine is to be in a log.
 fn log_if_wanted<K: Kinds, R: Read, W: Output, E: FaultOutput, F: FirstHeld>(
     alloc: Global,
     system: &System<K>,
     wanted: &Wanted<'_>,
-    status: Status,
-    changed: u32,
+    ended: Attempted,
     streams: &mut Streams<R, NotedOutput<W, F>, E>,
 )
-    ensures { IsLoggedIf F.held wanted.now status streams.old streams.new }
+    ensures { IsLoggedIf F.held wanted.now ended streams.old streams.new }
 {
     if !wanted.log {
         return;
@@ -101,9 +112,9 @@ fn log_if_wanted<K: Kinds, R: Read, W: Output, E: FaultOutput, F: FirstHeld>(
         let report = streams.out.notes();
         let run = Run {
             request,
-            status,
+            status: ended.status,
             report,
-            changed,
+            changed: ended.changed,
         };
         log_run(alloc, &system.clock, &run, &mut streams.err);
     }

@@ -1,6 +1,6 @@
-mod Attempted
+mod Attempts
 mod Loaded
 mod Looked
 mod Made
 mod Saved
-mod Ways
+mod Consoles

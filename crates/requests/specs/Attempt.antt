@@ -1,6 +1,6 @@
 -- What becomes of each request: what the files that it names and standard input held decides what is written, the status, and the line
 -- on standard error, behind which may stand another, of changed characters.
-use Rattle.std.specs.Prelude.{◌≡◌, ◌⊎◌, ℕ, Bool, Result, Ok, Err}
+use Rattle.std.specs.Prelude.{◌≡◌, ◌⊎◌, Bool, Result, Ok, Err}
 use Rattle.endings.specs.declared.failure.Failure.{Failure}
 use Rattle.endings.specs.declared.status.Status.{Status}
 use Rattle.endings.specs.Held.{Held}
@@ -8,6 +8,7 @@ use Rattle.endings.specs.Failure.{status_of, is_unheard}
 use Rattle.endings.specs.FaultOutput.{StandardError}
 use Rattle.endings.specs.SystemReason.{IsPrintedWithReason}
 use Rattle.requests.specs.ChangedLine.{IsChangeTold}
+use Rattle.requests.specs.declared.attempted.Attempted.{Attempted}
 use Rattle.requests.specs.Loading.{AreLoaded, AreUnloaded}
 use Rattle.requests.specs.Probing.{IsConsoleProbed, IsConsoleUnprobed}
 use Rattle.requests.specs.Saving.{AreWordsSaved, AreWordsUnsaved}
@@ -67,13 +68,12 @@ pub record IsFailedAloud (request : Request) (moments : Change Moment) (status :
 abbrev pub IsOver : Request → Change Moment → Status → Type 0
 IsOver request moments status = IsDoneQuietly request moments status ⊎ IsFailedAloud request moments status
 
--- a request was attempted from one moment to another, and the program ends so; behind all that, where it is one at a machine, standard error may
--- have been told that some number of characters came changed
-pub record IsAttempted (request : Request) (moments : Change Moment) (status : Status) : Type 0 where
+-- a request was attempted from one moment to another, and came to this; behind all that, where it is one at a machine, standard error was told how
+-- many characters came changed, if any did
+pub record IsAttempted (request : Request) (moments : Change Moment) (ended : Attempted) : Type 0 where
   pub between : StandardError
-  pub over : IsOver request (when_error_was between moments) status
-  pub count : ℕ
-  pub changed : IsChangeTold request count between moments.after.held.err
+  pub over : IsOver request (when_error_was between moments) ended.status
+  pub changed : IsChangeTold request ended.changed between moments.after.held.err
 
 -- how the program ends with what a request came to: it was done, and nothing more is said; or it failed, and standard error tells why, where
 -- somebody is to hear of it

@@ -2,6 +2,8 @@
 use Rattle.std.specs.Prelude.{◌≡◌, ℕ, Bool, if◌then◌else◌, List, Result, Ok, Err}
 use Rattle.host_devices.specs.declared.fault.LineFault.{LineFault}
 use Rattle.load_engine.specs.Driving.{LoadStop as Stop}
+use Rattle.engine.specs.declared.stop.Cut.{Cut}
+use Rattle.engine.specs.declared.stop.Cut.TheVariants as why
 use Rattle.engine.specs.declared.stop.Stop.TheVariants as stop
 use Rattle.machine_load.specs.declared.fault.LoadFault.TheVariants as load
 use Rattle.machine_load.specs.declared.load_end.LoadEnd.{LoadEnd}
@@ -12,8 +14,8 @@ use Rattle.machine_look.specs.declared.save_end.SaveEnd.TheVariants as save
 use Rattle.machine_look.specs.declared.verify_end.VerifyEnd.{VerifyEnd}
 use Rattle.machine_look.specs.declared.verify_end.VerifyEnd.TheVariants as verify
 use Rattle.machine_memory.specs.declared.memory_end.MemoryEnd.{MemoryEnd}
-use Rattle.machine_memory.specs.declared.memory_end.MemoryEnd.TheVariants as memory
-use Rattle.machine_memory.specs.declared.memory_fault.MemoryFault.TheVariants as memory_fault
+use Rattle.memory_report.specs.declared.test_end.TestEnd.{TestEnd}
+use Rattle.memory_report.specs.declared.test_end.TestEnd.TheVariants as test
 use Rattle.machine_probe.specs.declared.probe_fault.ProbeFault.TheVariants as probe_fault
 use Rattle.probe_report.specs.declared.probe_end.ProbeEnd.{ProbeEnd}
 use Rattle.probe_report.specs.declared.probe_end.ProbeEnd.TheVariants as probe
@@ -24,7 +26,7 @@ use Rattle.endings.specs.declared.failure.Failure.TheVariants.{CannotConnect, Li
 use Rattle.endings.specs.declared.status.Status.{Status}
 use Rattle.endings.specs.declared.status.Status.TheVariants.{Done, Differs, NotLoaded}
 use Rattle.requests.specs.declared.request_fault.RequestFault.{RequestFault}
-use Rattle.requests.specs.declared.request_fault.RequestFault.TheVariants.{Load, Look, Probe, Test, Shelf}
+use Rattle.requests.specs.declared.request_fault.RequestFault.TheVariants.{Load, Look, Probe, Shelf}
 use Rattle.tape_shelf.specs.declared.shelf.ShelfFault.TheVariants as shelf
 use Rattle.input_files.specs.Opening.{Name}
 use Rattle.endings.specs.Failure.{NamesFile}
@@ -51,16 +53,18 @@ IsFailureOf (Shelf shelf.Write) console file failure = Names CannotWriteFile fil
 IsFailureOf (Load load.Connect) console file failure = Names CannotConnect console failure
 IsFailureOf (Look look.Connect) console file failure = Names CannotConnect console failure
 IsFailureOf (Probe probe_fault.Connect) console file failure = Names CannotConnect console failure
-IsFailureOf (Test memory_fault.Connect) console file failure = Names CannotConnect console failure
 IsFailureOf (Load load.WriteOutput) console file failure = failure ≡ CannotWrite
 IsFailureOf (Look look.WriteOutput) console file failure = failure ≡ CannotWrite
 IsFailureOf (Probe probe_fault.WriteOutput) console file failure = failure ≡ CannotWrite
-IsFailureOf (Test memory_fault.WriteOutput) console file failure = failure ≡ CannotWrite
 IsFailureOf (Load load.Memory) console file failure = failure ≡ NoMemory
 IsFailureOf (Look look.Memory) console file failure = failure ≡ NoMemory
 IsFailureOf (Probe probe_fault.Memory) console file failure = failure ≡ NoMemory
-IsFailureOf (Test memory_fault.Memory) console file failure = failure ≡ NoMemory
 IsFailureOf (Shelf shelf.Memory) console file failure = failure ≡ NoMemory
+
+-- how the program ends where an engine was cut off: where its line failed, that is a failure and no ending
+abbrev pub after_cut : Cut → Result Status Failure
+after_cut (why.LineFailed fault) = Err (LineFailed fault)
+after_cut why.TurnsOver = Ok NotLoaded
 
 -- how a load fails whose line did: once the start was typed, or may have been, it says so
 abbrev pub line_failure : Bool → LineFault → Failure
@@ -68,14 +72,14 @@ line_failure marked fault = if marked then StartInDoubt fault else LineFailed fa
 
 -- how a load fails all the same whose engine stopped so: the line failed, or the record's keeper
 abbrev pub IsStopFailure : Stop → Bool → List ℕ → Failure → Type 0
-IsStopFailure (stop.LineFailed fault) marked file failure = failure ≡ line_failure marked fault
+IsStopFailure (stop.CutOff (why.LineFailed fault)) marked file failure = failure ≡ line_failure marked fault
 IsStopFailure (stop.KeepFailed fault) marked file failure = Names CannotWriteFile file failure
 IsStopFailure other marked file failure = ⊥
 
 -- how the program ended where the engine stopped so: where its line or its keeper failed, that is a failure and no ending
 abbrev pub IsStopStatus : Stop → Status → Type 0
 IsStopStatus (stop.Ended end) status = status ≡ end_status end
-IsStopStatus stop.TurnsOver status = status ≡ NotLoaded
+IsStopStatus (stop.CutOff why.TurnsOver) status = status ≡ NotLoaded
 IsStopStatus other status = ⊥
 
 -- how a load that was reported fails all the same: its engine failed, or that of its looks; or memory does not hold what its record says
@@ -90,15 +94,14 @@ IsLoadEndStatus (load_end.Driven stop) status = IsStopStatus stop status
 IsLoadEndStatus (load_end.Unfinished stop) status = IsStopStatus stop status
 IsLoadEndStatus (load_end.Stale address) status = ⊥
 
--- how the program ends after a `verify` that ended so: where its line failed, that is a failure and no ending
+-- how the program ends after a `verify` that ended so
 abbrev pub after_verify : VerifyEnd → Result Status Failure
 after_verify verify.Same = Ok Done
 after_verify verify.Differs = Ok Differs
 after_verify verify.Changed = Ok NotLoaded
 after_verify (verify.NoWord address) = Ok NotLoaded
 after_verify verify.GaveUp = Ok NotLoaded
-after_verify verify.TurnsOver = Ok NotLoaded
-after_verify (verify.LineFailed fault) = Err (LineFailed fault)
+after_verify (verify.CutOff cut) = after_cut cut
 
 -- how the program ended where a `save` ended so
 abbrev pub IsSaveEndStatus : SaveEnd → Status → Type 0
@@ -106,30 +109,31 @@ IsSaveEndStatus save.Saved status = status ≡ Done
 IsSaveEndStatus save.Changed status = status ≡ NotLoaded
 IsSaveEndStatus (save.NoWord address) status = status ≡ NotLoaded
 IsSaveEndStatus save.GaveUp status = status ≡ NotLoaded
-IsSaveEndStatus save.TurnsOver status = status ≡ NotLoaded
+IsSaveEndStatus (save.CutOff cut) status = after_cut cut ≡ Ok status
 IsSaveEndStatus other status = ⊥
 
 -- how a `save` to a file of this name fails that ended so: its line failed, or memory does not hold what is beside the file
 abbrev pub IsSaveEndFailure : SaveEnd → List ℕ → Failure → Type 0
-IsSaveEndFailure (save.LineFailed fault) file failure = failure ≡ LineFailed fault
+IsSaveEndFailure (save.CutOff cut) file failure = after_cut cut ≡ Err failure
 IsSaveEndFailure (save.Stale address) file failure = Names PartStale file failure
 IsSaveEndFailure other file failure = ⊥
 
--- how the program ends after a `probe` that ended so: where its line failed, that is a failure and no ending
+-- how the program ends after a `probe` that ended so
 abbrev pub after_probe : ProbeEnd → Result Status Failure
 after_probe probe.Probed = Ok Done
 after_probe probe.NotTrusted = Ok NotLoaded
 after_probe probe.NoPrompt = Ok NotLoaded
 after_probe probe.GaveUp = Ok NotLoaded
 after_probe (probe.NoWord address) = Ok NotLoaded
-after_probe probe.TurnsOver = Ok NotLoaded
-after_probe (probe.LineFailed fault) = Err (LineFailed fault)
+after_probe (probe.CutOff cut) = after_cut cut
 
--- how the program ends after a test of memory that ended so: where its line failed, that is a failure and no ending
+-- how the program ends after a test of memory that ended so, where it is good or not
+abbrev pub by_test : Bool → TestEnd → Result Status Failure
+by_test good test.Tested = Ok (if good then Done else Differs)
+by_test good test.NotTrusted = Ok NotLoaded
+by_test good (test.NoWord address) = Ok NotLoaded
+by_test good test.GaveUp = Ok NotLoaded
+by_test good (test.CutOff cut) = after_cut cut
+
 abbrev pub after_test : MemoryEnd → Result Status Failure
-after_test (memory.Tested all_hold) = Ok (if all_hold then Done else Differs)
-after_test memory.NotTrusted = Ok NotLoaded
-after_test (memory.NoWord address) = Ok NotLoaded
-after_test memory.GaveUp = Ok NotLoaded
-after_test memory.TurnsOver = Ok NotLoaded
-after_test (memory.LineFailed fault) = Err (LineFailed fault)
+after_test tested = by_test tested.good tested.end

@@ -3,9 +3,11 @@ use Rattle.std.specs.Prelude.{◌≡◌, ◌⊎◌, ℕ, List, Option, Some, Non
 use Rattle.console_lines.specs.Console.{ConsoleTold}
 use Rattle.tape_image.specs.Plan.{PlanValue, starting}
 use Rattle.machine_load.specs.Asked.{Change, LoadTask, task, ◌⇒◌}
+use Rattle.machine_load.specs.Driving.{IsDrivenOn, in_memory, on_disk}
 use Rattle.machine_load.specs.GivenBack.{IsGivenBack}
-use Rattle.machine_load.specs.Load.{Ending}
-use Rattle.machine_load.specs.RecordDisk.{IsClosedBehind, RecordDisk, new_record}
+use Rattle.machine_load.specs.Load.{Ending, HowItGoesOn}
+use Rattle.machine_load.specs.RecordDisk.{IsClosedBehind, RecordDisk, left_by_none, new_record}
+use Rattle.record_file.specs.Reading.{OldText}
 use Rattle.machine_load.specs.Reporting.{AsksNoMore}
 use Rattle.machine_load.specs.Scene.{IsLoadReported, IsLoadUnreported, Scene}
 use Rattle.machine_load.specs.declared.fault.LoadFault.{LoadFault}
@@ -32,13 +34,19 @@ abbrev pub record_name : Option Name → List ℕ
 record_name None = codes "the record in memory"
 record_name (Some name) = name.now
 
--- a load as it was asked for, with the plan of its tapes
-pub record PlannedLoad : Type 0 where
+-- how a load goes on behind its looks: over a keeper of the record in the file that is named, or over one in memory
+abbrev pub goes_on_in : Option Name → HowItGoesOn
+goes_on_in None = IsDrivenOn in_memory
+goes_on_in (Some name) = IsDrivenOn on_disk
+
+-- a load as it was asked for, with the plan of its tapes, and how it goes on
+pub record PlannedLoad : Type 1 where
   pub plan : PlanValue
   pub request : LoadRequest
+  pub goes_so : HowItGoesOn
 
 abbrev pub planned_load : PlanValue → LoadRequest → PlannedLoad
-planned_load plan request = record { plan = plan; request = request }
+planned_load plan request = record { plan = plan; request = request; goes_so = goes_on_in request.record }
 
 -- what it is to do
 abbrev pub task_of : PlannedLoad → LoadTask
@@ -65,7 +73,7 @@ IsEndFailure request ending scenes failure =
 pub record IsLoadOver (load : PlannedLoad) (scenes : Change Scene) (status : Status) : Type 0 where
   pub ending : Ending
   pub between : Scene
-  pub reported : IsLoadReported (task_of load) (scenes.before ⇒ between) ending
+  pub reported : IsLoadReported load.goes_so (task_of load) (scenes.before ⇒ between) ending
   pub ended : IsEnded load.request ending (between ⇒ scenes.after) status
   pub no_more : AsksNoMore (between ⇒ scenes.after)
 
@@ -73,25 +81,30 @@ pub record IsLoadOver (load : PlannedLoad) (scenes : Change Scene) (status : Sta
 pub record IsLoadBroken (load : PlannedLoad) (scenes : Change Scene) (failure : Failure) : Type 0 where
   pub ending : Ending
   pub between : Scene
-  pub reported : IsLoadReported (task_of load) (scenes.before ⇒ between) ending
+  pub reported : IsLoadReported load.goes_so (task_of load) (scenes.before ⇒ between) ending
   pub is_so : IsEndFailure load.request ending (between ⇒ scenes.after) failure
   pub no_more : AsksNoMore (between ⇒ scenes.after)
 
 -- it came to nothing
 pub record IsLoadInVain (load : PlannedLoad) (scenes : Change Scene) (failure : Failure) : Type 0 where
   pub fault : LoadFault
-  pub is_so : IsLoadUnreported (task_of load) scenes fault
+  pub is_so : IsLoadUnreported load.goes_so (task_of load) scenes fault
   pub is_called : IsFailureOf (request_fault.Load fault) load.request.line.now (record_name load.request.record) failure
 
 -- it failed
 abbrev pub IsLoadFailure : PlannedLoad → Change Scene → Failure → Type 0
 IsLoadFailure load scenes failure = IsLoadInVain load scenes failure ⊎ IsLoadBroken load scenes failure
 
+-- what is found of earlier lives where the record is on no disk: nothing, since it is in memory alone
+abbrev pub left_without : Option RecordDisk → Option OldText
+left_without None = Some left_by_none
+left_without (Some disk) = None
+
 -- what is known of a load by what its console tells, with this record on a disk, which alone tells what the record is; a system does not tell in which
 -- order a load asks it
 abbrev pub scene_at : ConsoleTold → Option RecordDisk → Scene
 scene_at console disk = record {
-  setting = record { around = record { steps = None; record_text = None; disk = disk }; lines = console.lines; out = console.out };
+  setting = record { around = record { steps = None; record_text = None; disk = disk; left = left_without disk }; lines = console.lines; out = console.out };
   asked = console.asked;
   call = console.call;
 }

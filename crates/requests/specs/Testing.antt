@@ -5,7 +5,7 @@ use Rattle.machine_probe.specs.Probe.{OverSome}
 use Rattle.machine_memory.specs.MemoryFault.{IsMemoryFault}
 use Rattle.machine_memory.specs.Tested.{IsMemoryTested}
 use Rattle.machine_memory.specs.declared.memory_end.MemoryEnd.{MemoryEnd}
-use Rattle.machine_memory.specs.declared.memory_fault.MemoryFault.{MemoryFault}
+use Rattle.machine_probe.specs.declared.probe_fault.ProbeFault.{ProbeFault}
 use Rattle.machine_memory.specs.declared.memory_options.MemoryOptions.{MemoryOptions}
 use Rattle.endings.specs.declared.failure.Failure.{Failure}
 use Rattle.endings.specs.declared.status.Status.{Status}
@@ -25,7 +25,7 @@ abbrev pub IsTestEnded : MemoryTest → Change ConsoleTold → MemoryEnd → Typ
 IsTestEnded request console end = IsMemoryTested OverSome (test_options request) console end
 
 -- a test came to nothing, or its report was cut short
-abbrev pub IsTestUnreported : MemoryTest → Change ConsoleTold → MemoryFault → Type 0
+abbrev pub IsTestUnreported : MemoryTest → Change ConsoleTold → ProbeFault → Type 0
 IsTestUnreported request console fault = IsMemoryFault OverSome (test_options request) console fault
 
 -- memory was tested
@@ -34,9 +34,9 @@ IsTestOver request console status = (end : MemoryEnd) × IsTestEnded request con
 
 -- a test came to nothing
 pub record IsTestInVain (request : MemoryTest) (console : Change ConsoleTold) (failure : Failure) : Type 0 where
-  pub fault : MemoryFault
+  pub fault : ProbeFault
   pub is_so : IsTestUnreported request console fault
-  pub is_called : IsFailureOf (request_fault.Test fault) request.look.line.now request.look.line.now failure
+  pub is_called : IsFailureOf (request_fault.Probe fault) request.look.line.now request.look.line.now failure
 
 -- a test failed: it came to nothing, or it was reported and its line had failed
 abbrev pub IsTestFailure : MemoryTest → Change ConsoleTold → Failure → Type 0

@@ -1,13 +1,14 @@
 //! What a load, a look, a probe or a test comes to that was reported: the exit status, or the failure that names what was at fault.
 ghost use Rattle.std.specs.Prelude.{◌≡◌, IfOk, IfErr};
 ghost use Rattle.requests.specs.Ending.{IsLoadEndFailure, IsLoadEndStatus, IsSaveEndFailure, IsSaveEndStatus, IsStopFailure, IsStopStatus};
-ghost use Rattle.requests.specs.Ending.{after_probe, after_test, after_verify};
+ghost use Rattle.requests.specs.Ending.{after_cut, after_probe, after_test, after_verify};
 
 use endings::{Failure, Status};
+use engine::Cut;
 use load_engine::Stop;
 use machine_load::LoadEnd;
 use machine_look::{SaveEnd, VerifyEnd};
-use machine_memory::MemoryEnd;
+use machine_memory::{MemoryEnd, TestEnd};
 use probe_report::ProbeEnd;
 
 /// The status after a load that ended so and was reported, or the failure that it is where its line or its
@@ -31,10 +32,20 @@ fn after_stop(stop: Stop, marked: bool, file: &str) -> Result<Status, Failure<'_
 {
     match stop {
         Stop::Ended(end) => Ok(Status::of_end(end)),
-        Stop::LineFailed(fault) if marked => Err(Failure::StartInDoubt(fault)),
-        Stop::LineFailed(fault) => Err(Failure::LineFailed(fault)),
         Stop::KeepFailed(_) => Err(Failure::CannotWriteFile(file)),
-        Stop::TurnsOver => Ok(Status::NotLoaded),
+        Stop::CutOff(Cut::LineFailed(fault)) if marked => Err(Failure::StartInDoubt(fault)),
+        Stop::CutOff(Cut::LineFailed(fault)) => Err(Failure::LineFailed(fault)),
+        Stop::CutOff(Cut::TurnsOver) => Ok(Status::NotLoaded),
+    }
+}
+
+// The status where turns were over, or the failure that it is where a line failed.
+fn after_cut(cut: Cut) -> Result<Status, Failure<'static>>
+    ensures { result ≡ after_cut cut }
+{
+    match cut {
+        Cut::LineFailed(fault) => Err(Failure::LineFailed(fault)),
+        Cut::TurnsOver => Ok(Status::NotLoaded),
     }
 }
 
@@ -45,10 +56,8 @@ pub(crate) fn after_verify(end: VerifyEnd) -> Result<Status, Failure<'static>>
     match end {
         VerifyEnd::Same => Ok(Status::Done),
         VerifyEnd::Differs => Ok(Status::Differs),
-        VerifyEnd::Changed | VerifyEnd::NoWord(_) | VerifyEnd::GaveUp | VerifyEnd::TurnsOver => Ok(
-            Status::NotLoaded,
-        ),
-        VerifyEnd::LineFailed(fault) => Err(Failure::LineFailed(fault)),
+        VerifyEnd::Changed | VerifyEnd::NoWord(_) | VerifyEnd::GaveUp => Ok(Status::NotLoaded),
+        VerifyEnd::CutOff(cut) => after_cut(cut),
     }
 }
 
@@ -61,8 +70,8 @@ pub(crate) fn after_save(end: SaveEnd, file: &str) -> Result<Status, Failure<'_>
     match end {
         SaveEnd::Saved => Ok(Status::Done),
         SaveEnd::Changed => Ok(Status::NotLoaded),
-        SaveEnd::NoWord(_) | SaveEnd::GaveUp | SaveEnd::TurnsOver => Ok(Status::NotLoaded),
-        SaveEnd::LineFailed(fault) => Err(Failure::LineFailed(fault)),
+        SaveEnd::NoWord(_) | SaveEnd::GaveUp => Ok(Status::NotLoaded),
+        SaveEnd::CutOff(cut) => after_cut(cut),
         SaveEnd::Stale(_) => Err(Failure::PartStale(file)),
     }
 }
@@ -73,24 +82,21 @@ pub(crate) fn after_probe(end: ProbeEnd) -> Result<Status, Failure<'static>>
 {
     match end {
         ProbeEnd::Probed => Ok(Status::Done),
-        ProbeEnd::NotTrusted
-        | ProbeEnd::NoPrompt
-        | ProbeEnd::GaveUp
-        | ProbeEnd::NoWord(_)
-        | ProbeEnd::TurnsOver => Ok(Status::NotLoaded),
-        ProbeEnd::LineFailed(fault) => Err(Failure::LineFailed(fault)),
+        ProbeEnd::NotTrusted | ProbeEnd::NoPrompt | ProbeEnd::GaveUp | ProbeEnd::NoWord(_) => Ok(
+            Status::NotLoaded,
+        ),
+        ProbeEnd::CutOff(cut) => after_cut(cut),
     }
 }
 
-/// The status after a test of memory that ended so, or the failure that it is where its line failed.
-pub(crate) fn after_test(end: MemoryEnd) -> Result<Status, Failure<'static>>
-    ensures { result ≡ after_test end }
+/// The status after a test of memory that came to this, or the failure that it is where its line failed.
+pub(crate) fn after_test(tested: MemoryEnd) -> Result<Status, Failure<'static>>
+    ensures { result ≡ after_test tested }
 {
-    match end {
-        MemoryEnd::Tested(true) => Ok(Status::Done),
-        MemoryEnd::Tested(false) => Ok(Status::Differs),
-        MemoryEnd::NotTrusted | MemoryEnd::NoWord(_) | MemoryEnd::GaveUp | MemoryEnd::TurnsOver =>
-            Ok(Status::NotLoaded),
-        MemoryEnd::LineFailed(fault) => Err(Failure::LineFailed(fault)),
+    match tested.end {
+        TestEnd::Tested if tested.good => Ok(Status::Done),
+        TestEnd::Tested => Ok(Status::Differs),
+        TestEnd::NotTrusted | TestEnd::NoWord(_) | TestEnd::GaveUp => Ok(Status::NotLoaded),
+        TestEnd::CutOff(cut) => after_cut(cut),
     }
 }

@@ -4,6 +4,7 @@ ghost use Rattle.request_values.specs.Change.{◌⇒◌};
 ghost use Rattle.requests.specs.Moment.{moment};
 ghost use Rattle.requests.specs.Attempt.{IsAttempted, IsEndOf};
 
+use crate::attempted::Attempted;
 use crate::changed_line::say_changed;
 use crate::loading::load_tapes;
 use crate::making::make_words;
@@ -21,7 +22,7 @@ use tape_commands::print_answer;
 use witness::Witness;
 
 /// Does a request in a system, which comes back, and answers the exit status, or tells why not, with the
-/// status that says so.
+/// status that says so; and how many characters came changed, for a log.
 ///
 /// Reports go to standard output, which is flushed; a fault goes to standard error as one line, in one
 /// write, and behind it, where the system could not read, write or connect to something, its reason, as the witness
@@ -44,7 +45,7 @@ pub fn attempt<K: Kinds, R: Read, W: Output, E: FaultOutput, T: Print>(
     streams: &mut Streams<R, W, E>,
     terminal: Option<&T>,
     witness: &Witness,
-) -> (System<K>, Status)
+) -> (System<K>, Attempted)
     requires { FitsInMemory R.row }
     ensures { IsAttempted request.now (moment K.Disk.holds system streams.old ⇒ moment K.Disk.holds result.0 streams.new) result.1 }
 {
@@ -73,8 +74,9 @@ pub fn attempt<K: Kinds, R: Read, W: Output, E: FaultOutput, T: Print>(
         }
     };
     let status = end(alloc, only_prints, outcome, streams, terminal, witness);
-    say_changed(request, witness.changed(), streams);
-    (system, status)
+    let changed = witness.changed();
+    say_changed(request, changed, streams);
+    (system, Attempted { status, changed })
 }
 
 // The status that a request ends with which came to this: where it failed, that is told on standard error, if

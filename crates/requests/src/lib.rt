@@ -1,7 +1,7 @@
 //! Doing what a person asks of `ldaodt`, and telling how it ended.
 //!
 //! `attempt` does a request, as `request_values` has them, in a `System`, which comes back, and answers the exit
-//! status; where it can't be done, one line on standard error says why, by the name of what was at fault. Behind all
+//! status, and how many characters a machine's line changed; where it can't be done, one line on standard error says why, by the name of what was at fault. Behind all
 //! else one may say how many characters a machine's line changed. Its contract says what is written, and, part by part
 //! where the system tells, what was asked of it: the files that are named, the console that is named and no other,
 //! what was said on its line until that was given back, of the disk what the record takes, or the tape that is saved or
@@ -11,6 +11,7 @@
 //! line a failure has in `endings`. The program `ldaodt` has the request from `command_line`, which makes it of words.
 #![tactic(auto)]
 
+mod attempted;
 mod changed_line;
 mod ending;
 mod handling;
@@ -27,5 +28,6 @@ mod testing;
 mod verifying;
 mod watch;
 
+pub use attempted::Attempted;
 pub use handling::attempt;
 pub use system::{Kinds, SharedSystem, System, WatchedSystem};

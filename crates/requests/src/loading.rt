@@ -1,8 +1,9 @@
 //! Loading a real machine.
 ghost use Rattle.std.specs.Prelude.{◌≡◌, IfOk, IfErr};
 ghost use Rattle.std.specs.Mem.{FitsInMemory};
+ghost use Rattle.machine_load.specs.Driving.{IsDrivenOn};
 ghost use Rattle.machine_load.specs.Reporting.{AsksNoMore};
-ghost use Rattle.machine_load.specs.Scene.{ending, scene};
+ghost use Rattle.machine_load.specs.Scene.{ending, keeper_of, scene};
 ghost use Rattle.request_values.specs.Change.{◌⇒◌};
 ghost use Rattle.requests.specs.Loading.{kept_in, planned_load, record_name};
 ghost use Rattle.requests.specs.Loading.{AreLoaded, AreUnloaded, IsEnded, IsEndFailure, IsLoadFailure, IsLoadOver};
@@ -15,7 +16,7 @@ use crate::request_fault::RequestFault;
 use crate::system::{Kinds, System};
 use crate::watch::Watch;
 use advice::{PlanSize, advise_load};
-use console_lines::Way;
+use console_lines::Dial;
 use endings::{Failure, FaultOutput, Output, Status, Streams};
 use machine_load::{Around, InMemory, Outcome, Surroundings, load};
 use progress_display::KeptIn;
@@ -69,23 +70,33 @@ pub(crate) fn load_tapes<'a, K: Kinds, R: Read, W: Output, E: FaultOutput, T: Pr
         clock,
     } = system;
     let plan = planned.starting(request.start);
-    let console = Way::to(request.line, request.quiet_ms, consoles);
+    let dial = Dial {
+        name: request.line,
+        quiet_ms: request.quiet_ms,
+    };
     let out = &mut streams.out;
     let shown = Watch::new(&clock, terminal, kept_in(request.record), witness);
     match request.record {
         Some(name) => {
             let records = RecordFile::new(disk, name);
-            let mut around = Around { console, records };
+            let mut around = Around {
+                consoles,
+                dial,
+                records,
+            };
             let outcome = load_plan(alloc, plan, request, &mut around, out, &shown);
-            let Around { console, records } = around;
-            let system = System::new(inputs, records.close(), console.back(), clock);
+            let disk = around.records.close();
+            let system = System::new(inputs, disk, around.consoles, clock);
             (system, outcome)
         }
         None => {
-            let records = InMemory;
-            let mut around = Around { console, records };
+            let mut around = Around {
+                consoles,
+                dial,
+                records: InMemory,
+            };
             let outcome = load_plan(alloc, plan, request, &mut around, out, &shown);
-            let system = System::new(inputs, disk, around.console.back(), clock);
+            let system = System::new(inputs, disk, around.consoles, clock);
             (system, outcome)
         }
     }
@@ -100,9 +111,9 @@ fn load_plan<'a, S: Surroundings, W: Write, C: Clock, T: Print>(
     out: &mut W,
     watch: &Watch<'_, C, T>,
 ) -> Result<Status, Failure<'a>>
-    ensures ok { IfOk result (IsLoadOver (planned_load plan request.entry)
+    ensures ok { IfOk result (IsLoadOver (record (planned_load plan request.entry) { goes_so = IsDrivenOn (keeper_of S.Surroundings S.Keeper.Keep) })
         (scene S.Surroundings W.Write around.old out.old ⇒ scene S.Surroundings W.Write around.new out.new)) }
-    ensures err { IfErr result (IsLoadFailure (planned_load plan request.entry)
+    ensures err { IfErr result (IsLoadFailure (record (planned_load plan request.entry) { goes_so = IsDrivenOn (keeper_of S.Surroundings S.Keeper.Keep) })
         (scene S.Surroundings W.Write around.old out.old ⇒ scene S.Surroundings W.Write around.new out.new)) }
 {
     let size = PlanSize::of(&plan);

@@ -7,7 +7,7 @@ ghost use Rattle.requests.specs.Probing.{IsConsoleProbed, IsConsoleUnprobed};
 use crate::ending::after_probe;
 use crate::request_fault::RequestFault;
 use crate::system::{Kinds, System};
-use console_lines::Way;
+use console_lines::Dial;
 use endings::{Failure, FaultOutput, Output, Status, Streams};
 use machine_probe::{ProbeOptions, probe};
 use request_values::Probe;
@@ -36,7 +36,7 @@ pub(crate) fn probe_console<'a, K: Kinds, R: Read, W: Output, E: FaultOutput>(
     let System {
         inputs,
         disk,
-        consoles,
+        mut consoles,
         clock,
     } = system;
     let look = request.look;
@@ -44,16 +44,20 @@ pub(crate) fn probe_console<'a, K: Kinds, R: Read, W: Output, E: FaultOutput>(
         address: request.address,
         patience: look.patience,
     };
-    let mut console = Way::to(look.line, look.quiet_ms, consoles);
+    let dial = Dial {
+        name: look.line,
+        quiet_ms: look.quiet_ms,
+    };
     let probed = probe(
         alloc,
         options,
-        &mut console,
+        &mut consoles,
+        dial,
         &mut streams.out,
         &clock,
         witness,
     );
-    let system = System::new(inputs, disk, console.back(), clock);
+    let system = System::new(inputs, disk, consoles, clock);
     match probed {
         Ok(end) => (system, after_probe(end)),
         Err(fault) => {

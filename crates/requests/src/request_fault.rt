@@ -4,7 +4,6 @@ ghost use Rattle.requests.specs.Ending.{IsFailureOf};
 use endings::Failure;
 use machine_load::LoadFault;
 use machine_look::LookFault;
-use machine_memory::MemoryFault;
 use machine_probe::ProbeFault;
 use tape_shelf::ShelfFault;
 
@@ -16,11 +15,8 @@ pub enum RequestFault {
     /// A look at one: `verify` or `save`.
     Look(LookFault),
 
-    /// A probe of one.
+    /// A probe of one, or a test of its memory.
     Probe(ProbeFault),
-
-    /// A test of its memory.
-    Test(MemoryFault),
 
     /// A tape that was put whole into a new file.
     Shelf(ShelfFault),
@@ -47,16 +43,13 @@ impl RequestFault {
             | RequestFault::Shelf(ShelfFault::Write) => Failure::CannotWriteFile(file),
             RequestFault::Load(LoadFault::Connect)
             | RequestFault::Look(LookFault::Connect)
-            | RequestFault::Probe(ProbeFault::Connect)
-            | RequestFault::Test(MemoryFault::Connect) => Failure::CannotConnect(console),
+            | RequestFault::Probe(ProbeFault::Connect) => Failure::CannotConnect(console),
             RequestFault::Load(LoadFault::WriteOutput)
             | RequestFault::Look(LookFault::WriteOutput)
-            | RequestFault::Probe(ProbeFault::WriteOutput)
-            | RequestFault::Test(MemoryFault::WriteOutput) => Failure::CannotWrite,
+            | RequestFault::Probe(ProbeFault::WriteOutput) => Failure::CannotWrite,
             RequestFault::Load(LoadFault::Memory)
             | RequestFault::Look(LookFault::Memory)
             | RequestFault::Probe(ProbeFault::Memory)
-            | RequestFault::Test(MemoryFault::Memory)
             | RequestFault::Shelf(ShelfFault::Memory) => Failure::NoMemory,
         }
     }

@@ -9,7 +9,7 @@ use crate::request_fault::RequestFault;
 use crate::system::{Kinds, System};
 use crate::watch::Watch;
 use advice::advise_save;
-use console_lines::Way;
+use console_lines::Dial;
 use endings::{Failure, FaultOutput, Output, Status, Streams};
 use machine_look::{SaveOptions, save};
 use progress_display::KeptIn;
@@ -46,7 +46,7 @@ pub(crate) fn save_words<'a, K: Kinds, R: Read, W: Output, E: FaultOutput, T: Pr
     let System {
         inputs,
         disk,
-        consoles,
+        mut consoles,
         clock,
     } = system;
     let look = request.look;
@@ -57,12 +57,15 @@ pub(crate) fn save_words<'a, K: Kinds, R: Read, W: Output, E: FaultOutput, T: Pr
         care: look.care,
     };
     let mut shelf = NewFile::new(disk, request.file);
-    let mut console = Way::to(look.line, look.quiet_ms, consoles);
+    let dial = Dial {
+        name: look.line,
+        quiet_ms: look.quiet_ms,
+    };
     let out = &mut streams.out;
     let shown = Watch::new(&clock, terminal, KeptIn::Part, witness);
-    let saved = save(alloc, options, &mut shelf, &mut console, out, &shown);
+    let saved = save(alloc, options, &mut shelf, &mut consoles, dial, out, &shown);
     advise_save(shown.progress(), saved);
-    let system = System::new(inputs, shelf.close(), console.back(), clock);
+    let system = System::new(inputs, shelf.close(), consoles, clock);
     match saved {
         Ok(end) => (system, after_save(end, request.file)),
         Err(fault) => {

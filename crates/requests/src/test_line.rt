@@ -3,7 +3,7 @@
 use crate::watch::Watch;
 use advice::advise_test;
 use host_devices::{Onlooker, Sight};
-use machine_memory::{Borrowed, MemoryEnd, MemoryFault, WordWatch};
+use machine_memory::{Borrowed, MemoryEnd, ProbeFault, WordWatch};
 use progress_display::TestedWord;
 use std::io::Print;
 use std::time::Clock;
@@ -21,7 +21,7 @@ impl<'o, C: Clock, T: Print> TestLine<'o, C, T> {
     }
 
     /// Tells what helps where a test came to this.
-    pub(crate) fn advise(&self, tested: Result<MemoryEnd, MemoryFault>) {
+    pub(crate) fn advise(&self, tested: Result<MemoryEnd, ProbeFault>) {
         advise_test(self.watch.progress(), tested);
     }
 }

@@ -10,7 +10,7 @@ use crate::request_fault::RequestFault;
 use crate::system::{Kinds, System};
 use crate::test_line::TestLine;
 use crate::watch::Watch;
-use console_lines::Way;
+use console_lines::Dial;
 use endings::{Failure, FaultOutput, Output, Status, Streams};
 use machine_memory::{MemoryOptions, test_memory};
 use progress_display::KeptIn;
@@ -41,22 +41,25 @@ pub(crate) fn test_words<'a, K: Kinds, R: Read, W: Output, E: FaultOutput, T: Pr
     let System {
         inputs,
         disk,
-        consoles,
+        mut consoles,
         clock,
     } = system;
     let look = request.look;
     let options = test_options(&request);
-    let mut console = Way::to(look.line, look.quiet_ms, consoles);
+    let dial = Dial {
+        name: look.line,
+        quiet_ms: look.quiet_ms,
+    };
     let out = &mut streams.out;
     let shown = TestLine::new(Watch::new(&clock, terminal, KeptIn::Nothing, witness));
-    let tested = test_memory(alloc, options, &mut console, out, &shown);
+    let tested = test_memory(alloc, options, &mut consoles, dial, out, &shown);
     shown.advise(tested);
-    let system = System::new(inputs, disk, console.back(), clock);
+    let system = System::new(inputs, disk, consoles, clock);
     match tested {
         Ok(end) => (system, after_test(end)),
         Err(fault) => {
             // There is no file, so that no fault names one.
-            let failure = RequestFault::Test(fault).failure(look.line, look.line);
+            let failure = RequestFault::Probe(fault).failure(look.line, look.line);
             (system, Err(failure))
         }
     }

@@ -10,7 +10,7 @@ use crate::planning::plan_tapes;
 use crate::request_fault::RequestFault;
 use crate::system::{Kinds, System};
 use crate::watch::Watch;
-use console_lines::Way;
+use console_lines::Dial;
 use endings::{Failure, FaultOutput, Output, Status, Streams};
 use machine_look::{VerifyOptions, verify};
 use progress_display::KeptIn;
@@ -53,18 +53,21 @@ pub(crate) fn verify_tapes<'a, K: Kinds, R: Read, W: Output, E: FaultOutput, T: 
     let System {
         inputs,
         disk,
-        consoles,
+        mut consoles,
         clock,
     } = system;
-    let mut console = Way::to(look.line, look.quiet_ms, consoles);
+    let dial = Dial {
+        name: look.line,
+        quiet_ms: look.quiet_ms,
+    };
     let out = &mut streams.out;
     let shown = Watch::new(&clock, terminal, KeptIn::Nothing, witness);
     let options = VerifyOptions {
         care: look.care,
         patience: look.patience,
     };
-    let verified = verify(alloc, &plan, options, &mut console, out, &shown);
-    let system = System::new(inputs, disk, console.back(), clock);
+    let verified = verify(alloc, &plan, options, &mut consoles, dial, out, &shown);
+    let system = System::new(inputs, disk, consoles, clock);
     let outcome = match verified {
         Ok(end) => after_verify(end),
         Err(fault) => {

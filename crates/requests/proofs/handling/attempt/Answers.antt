@@ -8,7 +8,7 @@ use Rattle.requests.specs.Attempt.{IsDone, IsFailed}
 use Rattle.requests.specs.Loading.{AreUnloaded}
 use Rattle.requests.specs.Verifying.{AreUnverified}
 use Rattle.requests.specs.Moment.{moment}
-use Rattle.requests.proofs.Attempted.{came_to, told}
+use Rattle.requests.proofs.Attempts.{came_to, told}
 use Rattle.requests.proofs.handling.attempt.Goals as goal
 use Rattle.requests.proofs.handling.attempt.Goals.{in-Tape-Print, in-Tape-Make, in-Machine-Load, in-Machine-Verify, in-Machine-Save, in-Machine-Probe, in-Machine-Memory}
 
@@ -17,7 +17,7 @@ returns g c =
     let holds = g.K.Disk.Disk.holds in
     let before = moment holds c.args.system c.args.streams.now in
     told holds c.args.request.now before c.match-request.system c.match-request.streams c.end-status.new.streams c.say_changed.new.streams c.end-status.result
-    c.only_prints-only_prints.result c.changed.result c.only_prints-only_prints.ensures
+    c.only_prints-only_prints.result c.changed-changed.result c.only_prints-only_prints.ensures
     (elim c.match-request.branch [
       | in-Tape-Print w ↦
           let outcome = w.print_answer-outcome.result in

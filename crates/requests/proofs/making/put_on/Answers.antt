@@ -1,6 +1,6 @@
 use Rattle.std.proofs.Common.{ap, option_map, subst, refl}
 use Rattle.std.specs.Prelude.{[], ◌∷◌, length}
-use Rattle.tape_shelf.specs.Room.{room_of}
+use Rattle.tape_shelf.specs.ShelfDisk.{room_of}
 use Rattle.tape_shelf.specs.ShelfDisk.{part_name}
 use Rattle.tape_shelf.specs.Shelf.{Put, Reserve}
 use Rattle.tape_shelf.specs.ShelfTold.{HasDone, ShelfTold}

@@ -1,4 +1,5 @@
 use Rattle.std.proofs.Common.{inl, refl, ap}
+use Rattle.console_lines.specs.Path.{call_to}
 use Rattle.endings.specs.Held.{Held}
 use Rattle.machine_probe.specs.Probe.{OverLine}
 use Rattle.machine_probe.specs.ProbeFault.{IsProbeFault}
@@ -8,7 +9,7 @@ use Rattle.requests.specs.Asked.{asked_of, system_told}
 use Rattle.requests.specs.Moment.{consoles_at, moment}
 use Rattle.requests.specs.Probing.{IsProbeEnded, probe_options}
 use Rattle.requests.proofs.Looked.{probed, unprobed}
-use Rattle.requests.proofs.Ways.{at_name}
+use Rattle.requests.proofs.Consoles.{at_output}
 use Rattle.requests.proofs.probing.probe_console.Goals as goal
 use Rattle.requests.proofs.probing.probe_console.Goals.{in-Ok, in-Err}
 
@@ -19,6 +20,7 @@ returns g c =
     let lines = g.K.Consoles.Consoles.lines in
     let opened = g.K.Inputs.InputFiles.opened inside.inputs in
     let disk = g.K.Disk.Disk.asked inside.disk in
+    let consoles' = c.probe-probed.new.consoles in
     let held : Held = record {
       input = g.R.Read.remaining c.streams.inside.input;
       out = g.W.Write.contents c.probe-probed.new.out;
@@ -26,10 +28,11 @@ returns g c =
       err = g.E.FaultOutput.said c.streams.inside.err;
     } in
     let before = moment g.K.Disk.Disk.holds (system_told (asked_of opened disk (asked inside.consoles) (lines inside.consoles)) inside.disk) c.args.streams.now in
-    let after = moment g.K.Disk.Disk.holds (system_told (asked_of opened disk (asked c.back.result) (lines c.back.result)) inside.disk) held in
+    let after = moment g.K.Disk.Disk.holds (system_told (asked_of opened disk (asked consoles') (lines consoles')) inside.disk) held in
     let request = c.args.request in
-    let said = at_name asked lines held.out c.to-console.ensures.consoles c.to-console.ensures.name c.to-console.ensures.quiet_time
-    (ap (λ (h : Held). h.out) c.streams.view_is) c.back.ensures c.probe-probed.ensures.call in
+    let said = at_output (ap (λ (h : Held). h.out) c.streams.view_is)
+    (record { asked = asked inside.consoles; call = call_to request.look.line.now request.look.quiet_ms; lines = lines inside.consoles; out = held.out })
+    (record { asked = asked consoles'; call = call_to request.look.line.now request.look.quiet_ms; lines = lines consoles'; out = held.out }) in
     let read = ap (λ (h : Held). h.input) c.streams.view_is in
     let quiet = ap (λ (h : Held). h.err) c.streams.view_is in
     rw (← c.system.view_is) (elim c.match-probed.branch [

@@ -1,6 +1,7 @@
 use Rattle.std.proofs.Common.{◌≡◌, inl, refl, ap, option_map, subst}
+use Rattle.console_lines.specs.Path.{call_to}
 use Rattle.endings.specs.Held.{Held}
-use Rattle.tape_shelf.specs.Room.{room_of}
+use Rattle.tape_shelf.specs.ShelfDisk.{room_of}
 use Rattle.tape_shelf.specs.ShelfDisk.{part_name}
 use Rattle.machine_look.specs.LookFault.{IsSaveFault}
 use Rattle.machine_look.specs.Save.{IsSavedAndReported, save_told}
@@ -9,7 +10,7 @@ use Rattle.requests.specs.Asked.{asked_of, system_told}
 use Rattle.requests.specs.Moment.{console_at, moment}
 use Rattle.requests.specs.Saving.{options_of, shelf_at}
 use Rattle.requests.proofs.Saved.{new_is, same_left, saved, shelf_on, unsaved}
-use Rattle.requests.proofs.Ways.{at_name}
+use Rattle.requests.proofs.Consoles.{at_output}
 use Rattle.requests.proofs.saving.save_words.Goals as goal
 use Rattle.requests.proofs.saving.save_words.Goals.{in-Ok, in-Err}
 
@@ -21,6 +22,7 @@ returns g c =
     let disk = g.K.Disk.Disk.asked in
     let room = option_map (room_of g.K.Disk.File.Write.contents) in
     let opened = g.K.Inputs.InputFiles.opened inside.inputs in
+    let consoles' = c.save-saved.new.consoles in
     let held : Held = record {
       input = g.R.Read.remaining c.streams.inside.input;
       out = g.W.Write.contents c.save-saved.new.out;
@@ -28,11 +30,12 @@ returns g c =
       err = g.E.FaultOutput.said c.streams.inside.err;
     } in
     let before = moment g.K.Disk.Disk.holds (system_told (asked_of opened (disk inside.disk) (asked inside.consoles) (lines inside.consoles)) inside.disk) c.args.streams.now in
-    let after = moment g.K.Disk.Disk.holds (system_told (asked_of opened (disk c.close.result) (asked c.back.result) (lines c.back.result)) c.close.result) held in
+    let after = moment g.K.Disk.Disk.holds (system_told (asked_of opened (disk c.close.result) (asked consoles') (lines consoles')) c.close.result) held in
     let save = c.args.request in
     let look = save.look in
-    let said = at_name asked lines held.out c.to-console.ensures.consoles c.to-console.ensures.name c.to-console.ensures.quiet_time
-    (ap (λ (h : Held). h.out) c.streams.view_is) c.back.ensures c.save-saved.ensures.call in
+    let said = at_output (ap (λ (h : Held). h.out) c.streams.view_is)
+    (record { asked = asked inside.consoles; call = call_to look.line.now look.quiet_ms; lines = lines inside.consoles; out = held.out })
+    (record { asked = asked consoles'; call = call_to look.line.now look.quiet_ms; lines = lines consoles'; out = held.out }) in
     let fresh = c.new-shelf in
     let kept = c.save-saved.new.shelf in
     let holds = g.K.Disk.Disk.holds in

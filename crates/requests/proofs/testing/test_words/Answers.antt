@@ -1,4 +1,5 @@
 use Rattle.std.proofs.Common.{inl, refl, ap, subst}
+use Rattle.console_lines.specs.Path.{call_to}
 use Rattle.endings.specs.Held.{Held}
 use Rattle.machine_probe.specs.Probe.{OverLine}
 use Rattle.machine_memory.specs.MemoryFault.{IsMemoryFault}
@@ -10,7 +11,7 @@ use Rattle.requests.specs.Asked.{asked_of, system_told}
 use Rattle.requests.specs.Moment.{consoles_at, moment}
 use Rattle.requests.specs.Testing.{test_options}
 use Rattle.requests.proofs.Looked.{tested, untested}
-use Rattle.requests.proofs.Ways.{at_name}
+use Rattle.requests.proofs.Consoles.{at_output}
 use Rattle.requests.proofs.testing.test_words.Goals as goal
 use Rattle.requests.proofs.testing.test_words.Goals.{in-Ok, in-Err}
 
@@ -21,6 +22,7 @@ returns g c =
     let lines = g.K.Consoles.Consoles.lines in
     let opened = g.K.Inputs.InputFiles.opened inside.inputs in
     let disk = g.K.Disk.Disk.asked inside.disk in
+    let consoles' = c.test_memory-tested.new.consoles in
     let held : Held = record {
       input = g.R.Read.remaining c.streams.inside.input;
       out = g.W.Write.contents c.test_memory-tested.new.out;
@@ -28,11 +30,12 @@ returns g c =
       err = g.E.FaultOutput.said c.streams.inside.err;
     } in
     let before = moment g.K.Disk.Disk.holds (system_told (asked_of opened disk (asked inside.consoles) (lines inside.consoles)) inside.disk) c.args.streams.now in
-    let after = moment g.K.Disk.Disk.holds (system_told (asked_of opened disk (asked c.back.result) (lines c.back.result)) inside.disk) held in
+    let after = moment g.K.Disk.Disk.holds (system_told (asked_of opened disk (asked consoles') (lines consoles')) inside.disk) held in
     let request = c.args.request in
     let options = c.test_options-options in
-    let said = at_name asked lines held.out c.to-console.ensures.consoles c.to-console.ensures.name c.to-console.ensures.quiet_time
-    (ap (λ (h : Held). h.out) c.streams.view_is) c.back.ensures c.test_memory-tested.ensures.call in
+    let said = at_output (ap (λ (h : Held). h.out) c.streams.view_is)
+    (record { asked = asked inside.consoles; call = call_to request.look.line.now request.look.quiet_ms; lines = lines inside.consoles; out = held.out })
+    (record { asked = asked consoles'; call = call_to request.look.line.now request.look.quiet_ms; lines = lines consoles'; out = held.out }) in
     let read = ap (λ (h : Held). h.input) c.streams.view_is in
     let quiet = ap (λ (h : Held). h.err) c.streams.view_is in
     rw (← c.system.view_is) (elim c.match-tested.branch [

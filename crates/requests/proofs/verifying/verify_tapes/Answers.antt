@@ -1,4 +1,5 @@
 use Rattle.std.proofs.Common.{◌∙◌, inl, inr, refl, ap, sym, subst}
+use Rattle.console_lines.specs.Path.{call_to}
 use Rattle.endings.specs.Held.{Held}
 use Rattle.machine_look.specs.LookFault.{IsVerifyFault}
 use Rattle.machine_look.specs.Verify.{IsVerifyReported}
@@ -9,7 +10,7 @@ use Rattle.requests.specs.Asked.{asked_of, system_told}
 use Rattle.requests.specs.Moment.{intake_at, moment}
 use Rattle.requests.specs.Planning.{IsPlanned}
 use Rattle.requests.proofs.Looked.{unverified, verified}
-use Rattle.requests.proofs.Ways.{at_name}
+use Rattle.requests.proofs.Consoles.{at_output}
 use Rattle.requests.proofs.verifying.verify_tapes.Goals as goal
 use Rattle.requests.proofs.verifying.verify_tapes.Goals.{in-Ok-verified, in-Err-verified}
 
@@ -26,6 +27,7 @@ returns g c =
     let look = c.args.look in
     let plan = c.in-Ok.plan in
     let opened' = g.K.Inputs.InputFiles.opened c.plan_tapes.new.inputs in
+    let consoles' = c.verify-verified.new.consoles in
     let held : Held = record {
       input = g.R.Read.remaining c.streams.inside.input;
       out = g.W.Write.contents c.verify-verified.new.out;
@@ -33,9 +35,10 @@ returns g c =
       err = g.E.FaultOutput.said c.streams.inside.err;
     } in
     let before = moment g.K.Disk.Disk.holds (system_told (asked_of (g.K.Inputs.InputFiles.opened inside.inputs) disk (asked inside.consoles) (lines inside.consoles)) inside.disk) c.args.streams.now in
-    let after = moment g.K.Disk.Disk.holds (system_told (asked_of opened' disk (asked c.back.result) (lines c.back.result)) inside.disk) held in
-    let said = at_name asked lines held.out c.to-console.ensures.consoles c.to-console.ensures.name c.to-console.ensures.quiet_time
-    (ap (λ (h : Held). h.out) c.streams.view_is ∙ c.in-Ok.ensures.same_out) c.back.ensures c.verify-verified.ensures.call in
+    let after = moment g.K.Disk.Disk.holds (system_told (asked_of opened' disk (asked consoles') (lines consoles')) inside.disk) held in
+    let said = at_output (ap (λ (h : Held). h.out) c.streams.view_is ∙ c.in-Ok.ensures.same_out)
+    (record { asked = asked inside.consoles; call = call_to look.line.now look.quiet_ms; lines = lines inside.consoles; out = held.out })
+    (record { asked = asked consoles'; call = call_to look.line.now look.quiet_ms; lines = lines consoles'; out = held.out }) in
     let planned = subst (λ (h : Held). IsPlanned names (intake_at before) (intake opened' h) plan) (sym c.streams.view_is) c.in-Ok.ensures.ok in
     let planned' : IsPlanned names (intake_at before) (intake_at after) plan = record { held = planned.held; opened = planned.opened; is_so = planned.is_so } in
     let quiet = ap (λ (h : Held). h.err) c.streams.view_is ∙ c.plan_tapes.ensures.quiet in

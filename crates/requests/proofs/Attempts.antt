@@ -50,11 +50,11 @@ came_to holds request before came command held streams same is so =
 -- and behind that it is told of characters that came changed
 pub told : {D : Type 0} (holds : D → List ℕ → Option (List ℕ)) (request : Request) (before : Moment) (came : SystemTold D × Result Status Failure) (held between last : Held) (status : Status) (prints : Bool) (count : ℕ)
     → prints ≡ only_prints request → CameTo holds request before came held → IsEndOf prints came.1 (held ⇒ between) status
-    → last ≡ record between { err = last.err } → IsChangeTold request count between.err last.err → IsAttempted request (before ⇒ moment holds came.0 last) status
+    → last ≡ record between { err = last.err } → IsChangeTold request count between.err last.err
+    → IsAttempted request (before ⇒ moment holds came.0 last) (record { status = status; changed = count })
 told holds request before came held between last status prints count p so end others changed = record {
   between = between.err;
   over = subst (λ h. IsOver request (before ⇒ moment holds came.0 h) status) (sym (ap (λ (h : Held). record h { err = between.err }) others))
       (over holds request before came.0 held between came.1 status prints p so.ok so.err so.quiet end);
-  count = count;
   changed = changed;
 }

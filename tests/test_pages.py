@@ -33,13 +33,15 @@ def section(text, heading):
 
 
 def ends_of_the_crates():
-    """How something ends, as the crates have it: the cases of the loader's ends and of each command's. Those that say that an engine
-    ended somehow are none of their own."""
-    cases = cases_of("crates/host_core/src/phase.rt", "End") | cases_of("crates/engine/src/stop.rt", "Stop<E>")
+    """How something ends, as the crates have it: the cases of the loader's ends, of what stops an engine, and of each command's ends.
+    Those that say that an engine ended somehow are none of their own."""
+    cases = cases_of("crates/host_core/src/phase.rt", "End")
+    for name in "Stop<E>", "Cut":
+        cases |= cases_of("crates/engine/src/stop.rt", name)
     for file in glob.glob("crates/*/src/*_end.rt", root_dir=TOP):
         for name in re.findall(r"^pub enum (\w+End) ", text_at(file), re.MULTILINE):
             cases |= cases_of(file, name)
-    return cases - {"Ended", "Driven", "Unfinished"}
+    return cases - {"Ended", "CutOff", "Driven", "Unfinished"}
 
 
 def cases_of(file, name):

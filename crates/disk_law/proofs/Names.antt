@@ -50,7 +50,7 @@ pub each_leaves : (own : List ℕ) (held : Bool) (steps : List DiskStep) → Lea
 each_leaves own held [] leave = tt
 each_leaves own held (Did (Open New n) ∷ more) leave = (leave.0, each_leaves own false more leave.1)
 each_leaves own held (Did (Open Created n) ∷ more) leave = absurd leave
-each_leaves own held (Did (Open ReadWrite n) ∷ more) leave = (tt, each_leaves own held more leave)
+each_leaves own held (Did (Open ReadWrite n) ∷ more) leave = (tt, each_leaves own held more leave.1)
 each_leaves own held (Did (Open access n) ∷ more) leave = (tt, each_leaves own false more leave)
 each_leaves own held (Did (Hold n) ∷ more) leave = (tt, each_leaves own true more leave.1)
 each_leaves own held (Did (Link from to) ∷ more) leave = absurd leave

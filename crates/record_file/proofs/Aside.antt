@@ -9,7 +9,7 @@ pub both_but : (own : List ℕ) (held : Bool) (xs ys : List DiskStep) → LeaveA
 both_but own held [] ys first then = then
 both_but own held (Did (Open New n) ∷ xs) ys first then = (first.0, both_but own false xs ys first.1 then)
 both_but own held (Did (Open Created n) ∷ xs) ys first then = absurd first
-both_but own held (Did (Open ReadWrite n) ∷ xs) ys first then = both_but own held xs ys first then
+both_but own held (Did (Open ReadWrite n) ∷ xs) ys first then = (first.0, both_but own held xs ys first.1 then)
 both_but own held (Did (Open access n) ∷ xs) ys first then = both_but own false xs ys first then
 both_but own held (Did (Hold n) ∷ xs) ys first then = (first.0, both_but own true xs ys first.1 then)
 both_but own held (Did (Link from to) ∷ xs) ys first then = absurd first

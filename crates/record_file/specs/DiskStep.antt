@@ -62,12 +62,12 @@ held_behind held (Failed (Remove name) ∷ more) = held_behind false more
 held_behind held (Failed (FindFile name written) ∷ more) = held_behind false more
 held_behind held (step ∷ more) = held_behind held more
 
--- steps leave each file as it is but one of this name, which is made, held, and taken away only where nobody else holds it
+-- steps leave each file as it is but one of this name, which alone is opened to be written, made, held, and taken away only where nobody else holds it
 abbrev pub LeaveAllBut : List ℕ → Bool → List DiskStep → Type 0
 LeaveAllBut own held [] = ⊤
 LeaveAllBut own held (Did (Open New name) ∷ more) = (name ≡ own) × LeaveAllBut own false more
 LeaveAllBut own held (Did (Open Created name) ∷ more) = ⊥
-LeaveAllBut own held (Did (Open ReadWrite name) ∷ more) = LeaveAllBut own held more
+LeaveAllBut own held (Did (Open ReadWrite name) ∷ more) = (name ≡ own) × LeaveAllBut own held more
 LeaveAllBut own held (Did (Open access name) ∷ more) = LeaveAllBut own false more
 LeaveAllBut own held (Did (Hold name) ∷ more) = (name ≡ own) × LeaveAllBut own true more
 LeaveAllBut own held (Did (Link from to) ∷ more) = ⊥

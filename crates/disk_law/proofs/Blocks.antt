@@ -2,7 +2,7 @@
 use Rattle.std.proofs.Common.{◌≡◌, ℕ, ◌+◌, List, [], ◌++◌, length, take, drop, Option, Some, None, inl, inr, refl, ap, sym, subst, ◌∙◌, append_assoc}
 use Rattle.std.proofs.lemmas.List.{take_at}
 use Rattle.record_file.specs.InPlace.{IsFrontOf}
-use Rattle.disk_law.specs.Disk.{Disk, Event, InOrder, History, Leaves, Nothing, File, disk_of, more, put, torn_by, written, file_synced}
+use Rattle.disk_law.specs.Disk.{Disk, Event, InOrder, History, Leaves, Nothing, File, disk_of, more, put, written, file_synced}
 use Rattle.disk_law.specs.Laws.{AreAppends, Begun, Wrote, Lasts}
 use Rattle.disk_law.specs.Shelf.{Begins, BlocksLast}
 use Rattle.disk_law.proofs.Over.{length_both, take_past}
@@ -20,15 +20,15 @@ put_behind text u bytes m (rest, is) = (
       ∙ ap (λ l. l ++ (bytes ++ drop ((length text + m) + length bytes) u)) (sym (take_past text rest m) ∙ ap (take (length text + m)) is),
 )
 
-wrote : (d : Disk) (i : ℕ) (text pending bytes : List ℕ) → State d i text pending → State (written (torn_by InOrder) d i (length (text ++ pending)) bytes) i text (pending ++ bytes)
+wrote : (d : Disk) (i : ℕ) (text pending bytes : List ℕ) → State d i text pending → State (written InOrder d i (length (text ++ pending)) bytes) i text (pending ++ bytes)
 wrote d i text pending bytes state = record { left = left; seen = seen }
   where
-    left : (t : List ℕ) → (written (torn_by InOrder) d i (length (text ++ pending)) bytes).may_hold i t → IsFrontOf text t
+    left : (t : List ℕ) → (written InOrder d i (length (text ++ pending)) bytes).may_hold i t → IsFrontOf text t
     left t (inl may) = state.left t may
     left t (inr (same, u, may, (front, rest, parts, is, long))) =
         subst (IsFrontOf text) (sym is) (subst (λ n. IsFrontOf text (put n front u)) (sym (length_both text pending)) (put_behind text u front (length pending) (state.left u may)))
 
-    seen : (t : List ℕ) → (written (torn_by InOrder) d i (length (text ++ pending)) bytes).holds i t → IsFrontOf (text ++ (pending ++ bytes)) t
+    seen : (t : List ℕ) → (written InOrder d i (length (text ++ pending)) bytes).holds i t → IsFrontOf (text ++ (pending ++ bytes)) t
     seen t (inl (same, u, has, is)) = let front = state.seen u has in (
       drop (length (text ++ pending) + length bytes) u,
       ap (λ l. l ++ drop (length (text ++ pending) + length bytes) u) (sym (append_assoc text pending bytes))
@@ -52,7 +52,7 @@ after_appends name first history i text pending events kind begins Begun = recor
 }
 after_appends name first history i text pending events kind begins (Wrote text' pending' bytes earlier appends) =
     let before = after_appends name first history i text' pending' earlier kind begins appends in
-    subst (λ k. State (written (torn_by k) (disk_of (more history earlier)) i (length (text' ++ pending')) bytes) i text' (pending' ++ bytes)) (sym kind)
+    subst (λ k. State (written k (disk_of (more history earlier)) i (length (text' ++ pending')) bytes) i text' (pending' ++ bytes)) (sym kind)
     (wrote (disk_of (more history earlier)) i text' pending' bytes before)
 after_appends name first history i text pending events kind begins (Lasts text' pending' earlier appends) =
     lasts (disk_of (more history earlier)) i text' pending' (after_appends name first history i text' pending' earlier kind begins appends)

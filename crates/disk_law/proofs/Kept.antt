@@ -5,7 +5,7 @@ use Rattle.load_record.specs.Keeper.{Lasts}
 use Rattle.record_file.specs.Beginning.{new_name}
 use Rattle.record_file.specs.DiskStep.{Did, Open, Link, Rename, Remove, SyncFolder, Cut, SyncFile}
 use Rattle.record_file.specs.declared.disk.Access.TheVariants.{New}
-use Rattle.disk_law.specs.Disk.{Disk, Event, Asked, Written, Synced, Kind, History, Leaves, Nothing, File, disk_of, more, told, after, made, renamed, removed, folder_synced, file_synced, written, torn_by, Torn}
+use Rattle.disk_law.specs.Disk.{Disk, Event, Asked, Written, Synced, Kind, History, Leaves, Nothing, File, disk_of, more, told, after, made, renamed, removed, folder_synced, file_synced, written}
 use Rattle.disk_law.specs.Laws.{IsFresh, IsOnDisk, IsBesideOnly, IsSo, AreSo, ARecordIsKept}
 use Rattle.disk_law.proofs.Names.{HasNames, HaveNames, front_of, back_of, beside}
 
@@ -59,11 +59,11 @@ pub by_synced : (d : Disk) (i : ℕ) (n : List ℕ) (left : Option (List ℕ)) �
 by_synced d i n left (Nothing may) = Nothing may
 by_synced d i n left (File j t may has) = File j t may has.0
 
-pub by_written : (torn : Torn) (d : Disk) (new : List ℕ) (i at : ℕ) (bytes : List ℕ) (n : List ℕ) (left : Option (List ℕ)) → IsBesideOnly d new i → ((n ≡ new) → ⊥)
-    → Leaves (written torn d i at bytes) n left → Leaves d n left
-by_written torn d new i at bytes n left only other (Nothing may) = Nothing may
-by_written torn d new i at bytes n left only other (File j t may (inl has)) = File j t may has
-by_written torn d new i at bytes n left only other (File j t may (inr same)) = absurd (only n other (subst (λ k. d.may_lead n (Some k)) same.0 may))
+pub by_written : (kind : Kind) (d : Disk) (new : List ℕ) (i at : ℕ) (bytes : List ℕ) (n : List ℕ) (left : Option (List ℕ)) → IsBesideOnly d new i → ((n ≡ new) → ⊥)
+    → Leaves (written kind d i at bytes) n left → Leaves d n left
+by_written kind d new i at bytes n left only other (Nothing may) = Nothing may
+by_written kind d new i at bytes n left only other (File j t may (inl has)) = File j t may has
+by_written kind d new i at bytes n left only other (File j t may (inr same)) = absurd (only n other (subst (λ k. d.may_lead n (Some k)) same.0 may))
 
 -- an event has such names, where the disk tells it
 abbrev pub Names : List ℕ → List ℕ → Event → Type 0
@@ -92,7 +92,7 @@ step kind d name text (Asked i (Did (SyncFolder folder))) n left names so other 
 step kind d name text (Asked i (Did (Cut wrote m))) n left names so other leaves = absurd names
 step kind d name text (Asked i (Did (SyncFile wrote))) n left names so other leaves = inl (by_synced d i n left leaves)
 step kind d name text (Asked i other_step) n left names so other leaves = inl leaves
-step kind d name text (Written i at bytes) n left names so other leaves = inl (by_written (torn_by kind) d (new_name name) i at bytes n left so other leaves)
+step kind d name text (Written i at bytes) n left names so other leaves = inl (by_written kind d (new_name name) i at bytes n left so other leaves)
 step kind d name text (Synced i) n left names so other leaves = inl (by_synced d i n left leaves)
 
 all_steps : (name text : List ℕ) (history : History) (events : List Event) → AllNames name text events → AreSo (new_name name) history events → (n : List ℕ) (left : Option (List ℕ))

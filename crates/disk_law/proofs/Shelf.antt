@@ -6,7 +6,7 @@ use Rattle.record_file.specs.DiskStep.{DiskStep, Did, Failed, LedTo, LookAtName,
 use Rattle.record_file.specs.Folder.{IsFolderOf}
 use Rattle.record_file.specs.InPlace.{IsFrontOf}
 use Rattle.record_file.specs.declared.disk.Access.TheVariants.{New}
-use Rattle.tape_shelf.specs.ShelfDisk.{Place, Room, part_name, IsGone, Goes, HasAnother, LeaveAll, IsNaming, Linked, Renamed, IsTakenBack, HasItsOwn, RenamedBack, IsNamed, Unnamed, Named, Unsettled}
+use Rattle.tape_shelf.specs.ShelfDisk.{Place, Room, part_name, IsGone, Goes, HasAnother, LeaveAll, IsSearch, Free, There, Unknown, NoFileName, IsNaming, Linked, Taken, NotFreed, Renamed, NotRenamed, IsTakenBack, HasItsOwn, RenamedBack, syncing, IsNamed, Unsynced, Unnamed, Named, Unsettled}
 use Rattle.tape_shelf.specs.declared.shelf.ShelfFault.{ShelfFault}
 use Rattle.disk_law.specs.Disk.{Disk, Event, Asked, Written, Synced, Kind, History, Leaves, Nothing, File, disk_of, more, told, after, linked, renamed, file_synced, cut}
 use Rattle.disk_law.specs.Shelf.{IsSoOf, AreSoOf, IsWrittenBeside, ATapeComesWhole, ATapeStays}
@@ -68,23 +68,33 @@ both_name C own name (x ∷ xs) ys k l = (k.0, both_name C own name xs ys k.1 l)
 
 -- ---- the lists of a shelf
 
-leave_keeps : (steps : List DiskStep) → LeaveAll steps → AllKeep steps
-leave_keeps [] leave = tt
-leave_keeps (Did (Open New n) ∷ more) leave = absurd leave.0
-leave_keeps (Did (Link from to) ∷ more) leave = absurd leave.0
-leave_keeps (Did (Rename from to left) ∷ more) leave = absurd leave.0
-leave_keeps (Did (Remove n) ∷ more) leave = absurd leave.0
-leave_keeps (Did other ∷ more) leave = (tt, leave_keeps more leave.1)
-leave_keeps (Failed (Link from to) ∷ more) leave = (tt, leave_keeps more leave)
-leave_keeps (Failed (Rename from to left) ∷ more) leave = (tt, leave_keeps more leave)
-leave_keeps (Failed request ∷ more) leave = (tt, leave_keeps more leave.1)
-leave_keeps (LedTo name target ∷ more) leave = absurd leave
+leave_keeps : (own : List ℕ) (steps : List DiskStep) → LeaveAll own steps → AllKeep steps
+leave_keeps own [] leave = tt
+leave_keeps own (Did (Open New n) ∷ more) leave = absurd leave.0
+leave_keeps own (Did (Link from to) ∷ more) leave = absurd leave.0
+leave_keeps own (Did (Rename from to left) ∷ more) leave = absurd leave.0
+leave_keeps own (Did (Remove n) ∷ more) leave = absurd leave.0
+leave_keeps own (Did other ∷ more) leave = (tt, leave_keeps own more leave.1)
+leave_keeps own (Failed request ∷ more) leave = (tt, leave_keeps own more leave.1)
+leave_keeps own (LedTo name target ∷ more) leave = absurd leave
 
-unnamed_keeps : (room : Room) (cut : Bool) (steps : List DiskStep) → LeaveAll steps → AllKeep (step_by (Cut room.written room.length) cut ∷ steps)
-unnamed_keeps room true steps leave = (tt, leave_keeps steps leave)
-unnamed_keeps room false steps leave = (tt, leave_keeps steps leave)
+unsynced_keeps : (room : Room) (cut : Bool) (steps : List DiskStep) → LeaveAll room.name steps → AllKeep (step_by (Cut room.written room.length) cut ∷ steps)
+unsynced_keeps room true steps leave = (tt, leave_keeps room.name steps leave)
+unsynced_keeps room false steps leave = (tt, leave_keeps room.name steps leave)
 
-naming_names : (own name : List ℕ) (steps : List DiskStep) → IsNaming own name steps → AllName ⊥ own name steps
+search_keeps : (name : List ℕ) (fault : Option ShelfFault) (steps : List DiskStep) → IsSearch name fault steps → AllKeep steps
+search_keeps name fault steps Free = (tt, tt)
+search_keeps name fault steps There = (tt, tt)
+search_keeps name fault steps Unknown = (tt, tt)
+search_keeps name fault steps (NoFileName is) = tt
+
+-- a name that is not given
+unnamed_keeps : (own name : List ℕ) (fault : ShelfFault) (steps : List DiskStep) → IsNaming own name (Some fault) steps → AllKeep steps
+unnamed_keeps own name fault steps Taken = (tt, tt)
+unnamed_keeps own name fault steps (NotFreed why looking search) = (tt, search_keeps name (Some why) looking search)
+unnamed_keeps own name fault steps (NotRenamed left) = (tt, (tt, (tt, tt)))
+
+naming_names : (own name : List ℕ) (steps : List DiskStep) → IsNaming own name None steps → AllName ⊥ own name steps
 naming_names own name steps Linked = ((refl, refl), tt)
 naming_names own name steps (Renamed left) = (tt, (tt, (inl (refl, refl), tt)))
 
@@ -98,21 +108,23 @@ back_names own name wrote steps (HasItsOwn taking gone) = (tt, gone_names own na
 back_names own name wrote steps (RenamedBack left true) = (tt, (inr (refl, refl), tt))
 back_names own name wrote steps (RenamedBack left false) = (tt, (tt, tt))
 
-settled_names : (place : Place) (room : Room) (naming going : List DiskStep) → IsNaming room.name place.name naming → IsGone room.name room.written going
+settled_names : (place : Place) (room : Room) (naming going : List DiskStep) → IsNaming room.name place.name None naming → IsGone room.name room.written going
     → AllName ⊥ room.name place.name (naming ++ Did (SyncFolder place.folder) ∷ going)
 settled_names place room naming going n g =
     both_name ⊥ room.name place.name naming (Did (SyncFolder place.folder) ∷ going) (naming_names room.name place.name naming n)
     (tt, gone_names room.name place.name room.name room.written going (inl refl) g)
 
-unsettled_names : (place : Place) (room : Room) (naming taking : List DiskStep) → IsNaming room.name place.name naming → IsTakenBack room.name place.name room.written taking
+unsettled_names : (place : Place) (room : Room) (naming taking : List DiskStep) → IsNaming room.name place.name None naming → IsTakenBack room.name place.name room.written taking
     → AllName ⊥ room.name place.name (naming ++ Failed (SyncFolder place.folder) ∷ taking)
 unsettled_names place room naming taking n t =
     both_name ⊥ room.name place.name naming (Failed (SyncFolder place.folder) ∷ taking) (naming_names room.name place.name naming n)
     (tt, back_names room.name place.name room.written taking t)
 
 named_names : (place : Place) (room : Room) (fault : Option ShelfFault) (steps : List DiskStep) → IsNamed place room fault steps → AllName ⊤ room.name place.name steps
-named_names place room fault steps (Unnamed why at idle leave) =
-    all_keep_name room.name place.name (step_by (Cut room.written room.length) at ∷ idle) (unnamed_keeps room at idle leave)
+named_names place room fault steps (Unsynced at idle leave failed) =
+    all_keep_name room.name place.name (step_by (Cut room.written room.length) at ∷ idle) (unsynced_keeps room at idle leave)
+named_names place room fault steps (Unnamed why naming n) =
+    (tt, (tt, (tt, all_keep_name room.name place.name naming (unnamed_keeps room.name place.name why naming n))))
 named_names place room fault steps (Named naming going n g) =
     (tt, (tt, (tt, all_uncut_name room.name place.name (naming ++ Did (SyncFolder place.folder) ∷ going) (settled_names place room naming going n g))))
 named_names place room fault steps (Unsettled naming taking n t) =
@@ -533,13 +545,21 @@ tape_behind place room text history part later earlier steps is names size so be
     first_keeps : TellAll Keeps parts.first
     first_keeps = of_told Keeps parts.first (subst (Each Keeps) (sym parts.told_first) (tt, (tt, (tt, tt))))
 
+-- calls that keep each name leave the tape without one
+kept_apart : (place : Place) (text : List ℕ) (history : History) (part : ℕ) (later earlier : List Event) (steps : List DiskStep) → told (later ++ earlier) ≡ steps → AllKeep steps
+    → AreSoOf part history (later ++ earlier) → IsWrittenBeside (disk_of history) place.name part text
+    → (left : Option (List ℕ)) → Leaves (disk_of (more history earlier)) place.name left → (left ≡ None) ⊎ (left ≡ Some text)
+kept_apart place text history part later earlier steps is keep so beside left leaves =
+    not_there place.name text history part earlier (earlier_so part history later earlier so)
+    (earlier_tell Keeps later earlier (of_told Keeps (later ++ earlier) (subst (Each Keeps) (sym is) (keep_each steps keep)))) beside left leaves
+
 tape_of : (place : Place) (room : Room) (fault : Option ShelfFault) (text : List ℕ) (history : History) (part : ℕ) (later earlier : List Event) (steps : List DiskStep)
     → told (later ++ earlier) ≡ steps → IsNamed place room fault steps → room.length ≡ length text → AreSoOf part history (later ++ earlier)
     → IsWrittenBeside (disk_of history) place.name part text → (left : Option (List ℕ)) → Leaves (disk_of (more history earlier)) place.name left → (left ≡ None) ⊎ (left ≡ Some text)
-tape_of place room fault text history part later earlier steps is (Unnamed why at idle leave) size so beside left leaves =
-    not_there place.name text history part earlier (earlier_so part history later earlier so)
-    (earlier_tell Keeps later earlier (of_told Keeps (later ++ earlier) (subst (Each Keeps) (sym is)
-    (keep_each (step_by (Cut room.written room.length) at ∷ idle) (unnamed_keeps room at idle leave))))) beside left leaves
+tape_of place room fault text history part later earlier steps is (Unsynced at idle leave failed) size so beside left leaves =
+    kept_apart place text history part later earlier (step_by (Cut room.written room.length) at ∷ idle) is (unsynced_keeps room at idle leave) so beside left leaves
+tape_of place room fault text history part later earlier steps is (Unnamed why naming n) size so beside left leaves =
+    kept_apart place text history part later earlier (syncing room ++ naming) is (tt, (tt, (tt, unnamed_keeps room.name place.name why naming n))) so beside left leaves
 tape_of place room fault text history part later earlier steps is (Named naming going n g) size so beside left leaves =
     tape_behind place room text history part later earlier (naming ++ Did (SyncFolder place.folder) ∷ going) is (settled_names place room naming going n g) size so beside left leaves
 tape_of place room fault text history part later earlier steps is (Unsettled naming taking n t) size so beside left leaves =
@@ -643,7 +663,7 @@ own_led room name text history part events so is =
 named_there : (place : Place) (room : Room) (text : List ℕ) (history : History) (part : ℕ) (events : List Event) (naming : List DiskStep)
     → ((place.name ≡ room.name) → ⊥) → AreSoOf part history events
     → told events ≡ (Did (Cut room.written room.length) ∷ Did (SyncFile room.written) ∷ Did (FindFile room.name room.written) ∷ []) ++ naming
-    → IsNaming room.name place.name naming → room.length ≡ length text → IsWrittenBeside (disk_of history) place.name part text
+    → IsNaming room.name place.name None naming → room.length ≡ length text → IsWrittenBeside (disk_of history) place.name part text
     → IsNamedThere (disk_of (more history events)) place.name part text
 named_there place room text history part events naming other so is Linked size beside =
     subst (λ e. IsNamedThere (disk_of (more history e)) place.name part text) (sym link.all)
@@ -687,7 +707,7 @@ named_there place room text history part events naming other so is (Renamed left
 -- behind the sync of the folder
 settled : (place : Place) (room : Room) (text : List ℕ) (history : History) (part : ℕ) (events : List Event) (xs naming : List DiskStep) → ((place.name ≡ room.name) → ⊥)
     → xs ≡ (Did (Cut room.written room.length) ∷ Did (SyncFile room.written) ∷ Did (FindFile room.name room.written) ∷ []) ++ naming → AreSoOf part history events
-    → told events ≡ xs ++ Did (SyncFolder place.folder) ∷ [] → IsNaming room.name place.name naming → IsFolderOf place.name place.folder → room.length ≡ length text
+    → told events ≡ xs ++ Did (SyncFolder place.folder) ∷ [] → IsNaming room.name place.name None naming → IsFolderOf place.name place.folder → room.length ≡ length text
     → IsWrittenBeside (disk_of history) place.name part text → IsTape (disk_of (more history events)) place.name part text
 settled place room text history part events xs naming other same so is n of size beside =
     subst (λ e. IsTape (disk_of (more history e)) place.name part text) (sym sync.all) (record { whole = named.whole; may = λ x may. named.leads x (may.1 of) })
@@ -704,7 +724,8 @@ settled place room text history part events xs naming other same so is n of size
 stays_by : (place : Place) (room : Room) (text : List ℕ) (history : History) (part : ℕ) (events : List Event) (fault : Option ShelfFault) (steps : List DiskStep) → fault ≡ None
     → told events ≡ steps → IsNamed place room fault steps → ((place.name ≡ room.name) → ⊥) → room.length ≡ length text → IsFolderOf place.name place.folder
     → AreSoOf part history events → IsWrittenBeside (disk_of history) place.name part text → IsTape (disk_of (more history events)) place.name part text
-stays_by place room text history part events fault steps none is (Unnamed why at idle leave) other size of so beside = absurd (cc none)
+stays_by place room text history part events fault steps none is (Unsynced at idle leave failed) other size of so beside = absurd (cc none)
+stays_by place room text history part events fault steps none is (Unnamed why naming n) other size of so beside = absurd (cc none)
 stays_by place room text history part events fault steps none is (Unsettled naming taking n t) other size of so beside = absurd (cc none)
 stays_by place room text history part events fault steps none is (Named naming going n gone) other size of so beside =
     subst (λ e. IsTape (disk_of (more history e)) place.name part text) (sym parts.all)

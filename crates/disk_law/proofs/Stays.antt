@@ -6,7 +6,7 @@ use Rattle.record_file.specs.DiskStep.{DiskStep, Did, FindSoleFile, Look, Open, 
 use Rattle.record_file.specs.Folder.{IsFolderOf}
 use Rattle.record_file.specs.declared.disk.Access.TheVariants.{New}
 use Rattle.record_file.specs.declared.made.Made.{Made}
-use Rattle.disk_law.specs.Disk.{Disk, Event, Asked, Written, Synced, Kind, History, Leaves, Nothing, File, disk_of, more, told, renamed, folder_synced, file_synced, written, torn_by, Torn, after, at_first, after_all}
+use Rattle.disk_law.specs.Disk.{Disk, Event, Asked, Written, Synced, Kind, History, Leaves, Nothing, File, disk_of, more, told, renamed, folder_synced, file_synced, written, after, at_first, after_all}
 use Rattle.disk_law.specs.Laws.{FoldersAreKept, IsOnDisk, IsBesideOnly, IsSo, AreSo, ANewRecordStays}
 use Rattle.disk_law.proofs.Kept.{not_itself, by_synced, by_written, same_text}
 
@@ -65,11 +65,11 @@ renamed_so d new from to text (Some whole) i lasts so = subst (λ t. IsOnDisk d 
 by_rename : (d : Disk) (name text : List ℕ) → IsOnDisk d (new_name name) text → IsOnDisk (renamed d (new_name name) name) name text
 by_rename d name text there x leads = there x (led d name (new_name name) x (not_itself name) leads)
 
-by_write : (torn : Torn) (d : Disk) (name text : List ℕ) (i at : ℕ) (bytes : List ℕ) → ((n : List ℕ) (x : Option ℕ) → d.leads n x → d.may_lead n x)
-    → IsBesideOnly d (new_name name) i → IsOnDisk d name text → IsOnDisk (written torn d i at bytes) name text
-by_write torn d name text i at bytes is_seen only there x leads = let some = there x leads in (some.0, some.1, λ t may. the_text some.0 some.1 some.2 t may)
+by_write : (kind : Kind) (d : Disk) (name text : List ℕ) (i at : ℕ) (bytes : List ℕ) → ((n : List ℕ) (x : Option ℕ) → d.leads n x → d.may_lead n x)
+    → IsBesideOnly d (new_name name) i → IsOnDisk d name text → IsOnDisk (written kind d i at bytes) name text
+by_write kind d name text i at bytes is_seen only there x leads = let some = there x leads in (some.0, some.1, λ t may. the_text some.0 some.1 some.2 t may)
   where
-    the_text : (j : ℕ) → x ≡ Some j → ((t : List ℕ) → d.may_hold j t → t ≡ text) → (t : List ℕ) → (written torn d i at bytes).may_hold j t → t ≡ text
+    the_text : (j : ℕ) → x ≡ Some j → ((t : List ℕ) → d.may_hold j t → t ≡ text) → (t : List ℕ) → (written kind d i at bytes).may_hold j t → t ≡ text
     the_text j is whole_there t (inl may) = whole_there t may
     the_text j is whole_there t (inr wrote) =
         absurd (only name (not_itself name) (subst (λ k. d.may_lead name (Some k)) wrote.0 (subst (λ y. d.may_lead name y) is (is_seen name x leads))))
@@ -90,7 +90,7 @@ behind_rename name text left history (Asked i step ∷ earlier) front list lasts
     (renamed_so (disk_of (more history earlier)) (new_name name) (new_name name) name text left i lasts
     (subst (λ s. IsSo (new_name name) (disk_of (more history earlier)) (Asked i s)) last.1 so.1)))
 behind_rename name text left history (Written i at bytes ∷ earlier) front list lasts so =
-    by_write (torn_by history.kind) (disk_of (more history earlier)) name text i at bytes (seen (more history earlier)) so.1
+    by_write history.kind (disk_of (more history earlier)) name text i at bytes (seen (more history earlier)) so.1
     (behind_rename name text left history earlier front list lasts so.0)
 behind_rename name text left history (Synced i ∷ earlier) front list lasts so =
     by_sync (disk_of (more history earlier)) name text i (behind_rename name text left history earlier front list lasts so.0)
@@ -117,7 +117,7 @@ stays name folder text renamed_left history (Asked i step ∷ earlier) front of 
     (subst (λ s. Leaves (after history.kind (disk_of (more history earlier)) (Asked i s)) name left) last.1 leaves)
 stays name folder text renamed_left history (Written i at bytes ∷ earlier) front of list lasts so left leaves =
     stays name folder text renamed_left history earlier front of list lasts so.0 left
-    (by_written (torn_by history.kind) (disk_of (more history earlier)) (new_name name) i at bytes name left so.1 (not_itself name) leaves)
+    (by_written history.kind (disk_of (more history earlier)) (new_name name) i at bytes name left so.1 (not_itself name) leaves)
 stays name folder text renamed_left history (Synced i ∷ earlier) front of list lasts so left leaves =
     stays name folder text renamed_left history earlier front of list lasts so.0 left (by_synced (disk_of (more history earlier)) i name left leaves)
 

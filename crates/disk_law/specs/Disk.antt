@@ -19,10 +19,6 @@ pub record Disk : Type 1 where
   pub holds : Files
   pub may_hold : Files
 
--- what a crash may leave of a write of these bytes at this place that was not synced, where it might have left this before it
-abbrev pub Torn : Type 1
-Torn = ℕ → List ℕ → List ℕ → List ℕ → Type 0
-
 -- a text with these bytes at this place
 abbrev pub put : ℕ → List ℕ → List ℕ → List ℕ
 put at bytes text = take at text ++ (bytes ++ drop (at + length bytes) text)
@@ -32,7 +28,8 @@ pub data Kind : Type 0 where
   Weakest : Kind
   InOrder : Kind
 
-abbrev pub torn_by : Kind → Torn
+-- what a crash may leave of a write of these bytes at this place that was not synced, where it might have left this before it
+abbrev pub torn_by : Kind → ℕ → (bytes before after : List ℕ) → Type 0
 torn_by Weakest at bytes before after = ⊤
 torn_by InOrder at bytes before after = (front : List ℕ) × (rest : List ℕ) × (bytes ≡ front ++ rest) × (after ≡ put at front before) × (at ≤ length before)
 
@@ -84,10 +81,10 @@ cut d i n = record d {
   may_hold = λ j t. d.may_hold j t ⊎ ((j ≡ i) × (u : List ℕ) × d.may_hold j u × (m : ℕ) × (t ≡ take (n + m) u));
 }
 
-abbrev pub written : Torn → Disk → ℕ → ℕ → List ℕ → Disk
-written torn d i at bytes = record d {
+abbrev pub written : Kind → Disk → ℕ → ℕ → List ℕ → Disk
+written kind d i at bytes = record d {
   holds = λ j t. ((j ≡ i) × (u : List ℕ) × d.holds j u × (t ≡ put at bytes u)) ⊎ (((j ≡ i) → ⊥) × d.holds j t);
-  may_hold = λ j t. d.may_hold j t ⊎ ((j ≡ i) × (u : List ℕ) × d.may_hold j u × torn at bytes u t);
+  may_hold = λ j t. d.may_hold j t ⊎ ((j ≡ i) × (u : List ℕ) × d.may_hold j u × torn_by kind at bytes u t);
 }
 
 -- a disk after an event: a row for each call that changes it. What failed has changed nothing, nor has a look, an opening or a lock. A file that is made
@@ -101,7 +98,7 @@ after kind d (Asked i (Did (SyncFolder folder))) = folder_synced d folder
 after kind d (Asked i (Did (Cut text n))) = cut d i n
 after kind d (Asked i (Did (SyncFile text))) = file_synced d i
 after kind d (Asked i other) = d
-after kind d (Written i at bytes) = written (torn_by kind) d i at bytes
+after kind d (Written i at bytes) = written kind d i at bytes
 after kind d (Synced i) = file_synced d i
 
 -- what stood on a disk, all of it durable, and whatever happened to it since, the latest first

@@ -7,12 +7,20 @@ use Rattle.std.proofs.lemmas.List.Concat.{flat_map-append}
 use Rattle.std.proofs.lemmas.List.Elements.{All-head, All-nil}
 use Rattle.request_values.specs.declared.range.AddressRange.{AddressRange}
 use Rattle.tape_values.specs.Block.{block_at, checksum, counted, data_block, framed, low_first}
-use Rattle.tape_shelf.specs.FoundPart.{AreFoundIn, BeginsWith, FillBlocks, HasBlock, IsBlank, IsCompleteBlock, IsOneMore, MakeBlock}
+use Rattle.tape_shelf.specs.FoundPart.{AreFoundIn, FillBlocks, HasBlock, IsBlank, IsCompleteBlock, MakeBlock}
 use Rattle.tape_shelf.specs.SavedSteps.{adds, full}
 use Rattle.tape_shelf.specs.SavedTape.{saved_block, words_in}
 use Rattle.tape_shelf.specs.Shelf.{Add, written}
 use Rattle.tape_shelf.proofs.Added.{drop_behind, no_adds, one_more_add, same_adds, take_front, written_append}
 use Rattle.tape_shelf.proofs.SavedBlocks.{bytes_length}
+
+-- a text begins with the full blocks that these numbers make from an address on
+abbrev pub BeginsWith : ℕ → List ℕ → List ℕ → Type 0
+BeginsWith from numbers text = (behind : List ℕ) × (text ≡ written (adds from numbers (full numbers)) ++ behind)
+
+-- the numbers that make a block for this address stand behind others
+abbrev pub IsOneMore : ℕ → List ℕ → List ℕ → List ℕ → Type 0
+IsOneMore address before block after = (these : List ℕ) × MakeBlock address these block × (after ≡ before ++ these)
 
 fill_nothing : (range : AddressRange) → FillBlocks range []
 fill_nothing range = record { whole = refl; within = omega arith; small = All-nil _ }

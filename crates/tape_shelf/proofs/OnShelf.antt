@@ -8,19 +8,19 @@ use Rattle.std.specs.Prelude.{OnSome, option_map, is_err, replicate, IfErr, IfSo
 use Rattle.std.specs.String.{string_bytes}
 use Rattle.byte_io.specs.Output.{WritesPrefix}
 use Rattle.host_devices.specs.Failures.{fault_of}
-use Rattle.record_file.proofs.Aside.{GoesHeld, at_folder, but_join, held_aside}
+use Rattle.record_file.proofs.Aside.{GoesHeld, held_aside}
 use Rattle.host_devices.specs.Told.{HasAsked, Tells}
-use Rattle.record_file.specs.DiskStep.{DiskStep, Did, Failed, LedTo, answered, step_by, LookAtName, FindFile, Open, Hold, Link, Rename, Remove, SyncFolder, Cut, SyncFile, AreAside, LeaveAllBut, held_behind}
+use Rattle.record_file.specs.DiskStep.{DiskRequest, DiskStep, Did, Failed, answered, step_by, LookAtName, FindFile, FindSoleFile, Open, Hold, Link, Rename, Remove, SyncFolder, Cut, SyncFile, LeaveAllBut, held_behind}
 use Rattle.record_file.specs.Folder.{IsFolderOf}
 use Rattle.record_file.specs.declared.disk.Access.TheVariants.{ReadOnly, ReadWrite, New}
 use Rattle.host_devices.proofs.Told.{tells_join, tells_none}
-use Rattle.request_values.specs.Change.{Change, ◌⇒◌}
-use Rattle.tape_shelf.specs.ShelfDisk.{Place, Room, room_of, ShelfDisk, HasPart, HasRoom, IsAdding, IsGone, Goes, HasAnother, IsClosed, IsNaming, Renamed, IsNamed, Named, Unnamed, Unsettled, IsTakenBack, IsNotReserved, NotMade, IsPut, Put as PutWhole, Nowhere, NoRoom, IsNoFileName, IsSearch, Free, There, Unknown, NoFileName, LeaveAll, making, taking_left, syncing, part_name}
+use Rattle.request_values.specs.Change.{◌⇒◌}
+use Rattle.tape_shelf.specs.ShelfDisk.{Place, Room, room_of, ShelfDisk, HasPart, HasRoom, IsAdding, IsGone, Goes, HasAnother, IsClosed, IsNaming, Renamed, NotRenamed, IsNamed, Named, Unsynced, Unnamed, Unsettled, IsTakenBack, InFolder, Opened, IsUnmade, NotMade, IsNotReserved, NoFile, IsUntaken, IsPut, Put as PutWhole, Nowhere, NoRoom, IsNoFileName, IsSearch, Free, LeavesAll, making, taking_left, syncing, part_name}
 use Rattle.tape_shelf.specs.Shelf.{add_step, put_step}
 use Rattle.tape_shelf.specs.ShelfTold.{AsksFor}
 use Rattle.tape_shelf.specs.declared.new_file.Part.{Part}
 use Rattle.tape_shelf.specs.declared.shelf.ShelfFault.{ShelfFault}
-use Rattle.tape_shelf.specs.declared.shelf.ShelfFault.TheVariants.{Write}
+use Rattle.tape_shelf.specs.declared.shelf.ShelfFault.TheVariants.{IsThere, PartIsThere, NotOfSave, Write, Memory}
 
 -- the folder of a room is open, and was opened under this name
 abbrev pub IsFolderOpened : {T : Type 0} → (T → List ℕ → Type 0) → Option (Part T) → List ℕ → Type 0
@@ -88,27 +88,23 @@ folder_name name false some h = (λ e. absurd (cc e), either) where
   either (inr folder) = absurd (cc (h.1 folder.0 folder.1))
 
 pub renamed : (own name : List ℕ) (left : Option (List ℕ)) (steps : List DiskStep) → IsSearch name None steps
-    → IsNaming own name (Failed (Link own name) ∷ (steps ++ Did (Rename own name left) ∷ []))
+    → IsNaming own name None (Failed (Link own name) ∷ (steps ++ Did (Rename own name left) ∷ []))
 renamed own name left steps Free = Renamed left
 
--- a search changes nothing
-pub search_idle : (name : List ℕ) (fault : Option ShelfFault) (steps : List DiskStep) → IsSearch name fault steps → LeaveAll steps
-search_idle name fault steps Free = (tt, tt)
-search_idle name fault steps There = (tt, tt)
-search_idle name fault steps Unknown = (tt, tt)
-search_idle name fault steps (NoFileName is) = tt
+pub not_renamed : (own name : List ℕ) (left : Option (List ℕ)) (steps : List DiskStep) → IsSearch name None steps
+    → IsNaming own name (Some Write) (Failed (Link own name) ∷ (steps ++ Failed (Rename own name left) ∷ []))
+not_renamed own name left steps Free = NotRenamed left
 
--- nothing was changed
-pub idle_join : (one two : List DiskStep) → LeaveAll one → LeaveAll two → LeaveAll (one ++ two)
-idle_join [] two i j = j
-idle_join (Did request ∷ one) two i j = (i.0, idle_join one two i.1 j)
-idle_join (Failed (Link from to) ∷ one) two i j = idle_join one two i j
-idle_join (Failed (Rename from to left) ∷ one) two i j = idle_join one two i j
-idle_join (Failed request ∷ one) two i j = (i.0, idle_join one two i.1 j)
-idle_join (LedTo name target ∷ one) two i j = absurd i
+-- ---- the folder
 
-pub still_idle : (a b c : Option (List DiskStep)) (steps : List DiskStep) → Tells a b steps → LeaveAll steps → HasAsked b c LeaveAll → HasAsked a c LeaveAll
-still_idle a b c steps g idle h = (steps ++ h.0, tells_join a b c steps h.0 g h.1, idle_join steps h.0 idle h.2)
+-- it is opened, and then this comes of the file beside
+pub in_folder : (P : List ℕ → ShelfFault → List DiskStep → Type 0) (name folder own : List ℕ) (fault : ShelfFault) (a b c : Option (List DiskStep)) → own ≡ part_name name
+    → IsFolderOf name folder → Tells a b (Did (Open ReadOnly folder) ∷ []) → HasAsked b c (P own fault) → HasAsked a c (InFolder name (P (part_name name)) fault)
+in_folder P name folder own fault a b c is of opened h = (
+  Did (Open ReadOnly folder) ∷ h.0,
+  tells_join a b c (Did (Open ReadOnly folder) ∷ []) h.0 opened h.1,
+  Opened folder fault h.0 of (subst (λ n. P n fault h.0) is h.2),
+)
 
 -- ---- room
 
@@ -146,12 +142,13 @@ room_made own dir filled a b c d made taken found = let last : List DiskStep = D
 
 -- or has it no more
 pub room_lost : (own dir : List ℕ) (filled : Option (List ℕ)) (a b c d : Option (List DiskStep)) → HasAsked a b (λ steps. steps ≡ made_steps own)
-    → HasAsked b c (λ steps. steps ≡ room_steps own dir filled) → Tells c d (Failed (FindFile own filled) ∷ []) → HasAsked a d (AreAside own false)
+    → HasAsked b c (λ steps. steps ≡ room_steps own dir filled) → Tells c d (Failed (FindFile own filled) ∷ []) → HasAsked a d (IsUnmade own Write)
 room_lost own dir filled a b c d made taken found = let last : List DiskStep = Failed (FindFile own filled) ∷ [] in (
   made.0 ++ (taken.0 ++ last),
   tells_join a b d made.0 (taken.0 ++ last) made.1 (tells_join b c d taken.0 last taken.1 found),
-  subst (λ steps. AreAside own false (steps ++ (taken.0 ++ last))) (sym made.2)
-      (subst (λ steps. AreAside own false (made_steps own ++ (steps ++ last))) (sym taken.2) ((λ held. (refl, (refl, tt))), refl)),
+  subst (λ steps. IsUnmade own Write (steps ++ (taken.0 ++ last))) (sym made.2)
+      (subst (λ steps. IsUnmade own Write (made_steps own ++ (steps ++ last))) (sym taken.2)
+      (NotMade true (Did (Hold own) ∷ (room_steps own dir filled ++ last)) ((λ held. (refl, (refl, (refl, tt)))), refl))),
 )
 
 -- what goes is this load's own
@@ -162,12 +159,13 @@ gone_held own written steps HasAnother = (tt, refl)
 
 -- one that could not be filled goes
 pub not_filled : (own : List ℕ) (filled : Option (List ℕ)) (a b c d : Option (List DiskStep)) → HasAsked a b (λ steps. steps ≡ made_steps own)
-    → HasAsked b c (λ steps. LeaveAllBut own true steps × (held_behind true steps ≡ true)) → HasAsked c d (IsGone own filled) → HasAsked a d (AreAside own false)
+    → HasAsked b c (λ steps. LeaveAllBut own true steps × (held_behind true steps ≡ true)) → HasAsked c d (IsGone own filled) → HasAsked a d (IsUnmade own Write)
 not_filled own filled a b c d made taken going = (
   (made.0 ++ taken.0) ++ going.0,
   tells_join a c d (made.0 ++ taken.0) going.0 (tells_join a b c made.0 taken.0 made.1 taken.1) going.1,
-  held_aside own (made.0 ++ taken.0) going.0
-      (subst (λ steps. AreAside own true (steps ++ taken.0)) (sym made.2) ((λ held. (refl, (refl, taken.2.0))), taken.2.1)) (gone_held own filled going.0 going.2),
+  subst (λ steps. IsUnmade own Write ((steps ++ taken.0) ++ going.0)) (sym made.2)
+      (NotMade true (Did (Hold own) ∷ (taken.0 ++ going.0))
+      (held_aside own (made_steps own ++ taken.0) going.0 ((λ held. (refl, (refl, taken.2.0))), taken.2.1) (gone_held own filled going.0 going.2))),
 )
 
 pub reserved : (name folder own : List ℕ) (filled : Option (List ℕ)) (a b c : Option (List DiskStep)) → own ≡ part_name name → Tells a b (Did (Open ReadOnly folder) ∷ [])
@@ -178,10 +176,6 @@ reserved name folder own filled a b c is opened made = (
   ap (λ steps. Did (Open ReadOnly folder) ∷ steps) (made.2 ∙ ap (λ n. making n folder filled) is),
 )
 
-pub not_made : (name folder own : List ℕ) (a b c : Option (List DiskStep)) → own ≡ part_name name → Tells a b (Did (Open ReadOnly folder) ∷ [])
-    → HasAsked b c (AreAside own false) → HasAsked a c (AreAside (part_name name) false)
-not_made name folder own a b c is opened aside = subst (λ n. HasAsked a c (AreAside n false)) is (but_join own false a b c (at_folder own folder a b opened) aside)
-
 -- nothing had the name, and then the room was made, or not
 then_reserved : (name : List ℕ) (more : List DiskStep) (a b c : Option (List DiskStep)) → HasAsked a b (IsSearch name None) → HasAsked b c (λ steps. steps ≡ more)
     → HasAsked a c (λ steps. steps ≡ Failed (LookAtName name) ∷ more)
@@ -190,12 +184,12 @@ then_reserved name more a b c search made = (search.0 ++ made.0, tells_join a b 
   behind name more front back Free is = ap (λ steps. Failed (LookAtName name) ∷ steps) is
 
 pub then_not_reserved : (name : List ℕ) (fault : ShelfFault) (a b c : Option (List DiskStep)) → HasAsked a b (IsSearch name None)
-    → HasAsked b c (AreAside (part_name name) false) → HasAsked a c (IsNotReserved name fault)
+    → HasAsked b c (InFolder name (IsUnmade (part_name name)) fault) → HasAsked a c (IsNotReserved name fault)
 then_not_reserved name fault a b c search made =
     (search.0 ++ made.0, tells_join a b c search.0 made.0 search.1 made.1, behind name fault search.0 made.0 search.2 made.2) where
       behind : (name : List ℕ) (fault : ShelfFault) (front back : List DiskStep) → IsSearch name None front
-          → AreAside (part_name name) false back → IsNotReserved name fault (front ++ back)
-      behind name fault front back Free aside = NotMade fault back aside
+          → InFolder name (IsUnmade (part_name name)) fault back → IsNotReserved name fault (front ++ back)
+      behind name fault front back Free unmade = NoFile fault back unmade
 
 pub has_room_on : {T : Type 0} (opened : T → List ℕ → Type 0) (size : ℕ) (contents : T → Option (List ℕ)) (name : List ℕ) (room : Option Room) (part : Part T) (a b c : Option (List DiskStep))
     → string_bytes part.name ≡ part_name name → (part.length ≡ 0) × (part.kept ≡ false) → OnSome c (contents part.file ≡ Some []) → OnSome c (contents part.held ≡ Some (replicate size 0)) → HasAsked a b (IsSearch name None)
@@ -264,39 +258,37 @@ found_or_not room name false a b c is brought found = (
   λ place. (
     Did (Cut room.written room.length) ∷ Did (SyncFile room.written) ∷ Failed (FindFile name room.written) ∷ [],
     tells_join a b c (Did (Cut room.written room.length) ∷ Did (SyncFile room.written) ∷ []) (Failed (FindFile name room.written) ∷ []) brought found,
-    Unnamed Write true (Did (SyncFile room.written) ∷ Failed (FindFile name room.written) ∷ []) (tt, (tt, tt)),
+    Unsynced true (Did (SyncFile room.written) ∷ Failed (FindFile name room.written) ∷ []) (tt, (tt, tt)) tt,
   ),
 )
 
 -- it could not be linked, and was renamed, or not
-pub link_or_rename : {A E : Type 0} (own name : List ℕ) (a b c : Option (List DiskStep)) (result : Result A E) → Tells a b (Failed (Link own name) ∷ [])
-    → OnOk result (HasAsked b c (λ steps. IsNaming own name (Failed (Link own name) ∷ steps))) → OnErr result (HasAsked b c LeaveAll)
-    → OnOk result (HasAsked a c (IsNaming own name)) × OnErr result (HasAsked a c LeaveAll)
-link_or_rename own name a b c (Ok value) linked asked failed =
-    ((Failed (Link own name) ∷ asked.0, tells_join a b c (Failed (Link own name) ∷ []) asked.0 linked asked.1, asked.2), tt)
-link_or_rename own name a b c (Err fault) linked asked failed = (tt, still_idle a b c (Failed (Link own name) ∷ []) linked tt failed)
+pub link_then_rename : (own name : List ℕ) (fault : Option ShelfFault) (a b c : Option (List DiskStep)) → Tells a b (Failed (Link own name) ∷ [])
+    → HasAsked b c (λ steps. IsNaming own name fault (Failed (Link own name) ∷ steps)) → HasAsked a c (IsNaming own name fault)
+link_then_rename own name fault a b c linked asked =
+    (Failed (Link own name) ∷ asked.0, tells_join a b c (Failed (Link own name) ∷ []) asked.0 linked asked.1, asked.2)
 
-pub not_named : (place : Place) (room : Room) (fault : ShelfFault) (a b c : Option (List DiskStep)) → HasAsked a b (λ steps. steps ≡ syncing room)
-    → HasAsked b c LeaveAll → HasAsked a c (IsNamed place room (Some fault))
-not_named place room fault a b c disk idle = (
-  disk.0 ++ idle.0,
-  tells_join a b c disk.0 idle.0 disk.1 idle.1,
-  subst (λ steps. IsNamed place room (Some fault) (steps ++ idle.0)) (sym disk.2)
-      (Unnamed fault true (Did (SyncFile room.written) ∷ Did (FindFile room.name room.written) ∷ idle.0) (tt, (tt, idle.2))),
+pub not_named : (place : Place) (room : Room) (fault : ShelfFault) (own : List ℕ) (a b c : Option (List DiskStep)) → own ≡ room.name
+    → HasAsked a b (λ steps. steps ≡ syncing room) → HasAsked b c (IsNaming own place.name (Some fault)) → HasAsked a c (IsNamed place room (Some fault))
+not_named place room fault own a b c is disk naming = (
+  disk.0 ++ naming.0,
+  tells_join a b c disk.0 naming.0 disk.1 naming.1,
+  subst (λ steps. IsNamed place room (Some fault) (steps ++ naming.0)) (sym disk.2)
+      (Unnamed fault naming.0 (subst (λ n. IsNaming n place.name (Some fault) naming.0) is naming.2)),
 )
 
 -- behind its new name
 behind_name : (place : Place) (room : Room) (fault : Option ShelfFault) (own : List ℕ) (last : List DiskStep) (a b c d : Option (List DiskStep)) → own ≡ room.name
-    → HasAsked a b (λ steps. steps ≡ syncing room) → HasAsked b c (IsNaming own place.name) → Tells c d last
-    → ((naming : List DiskStep) → IsNaming room.name place.name naming → IsNamed place room fault (syncing room ++ (naming ++ last))) → HasAsked a d (IsNamed place room fault)
+    → HasAsked a b (λ steps. steps ≡ syncing room) → HasAsked b c (IsNaming own place.name None) → Tells c d last
+    → ((naming : List DiskStep) → IsNaming room.name place.name None naming → IsNamed place room fault (syncing room ++ (naming ++ last))) → HasAsked a d (IsNamed place room fault)
 behind_name place room fault own last a b c d is disk naming told by = (
   disk.0 ++ (naming.0 ++ last),
   tells_join a b d disk.0 (naming.0 ++ last) disk.1 (tells_join b c d naming.0 last naming.1 told),
-  subst (λ steps. IsNamed place room fault (steps ++ (naming.0 ++ last))) (sym disk.2) (by naming.0 (subst (λ n. IsNaming n place.name naming.0) is naming.2)),
+  subst (λ steps. IsNamed place room fault (steps ++ (naming.0 ++ last))) (sym disk.2) (by naming.0 (subst (λ n. IsNaming n place.name None naming.0) is naming.2)),
 )
 
 pub named : (place : Place) (room : Room) (own own' : List ℕ) (a b c d e : Option (List DiskStep)) → own ≡ room.name → own' ≡ room.name
-    → HasAsked a b (λ steps. steps ≡ syncing room) → HasAsked b c (IsNaming own place.name) → Tells c d (Did (SyncFolder place.folder) ∷ [])
+    → HasAsked a b (λ steps. steps ≡ syncing room) → HasAsked b c (IsNaming own place.name None) → Tells c d (Did (SyncFolder place.folder) ∷ [])
     → HasAsked d e (IsGone own' room.written) → HasAsked a e (IsNamed place room None)
 named place room own own' a b c d e is is' disk naming sync going =
     behind_name place room None own (Did (SyncFolder place.folder) ∷ going.0) a b c e is disk naming
@@ -304,7 +296,7 @@ named place room own own' a b c d e is is' disk naming sync going =
     (λ front n. Named front going.0 n (subst (λ m. IsGone m room.written going.0) is' going.2))
 
 pub unsettled : (place : Place) (room : Room) (own own' : List ℕ) (a b c d e : Option (List DiskStep)) → own ≡ room.name → own' ≡ room.name
-    → HasAsked a b (λ steps. steps ≡ syncing room) → HasAsked b c (IsNaming own place.name) → Tells c d (Failed (SyncFolder place.folder) ∷ [])
+    → HasAsked a b (λ steps. steps ≡ syncing room) → HasAsked b c (IsNaming own place.name None) → Tells c d (Failed (SyncFolder place.folder) ∷ [])
     → HasAsked d e (IsTakenBack own' place.name room.written) → HasAsked a e (IsNamed place room (Some Write))
 unsettled place room own own' a b c d e is is' disk naming sync taking =
     behind_name place room (Some Write) own (Failed (SyncFolder place.folder) ∷ taking.0) a b c e is disk naming
@@ -358,6 +350,33 @@ put_answer contents folder name text (Ok done) before after a b h = h
 put_answer contents folder name text (Err fault) before after a b h = h
 
 -- ---- a part that was left
+
+-- what is refused behind a call that went well
+behind_one : (own : List ℕ) (fault : ShelfFault) (request : DiskRequest) (steps : List DiskStep) → LeavesAll own request → IsUntaken own fault steps
+    → IsUntaken own fault (Did request ∷ steps)
+behind_one own IsThere request steps leaves untaken = untaken
+behind_one own PartIsThere request steps leaves (idle, inl has) = ((leaves, idle), inl has)
+behind_one own PartIsThere request steps leaves (idle, inr (front, is)) = ((leaves, idle), inr (Did request ∷ front, ap (λ list. Did request ∷ list) is))
+behind_one own NotOfSave request steps leaves (idle, none) = ((leaves, idle), none)
+behind_one own Write request steps leaves untaken = untaken
+behind_one own Memory request steps leaves (idle, none) = ((leaves, idle), none)
+
+pub held_untaken : (own : List ℕ) (fault : ShelfFault) (a b c : Option (List DiskStep))
+    → HasAsked a b (λ steps. steps ≡ Did (FindSoleFile own) ∷ Did (Open ReadWrite own) ∷ Did (Hold own) ∷ []) → HasAsked b c (IsUntaken own fault) → HasAsked a c (IsUntaken own fault)
+held_untaken own fault a b c held untaken = (
+  held.0 ++ untaken.0,
+  tells_join a b c held.0 untaken.0 held.1 untaken.1,
+  subst (λ steps. IsUntaken own fault (steps ++ untaken.0)) (sym held.2)
+      (behind_one own fault _ _ tt (behind_one own fault _ _ refl (behind_one own fault _ _ tt untaken.2))),
+)
+
+pub read_untaken : (own : List ℕ) (fault : ShelfFault) (a b c : Option (List DiskStep)) → HasAsked a b (λ steps. steps ≡ Did (Open ReadOnly own) ∷ [])
+    → fault ≡ PartIsThere → HasAsked b c (IsUntaken own PartIsThere) → HasAsked a c (IsUntaken own fault)
+read_untaken own fault a b c read is untaken = subst (λ f. HasAsked a c (IsUntaken own f)) (sym is) (
+  read.0 ++ untaken.0,
+  tells_join a b c read.0 untaken.0 read.1 untaken.1,
+  subst (λ steps. IsUntaken own PartIsThere (steps ++ untaken.0)) (sym read.2) (behind_one own PartIsThere _ _ tt untaken.2),
+)
 
 -- the folder is opened, and the part is taken up
 pub resumed : (name own folder : List ℕ) (held : Option (List ℕ)) (a b c : Option (List DiskStep)) → own ≡ part_name name → Tells a b (Did (Open ReadOnly folder) ∷ [])

@@ -10,7 +10,7 @@ use Rattle.std.proofs.lemmas.List.Elements.{All-nil, All-cons, All-push, All-hea
 use Rattle.tape_values.specs.Block.{BlockValue, IsBlock, HoldsBytes, low_first, top}
 use Rattle.tape_values.specs.Tape.{plain_text}
 use Rattle.tape_values.proofs.Plain.{length-plain_text}
-use Rattle.tape_shelf.specs.SavedTape.{saved_block, saved_blocks, saved_tape, tape_length}
+use Rattle.tape_shelf.specs.SavedTape.{saved_block, saved_blocks, saved_tape}
 
 -- ---- parts of a list
 
@@ -93,7 +93,7 @@ framed_numbers from numbers (suc n) =
     (omega (arith, sum_by_push framed_length (saved_blocks from numbers n) (saved_block from numbers n), framed_numbers from numbers n, bytes_length (take 256 (drop (256 * n) numbers)), more))
 
 -- as many numbers as there are words, or fewer, need no more room than that many words
-pub room_enough : (from : ℕ) (numbers : List ℕ) (start words : ℕ) → length numbers ≤ words → length (plain_text (saved_tape from numbers start)) ≤ tape_length words
+pub room_enough : (from : ℕ) (numbers : List ℕ) (start words : ℕ) → length numbers ≤ words → length (plain_text (saved_tape from numbers start)) ≤ 7 + 7 * ((words + 255) / 256) + 2 * words
 room_enough from numbers start words few =
     let blocks : ℕ = (length numbers + 255) / 256 in
     omega (arith, few, length-plain_text (saved_tape from numbers start), framed_numbers from numbers blocks, length_take_no_more (256 * blocks) numbers)

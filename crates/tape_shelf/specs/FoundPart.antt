@@ -4,7 +4,7 @@ use Rattle.std.specs.List.{flat_map}
 use Rattle.tape_values.specs.Block.{block_at, data_block, low_first}
 use Rattle.request_values.specs.declared.range.AddressRange.{AddressRange}
 use Rattle.tape_shelf.specs.declared.shelf.ShelfFault.{ShelfFault}
-use Rattle.tape_shelf.specs.declared.shelf.ShelfFault.TheVariants.{NotOfSave, Memory}
+use Rattle.tape_shelf.specs.declared.shelf.ShelfFault.TheVariants.{NotOfSave}
 use Rattle.tape_shelf.specs.SavedSteps.{adds, full}
 use Rattle.tape_shelf.specs.SavedTape.{block_words, room_for, words_in}
 use Rattle.tape_shelf.specs.Shelf.{written}
@@ -27,10 +27,6 @@ BeginsAt from text = (get_or text 0 0 ≡ 1) × (get_or text 1 0 ≡ 0) × (get_
 abbrev pub IsPartOf : AddressRange → List ℕ → Type 0
 IsPartOf range text = (length text ≡ room_for range) × (IsBlank text ⊎ BeginsAt range.from text)
 
--- a text begins with the full blocks that these numbers make from an address on
-abbrev pub BeginsWith : ℕ → List ℕ → List ℕ → Type 0
-BeginsWith from numbers text = (behind : List ℕ) × (text ≡ written (adds from numbers (full numbers)) ++ behind)
-
 -- numbers make a complete block whose first byte is for this address, and this is its text
 pub record MakeBlock (address : ℕ) (numbers block : List ℕ) : Type 0 where
   pub whole : length numbers ≡ block_words
@@ -47,24 +43,14 @@ HasBlock range text n = (block_words * n + block_words ≤ words_in range) × Is
 -- numbers are found in a text: it begins with the blocks that they fill, and no complete one comes behind these
 pub record AreFoundIn (range : AddressRange) (text numbers : List ℕ) : Type 0 where
   pub fill : FillBlocks range numbers
-  pub begins : BeginsWith range.from numbers text
+  pub begins : (behind : List ℕ) × (text ≡ written (adds range.from numbers (full numbers)) ++ behind)
   pub all : HasBlock range text (full numbers) → ⊥
 
 -- they are found in a text that may be what a save of the range left
 abbrev pub AreFoundInPart : AddressRange → List ℕ → List ℕ → Type 0
 AreFoundInPart range text numbers = IsPartOf range text × AreFoundIn range text numbers
 
--- nothing is found: the text is no part of such a save, or memory was wanting
-abbrev pub IsFindingFault : AddressRange → List ℕ → ShelfFault → Type 0
-IsFindingFault range text NotOfSave = IsPartOf range text → ⊥
-IsFindingFault range text Memory = IsPartOf range text
-IsFindingFault range text other = ⊥
-
 -- what was left there, as far as that is told, is refused as none of such a save only where it is none
 abbrev pub IsRefusedPart : AddressRange → Option (List ℕ) → ShelfFault → Type 0
 IsRefusedPart range left NotOfSave = IfSome left (λ text. IsPartOf range text → ⊥)
 IsRefusedPart range left other = ⊤
-
--- the numbers that make a block for this address stand behind others
-abbrev pub IsOneMore : ℕ → List ℕ → List ℕ → List ℕ → Type 0
-IsOneMore address before block after = (these : List ℕ) × MakeBlock address these block × (after ≡ before ++ these)

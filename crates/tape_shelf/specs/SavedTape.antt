@@ -31,14 +31,10 @@ rest_block from numbers =
 abbrev pub last_text : ℕ → List ℕ → ℕ → List ℕ
 last_text from numbers start = rest_block from numbers ++ transfer_block start
 
--- the length in bytes of a tape of so many words: each block and the transfer block have 7 beside their data
-abbrev pub tape_length : ℕ → ℕ
-tape_length words = 7 + 7 * ((words + 255) / 256) + 2 * words
-
 -- how many words a range has, both ends included
 abbrev pub words_in : AddressRange → ℕ
 words_in range = (range.to - range.from) / 2 + 1
 
--- the room in bytes that the tape of the words of a range needs
+-- the room in bytes that the tape of the words of a range needs: each block and the transfer block have 7 beside their data
 abbrev pub room_for : AddressRange → ℕ
-room_for range = tape_length (words_in range)
+room_for range = 7 + 7 * ((words_in range + 255) / 256) + 2 * words_in range

@@ -5,16 +5,14 @@ use Rattle.std.specs.String.{string_bytes}
 use Rattle.byte_io.specs.Output.{WritesPrefix}
 use Rattle.byte_io.specs.Text.{name_slash}
 use Rattle.host_devices.specs.Told.{HasAsked}
-use Rattle.record_file.specs.DiskStep.{DiskStep, Did, Failed, LedTo, step_by, AreAside}
+use Rattle.record_file.specs.DiskStep.{DiskStep, Did, Failed, LedTo, step_by, AreAside, HasFailed}
 use Rattle.record_file.specs.DiskStep.{DiskRequest, LookAtName, FindFile, Open, Hold, FindSoleFile, Link, Rename, Remove, SyncFolder, Cut, SyncFile}
 use Rattle.record_file.specs.Folder.{IsFolderOf}
 use Rattle.record_file.specs.declared.disk.Access.TheVariants.{ReadOnly, ReadWrite, New}
 use Rattle.request_values.specs.Change.{Change, ◌⇒◌}
 use Rattle.tape_shelf.specs.declared.new_file.Part.{Part}
 use Rattle.tape_shelf.specs.declared.shelf.ShelfFault.{ShelfFault}
-use Rattle.tape_shelf.specs.declared.shelf.ShelfFault.TheVariants.{IsThere, Write}
-
--- ---- names
+use Rattle.tape_shelf.specs.declared.shelf.ShelfFault.TheVariants.{IsThere, PartIsThere, NotOfSave, Write, Memory}
 
 -- the name of the file that holds the blocks of a tape while a save is on its way
 abbrev pub part_name : List ℕ → List ℕ
@@ -36,25 +34,22 @@ pub data IsGone (name : List ℕ) (written : Option (List ℕ)) : List DiskStep 
   Goes : (removed : Bool) → IsGone name written (Did (FindFile name written) ∷ step_by (Remove name) removed ∷ [])
   HasAnother : IsGone name written (Failed (FindFile name written) ∷ [])
 
--- what is asked leaves each file as it is: it is looked at, or opened where it is there, or held, or brought to the disk
-abbrev pub LeavesAll : DiskRequest → Type 0
-LeavesAll (LookAtName name) = ⊤
-LeavesAll (FindSoleFile name) = ⊤
-LeavesAll (FindFile name written) = ⊤
-LeavesAll (Open ReadOnly name) = ⊤
-LeavesAll (Open ReadWrite name) = ⊤
-LeavesAll (Hold name) = ⊤
-LeavesAll (SyncFile written) = ⊤
-LeavesAll other = ⊥
+-- what is asked leaves each file as it is: it is looked at, or opened, to be written only under this name, or held, or brought to the disk
+abbrev pub LeavesAll : List ℕ → DiskRequest → Type 0
+LeavesAll own (FindSoleFile name) = ⊤
+LeavesAll own (FindFile name written) = ⊤
+LeavesAll own (Open ReadOnly name) = ⊤
+LeavesAll own (Open ReadWrite name) = name ≡ own
+LeavesAll own (Hold name) = ⊤
+LeavesAll own (SyncFile written) = ⊤
+LeavesAll own other = ⊥
 
--- nothing else was asked, but for a name that could not be given
-abbrev pub LeaveAll : List DiskStep → Type 0
-LeaveAll [] = ⊤
-LeaveAll (Did request ∷ more) = LeavesAll request × LeaveAll more
-LeaveAll (Failed (Link from to) ∷ more) = LeaveAll more
-LeaveAll (Failed (Rename from to left) ∷ more) = LeaveAll more
-LeaveAll (Failed request ∷ more) = LeavesAll request × LeaveAll more
-LeaveAll (LedTo name target ∷ more) = ⊥
+-- nothing else was asked
+abbrev pub LeaveAll : List ℕ → List DiskStep → Type 0
+LeaveAll own [] = ⊤
+LeaveAll own (Did request ∷ more) = LeavesAll own request × LeaveAll own more
+LeaveAll own (Failed request ∷ more) = LeavesAll own request × LeaveAll own more
+LeaveAll own (LedTo name target ∷ more) = ⊥
 
 -- ---- room
 
@@ -64,16 +59,37 @@ abbrev pub making : List ℕ → List ℕ → Option (List ℕ) → List DiskSte
 making own folder filled =
     Did (Open New own) ∷ Did (Hold own) ∷ Did (SyncFile filled) ∷ Did (SyncFolder folder) ∷ Did (Open ReadWrite own) ∷ Did (FindFile own filled) ∷ []
 
--- there is no room: something has the name; or no file came, went or changed but the one beside, and what was made of that went again
+-- it is not: memory was wanting, or something has its name, or it can't be made, held or filled, and then what was made of it went again
+pub data IsUnmade (own : List ℕ) : ShelfFault → List DiskStep → Type 0 where
+  NoMemory : IsUnmade own Memory []
+  WasLeft : IsUnmade own PartIsThere (Failed (Open New own) ∷ [])
+  NotMade : (made : Bool) (more : List DiskStep) → AreAside own false (step_by (Open New own) made ∷ more)
+      → IsUnmade own Write (step_by (Open New own) made ∷ more)
+
+-- the folder of a name can't be opened; or it is, and what comes of the file beside is this
+pub data InFolder (name : List ℕ) (P : ShelfFault → List DiskStep → Type 0) : ShelfFault → List DiskStep → Type 0 where
+  Shut : (folder : List ℕ) → IsFolderOf name folder → InFolder name P Write (Failed (Open ReadOnly folder) ∷ [])
+  Opened : (folder : List ℕ) (fault : ShelfFault) (steps : List DiskStep) → IsFolderOf name folder → P fault steps
+      → InFolder name P fault (Did (Open ReadOnly folder) ∷ steps)
+
+-- there is no room: something has the name, or nothing has, and no file beside is made
 pub data IsNotReserved (name : List ℕ) : ShelfFault → List DiskStep → Type 0 where
   NotFree : (fault : ShelfFault) (steps : List DiskStep) → IsSearch name (Some fault) steps → IsNotReserved name fault steps
-  NotMade : (fault : ShelfFault) (steps : List DiskStep) → AreAside (part_name name) false steps → IsNotReserved name fault (Failed (LookAtName name) ∷ steps)
+  NoFile : (fault : ShelfFault) (steps : List DiskStep) → InFolder name (IsUnmade (part_name name)) fault steps
+      → IsNotReserved name fault (Failed (LookAtName name) ∷ steps)
 
 -- a file that an earlier save left is held, a plain one without another name, and read, and opened once more to be written from its front on, and
 -- it still has its name
 abbrev pub taking_left : List ℕ → Option (List ℕ) → List DiskStep
 taking_left own held =
     Did (FindSoleFile own) ∷ Did (Open ReadWrite own) ∷ Did (Hold own) ∷ Did (Open ReadOnly own) ∷ Did (Open ReadWrite own) ∷ Did (FindFile own held) ∷ []
+
+-- it is not: something failed, or it can't be read; or nothing failed, and it is none of such a save, or memory was wanting. Each file is left as it is
+abbrev pub IsUntaken : List ℕ → ShelfFault → List DiskStep → Type 0
+IsUntaken own PartIsThere steps = LeaveAll own steps × (HasFailed steps ⊎ ((front : List DiskStep) × (steps ≡ front ++ Did (Open ReadOnly own) ∷ [])))
+IsUntaken own NotOfSave steps = LeaveAll own steps × (HasFailed steps → ⊥)
+IsUntaken own Memory steps = LeaveAll own steps × (HasFailed steps → ⊥)
+IsUntaken own other steps = ⊥
 
 -- the file beside, where the blocks of a tape are: its name, what was written to it, how many bytes that is, and whether there is a block in it
 pub record Room : Type 0 where
@@ -113,9 +129,13 @@ syncing room = Did (Cut room.written room.length) ∷ Did (SyncFile room.written
 
 -- a file is given a second name, which no system does where something has it; where that can't be, it is renamed, once nothing was found to
 -- have the name
-pub data IsNaming (own name : List ℕ) : List DiskStep → Type 0 where
-  Linked : IsNaming own name (Did (Link own name) ∷ [])
-  Renamed : (left : Option (List ℕ)) → IsNaming own name (Failed (Link own name) ∷ Failed (LookAtName name) ∷ Did (Rename own name left) ∷ [])
+pub data IsNaming (own name : List ℕ) : Option ShelfFault → List DiskStep → Type 0 where
+  Linked : IsNaming own name None (Did (Link own name) ∷ [])
+  Taken : IsNaming own name (Some IsThere) (Failed (Link own name) ∷ [])
+  NotFreed : (fault : ShelfFault) (steps : List DiskStep) → IsSearch name (Some fault) steps → IsNaming own name (Some fault) (Failed (Link own name) ∷ steps)
+  Renamed : (left : Option (List ℕ)) → IsNaming own name None (Failed (Link own name) ∷ Failed (LookAtName name) ∷ Did (Rename own name left) ∷ [])
+  NotRenamed : (left : Option (List ℕ))
+      → IsNaming own name (Some Write) (Failed (Link own name) ∷ Failed (LookAtName name) ∷ Failed (Rename own name left) ∷ [])
 
 -- the new name goes again: the file has its own name, too, or gets it back
 pub data IsTakenBack (own name : List ℕ) (written : Option (List ℕ)) : List DiskStep → Type 0 where
@@ -124,13 +144,15 @@ pub data IsTakenBack (own name : List ℕ) (written : Option (List ℕ)) : List 
       → IsTakenBack own name written (Failed (FindFile own written) ∷ step_by (Rename name own left) done ∷ [])
 
 -- the file beside is on the disk before it gets the tape's name, and then the folder is, and its own name goes; where that fails, the new one goes again.
--- Where it does not get it, no file changed but that it may be cut
+-- Where it can't be brought there, no file changed but that it may be cut
 pub data IsNamed (place : Place) (room : Room) : Option ShelfFault → List DiskStep → Type 0 where
-  Unnamed : (fault : ShelfFault) (cut : Bool) (steps : List DiskStep) → LeaveAll steps
-      → IsNamed place room (Some fault) (step_by (Cut room.written room.length) cut ∷ steps)
-  Named : (naming going : List DiskStep) → IsNaming room.name place.name naming → IsGone room.name room.written going
+  Unsynced : (cut : Bool) (steps : List DiskStep) → LeaveAll room.name steps → HasFailed (step_by (Cut room.written room.length) cut ∷ steps)
+      → IsNamed place room (Some Write) (step_by (Cut room.written room.length) cut ∷ steps)
+  Unnamed : (fault : ShelfFault) (naming : List DiskStep) → IsNaming room.name place.name (Some fault) naming
+      → IsNamed place room (Some fault) (syncing room ++ naming)
+  Named : (naming going : List DiskStep) → IsNaming room.name place.name None naming → IsGone room.name room.written going
       → IsNamed place room None (syncing room ++ (naming ++ Did (SyncFolder place.folder) ∷ going))
-  Unsettled : (naming taking : List DiskStep) → IsNaming room.name place.name naming → IsTakenBack room.name place.name room.written taking
+  Unsettled : (naming taking : List DiskStep) → IsNaming room.name place.name None naming → IsTakenBack room.name place.name room.written taking
       → IsNamed place room (Some Write) (syncing room ++ (naming ++ Failed (SyncFolder place.folder) ∷ taking))
 
 -- the last text is written to it, and it gets the tape's name, with all that was written to it and no byte more; or that can't be written whole, or there

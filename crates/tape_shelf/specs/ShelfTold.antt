@@ -4,7 +4,7 @@ use Rattle.host_devices.specs.Told.{Gains}
 use Rattle.record_file.specs.DiskStep.{DiskStep}
 use Rattle.request_values.specs.Change.{Change}
 use Rattle.tape_shelf.specs.Shelf.{ShelfStep, Reserve, NotReserved, Resume, NotResumed, Add, NotAdded, Put, NotPut}
-use Rattle.tape_shelf.specs.ShelfDisk.{ShelfDisk, ShelfAsked, HasRoom, HasPart, IsAdding, IsNotReserved, IsPut, LeaveAll}
+use Rattle.tape_shelf.specs.ShelfDisk.{ShelfDisk, ShelfAsked, HasRoom, HasPart, InFolder, IsAdding, IsNotReserved, IsPut, IsUntaken, part_name}
 
 -- what was asked of it so far, in its order; the disk on which its tape goes, if on any; and the text that an earlier save left there. Each is None
 -- where its type doesn't tell
@@ -22,7 +22,7 @@ abbrev pub AsksFor : List ℕ → ShelfStep → Change ShelfDisk → List DiskSt
 AsksFor folder (Reserve length) disk steps = HasRoom folder length disk steps
 AsksFor folder (NotReserved length fault) disk steps = IsNotReserved disk.before.name fault steps × (disk.after.room ≡ disk.before.room)
 AsksFor folder (Resume numbers) disk steps = HasPart folder numbers disk steps
-AsksFor folder (NotResumed fault) disk steps = LeaveAll steps × (disk.after.room ≡ disk.before.room)
+AsksFor folder (NotResumed fault) disk steps = InFolder disk.before.name (IsUntaken (part_name disk.before.name)) fault steps × (disk.after.room ≡ disk.before.room)
 AsksFor folder (Add text) disk steps = IsAdding text true disk.before.room disk.after.room steps
 AsksFor folder (NotAdded text) disk steps = IsAdding text false disk.before.room disk.after.room steps
 AsksFor folder (Put text) disk steps =

@@ -1,12 +1,11 @@
 //! What is found in the file that an earlier save of the same words left.
-ghost use Rattle.std.specs.Prelude.{◌≡◌, ◌+◌, ◌*◌, ◌<◌, ◌≤◌, ◌↔◌, ◌++◌, All, List, ℕ, [], false, true, length, IfErr, IfOk, IsTrue, OnOk};
+ghost use Rattle.std.specs.Prelude.{◌≡◌, ◌+◌, ◌*◌, ◌<◌, ◌≤◌, ◌↔◌, ◌++◌, All, List, ℕ, [], false, true, length, IfOk, IfSome, IsTrue, MatchOption, OnOk};
 ghost use Rattle.std.specs.List.{flat_map};
 ghost use Rattle.tape_values.specs.Block.{low_first, top};
-ghost use Rattle.tape_shelf.specs.FoundPart.{AreFoundIn, BeginsAt, IsBlank, IsFindingFault, IsCompleteBlock, IsOneMore, IsPartOf};
+ghost use Rattle.tape_shelf.specs.FoundPart.{AreFoundIn, AreFoundInPart, BeginsAt, IsBlank, IsCompleteBlock, IsPartOf, MakeBlock};
 ghost use Rattle.tape_shelf.specs.SavedTape.{room_for};
 
 use crate::saved_tape::{BLOCK_WORDS, block_text, tape_room, words_of};
-use crate::shelf::ShelfFault;
 use request_values::AddressRange;
 use std::alloc::{AllocError, Global};
 
@@ -27,34 +26,35 @@ pub(crate) struct Found {
 }
 
 /// What is found in a text that a save of this range left: the numbers of the blocks of 512 bytes that are
-/// complete. What stands behind them was not brought to its end, and counts as not read.
+/// complete. What stands behind them was not brought to its end, and counts as not read. None where no such save
+/// left it.
 ///
-/// `NotOfSave` where no such save left it, `Memory` where a growth was refused.
-pub(crate) fn found_in(alloc: Global, range: AddressRange, text: &[u8]) -> Result<Found, ShelfFault>
-    ensures of_save { IfOk result (λ found. IsPartOf range text.now) }
-    ensures found { IfOk result (λ found. AreFoundIn range text.now found.numbers.items) }
-    ensures kept { IfOk result (λ found. found.kept ≡ false → found.numbers.items ≡ []) }
-    ensures fault { IfErr result (IsFindingFault range text.now) }
+/// The one error is want of memory.
+pub(crate) fn found_in(
+    alloc: Global,
+    range: AddressRange,
+    text: &[u8],
+) -> Result<Option<Found>, AllocError>
+    ensures found { IfOk result (λ found. MatchOption found (IsPartOf range text.now → ⊥) (λ found. AreFoundInPart range text.now found.numbers.items)) }
+    ensures kept { IfOk result (λ found. IfSome found (λ found. found.kept ≡ false → found.numbers.items ≡ [])) }
 {
     if text.len() != tape_room(range) {
-        return Err(ShelfFault::NotOfSave);
+        return Ok(None);
     }
     if is_blank(text) {
-        return Ok(Found {
+        return Ok(Some(Found {
             numbers: Vec::new(alloc),
             kept: false,
-        });
+        }));
     }
     if !begins_at(range.from(), text) {
-        return Err(ShelfFault::NotOfSave);
+        return Ok(None);
     }
-    match blocks_in(alloc, range, text) {
-        Ok(numbers) => Ok(Found {
-            numbers,
-            kept: true,
-        }),
-        Err(_) => Err(ShelfFault::Memory),
-    }
+    let numbers = blocks_in(alloc, range, text)?;
+    Ok(Some(Found {
+        numbers,
+        kept: true,
+    }))
 }
 
 // Whether a text has only bytes 00.
@@ -109,7 +109,8 @@ fn put_block(
     requires small { All (λ n. n < 65536) numbers.old.items }
     ensures small { OnOk result (All (λ n. n < 65536) numbers.new.items) }
     ensures kept { IfOk result (λ complete. complete ≡ false → numbers.new.items ≡ numbers.old.items) }
-    ensures more { IfOk result (λ complete. complete ≡ true → IsOneMore (from + 512 * number) numbers.old.items block.now numbers.new.items) }
+    ensures more { IfOk result (λ complete. complete ≡ true → (these : List ℕ)
+        × MakeBlock (from + 512 * number) these block.now × (numbers.new.items ≡ numbers.old.items ++ these)) }
     ensures none { IfOk result (λ complete. complete ≡ false → IsCompleteBlock (from + 512 * number) block.now → ⊥) }
 {
     let before = numbers.len();

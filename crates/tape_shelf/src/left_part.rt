@@ -6,7 +6,7 @@ ghost use Rattle.record_file.specs.DiskStep.{Did, FindFile, FindSoleFile, Hold, 
 ghost use Rattle.record_file.specs.Folder.{IsFolderOf};
 ghost use Rattle.record_file.specs.declared.disk.Access.TheVariants.{ReadOnly, ReadWrite};
 ghost use Rattle.tape_shelf.specs.FoundPart.{AreFoundInPart, FillBlocks, IsRefusedPart};
-ghost use Rattle.tape_shelf.specs.ShelfDisk.{LeaveAll, part_name, taking_left};
+ghost use Rattle.tape_shelf.specs.ShelfDisk.{InFolder, IsUntaken, part_name, taking_left};
 
 use crate::found_part::{Found, found_in};
 use crate::new_file::{PART, Part};
@@ -36,13 +36,13 @@ pub(crate) fn take_left<D: Disk>(
         × HasAsked (D.asked disk.old) (D.asked disk.new)
         (λ steps. steps ≡ Did (Open ReadOnly folder) ∷ taking_left (part_name name.now) (D.File.contents left.0.held))) }
     ensures refused { IfErr result (IsRefusedPart range (D.holds disk.old (part_name name.now))) }
-    ensures failed { OnErr result (HasAsked (D.asked disk.old) (D.asked disk.new) LeaveAll) }
+    ensures failed { IfErr result (λ fault. HasAsked (D.asked disk.old) (D.asked disk.new) (InFolder name.now (IsUntaken (part_name name.now)) fault)) }
 {
-    let Ok(own) = format!(in alloc; "{name}{PART}") else {
-        return Err(ShelfFault::Memory);
-    };
     let Ok(folder) = disk.open(Access::ReadOnly, folder_of(name)) else {
         return Err(ShelfFault::Write);
+    };
+    let Ok(own) = format!(in alloc; "{name}{PART}") else {
+        return Err(ShelfFault::Memory);
     };
     match take_named(disk, alloc, own.as_str(), range) {
         Ok((held, file, found)) => {
@@ -75,7 +75,7 @@ fn take_named<D: Disk>(
     ensures untouched { IfOk result (λ left. OnSome (D.asked disk.new) (D.File.contents left.0 ≡ Some [])) }
     ensures asked { IfOk result (λ left. HasAsked (D.asked disk.old) (D.asked disk.new) (λ steps. steps ≡ taking_left name.now (D.File.contents left.0))) }
     ensures refused { IfErr result (IsRefusedPart range (D.holds disk.old name.now)) }
-    ensures failed { OnErr result (HasAsked (D.asked disk.old) (D.asked disk.new) LeaveAll) }
+    ensures failed { IfErr result (λ fault. HasAsked (D.asked disk.old) (D.asked disk.new) (IsUntaken name.now fault)) }
 {
     let held = match hold_left(disk, name) {
         Ok(held) => held,
@@ -98,7 +98,7 @@ fn hold_left<D: Disk>(disk: &mut D, name: &str) -> Result<D::File, ShelfFault>
         Did (FindSoleFile name.now) ∷ Did (Open ReadWrite name.now) ∷ Did (Hold name.now) ∷ [])) }
     ensures kept { HoldStill (D.holds disk.old) (D.holds disk.new) }
     ensures refused { IfErr result (λ fault. fault ≡ ShelfFault.PartIsThere) }
-    ensures failed { OnErr result (HasAsked (D.asked disk.old) (D.asked disk.new) LeaveAll) }
+    ensures failed { OnErr result (HasAsked (D.asked disk.old) (D.asked disk.new) (IsUntaken name.now ShelfFault.PartIsThere)) }
 {
     if !disk.is_sole_file(name) {
         return Err(ShelfFault::PartIsThere);
@@ -127,15 +127,20 @@ fn read_left<D: Disk>(
     ensures left { IfOk result (λ found. IfSome (D.holds disk.old name.now) (λ text. AreFoundInPart range text found.numbers.items)) }
     ensures asked { OnOk result (HasAsked (D.asked disk.old) (D.asked disk.new) (λ steps. steps ≡ Did (Open ReadOnly name.now) ∷ [])) }
     ensures refused { IfErr result (IsRefusedPart range (D.holds disk.old name.now)) }
-    ensures failed { OnErr result (HasAsked (D.asked disk.old) (D.asked disk.new) LeaveAll) }
+    ensures failed { IfErr result (λ fault. HasAsked (D.asked disk.old) (D.asked disk.new) (IsUntaken name.now fault)) }
 {
-    match disk.open(Access::ReadOnly, name) {
-        Ok(mut file) => match take_up_to(alloc, &mut file, tape_room(range) + 1) {
-            Ok(text) => found_in(alloc, range, &text),
-            Err(InputFault::Read) => Err(ShelfFault::PartIsThere),
-            Err(InputFault::Memory) => Err(ShelfFault::Memory),
-        },
-        Err(_) => Err(ShelfFault::PartIsThere),
+    let Ok(mut file) = disk.open(Access::ReadOnly, name) else {
+        return Err(ShelfFault::PartIsThere);
+    };
+    let text = match take_up_to(alloc, &mut file, tape_room(range) + 1) {
+        Ok(text) => text,
+        Err(InputFault::Read) => return Err(ShelfFault::PartIsThere),
+        Err(InputFault::Memory) => return Err(ShelfFault::Memory),
+    };
+    match found_in(alloc, range, &text) {
+        Ok(Some(found)) => Ok(found),
+        Ok(None) => Err(ShelfFault::NotOfSave),
+        Err(_) => Err(ShelfFault::Memory),
     }
 }
 
@@ -145,7 +150,7 @@ fn open_left<D: Disk>(disk: &mut D, name: &str, held: &D::File) -> Result<D::Fil
     ensures asked { OnOk result (HasAsked (D.asked disk.old) (D.asked disk.new) (λ steps. steps ≡
         Did (Open ReadWrite name.now) ∷ Did (FindFile name.now (D.File.contents held.now)) ∷ [])) }
     ensures refused { IfErr result (λ fault. fault ≡ ShelfFault.PartIsThere) }
-    ensures failed { OnErr result (HasAsked (D.asked disk.old) (D.asked disk.new) LeaveAll) }
+    ensures failed { OnErr result (HasAsked (D.asked disk.old) (D.asked disk.new) (IsUntaken name.now ShelfFault.PartIsThere)) }
 {
     match disk.open(Access::ReadWrite, name) {
         Ok(file) => {

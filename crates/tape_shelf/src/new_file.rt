@@ -11,7 +11,7 @@ ghost use Rattle.record_file.specs.DiskStep.{held_behind};
 ghost use Rattle.record_file.specs.Folder.{IsFolderOf};
 ghost use Rattle.tape_shelf.specs.Shelf.{IsPutFault};
 ghost use Rattle.tape_shelf.specs.ShelfDisk.{part_name, making, room_of, syncing, IsNoFileName, IsSearch};
-ghost use Rattle.tape_shelf.specs.ShelfDisk.{Place, IsAdding, IsClosed, IsGone, IsNamed, IsNaming, IsPut, IsTakenBack, LeaveAll};
+ghost use Rattle.tape_shelf.specs.ShelfDisk.{Place, IsAdding, IsClosed, IsGone, IsNamed, IsNaming, IsPut, IsTakenBack, IsUnmade, InFolder};
 
 use crate::left_part::take_left;
 use crate::shelf::{Shelf, ShelfFault};
@@ -155,7 +155,7 @@ fn make_part<D: Disk>(
         × HasAsked (D.asked disk.old) (D.asked disk.new)
         (λ steps. steps ≡ Did (Open Access.ReadOnly folder) ∷ making (part_name name.now) folder (D.File.contents part.held))) }
     ensures left { IfErr result (λ fault. fault ≡ ShelfFault.PartIsThere → HoldStill (D.holds disk.old) (D.holds disk.new)) }
-    ensures failed { OnErr result (HasAsked (D.asked disk.old) (D.asked disk.new) (AreAside (part_name name.now) false)) }
+    ensures failed { IfErr result (λ fault. HasAsked (D.asked disk.old) (D.asked disk.new) (InFolder name.now (IsUnmade (part_name name.now)) fault)) }
 {
     let Ok(folder) = disk.open(Access::ReadOnly, folder_of(name)) else {
         return Err(ShelfFault::Write);
@@ -194,8 +194,8 @@ fn make_filled<D: Disk>(
     ensures made { IfOk result (λ files. (dir : List ℕ) → D.is_opened_as folder.now dir
         → HasAsked (D.asked disk.old) (D.asked disk.new) (λ steps. steps ≡ making name.now dir (D.File.contents files.0))) }
     ensures left { IfErr result (λ fault. fault ≡ ShelfFault.PartIsThere → HoldStill (D.holds disk.old) (D.holds disk.new)) }
-    ensures not_made { OnErr result ((dir : List ℕ) → D.is_opened_as folder.now dir
-        → HasAsked (D.asked disk.old) (D.asked disk.new) (AreAside name.now false)) }
+    ensures not_made { IfErr result (λ fault. (dir : List ℕ) → D.is_opened_as folder.now dir
+        → HasAsked (D.asked disk.old) (D.asked disk.new) (IsUnmade name.now fault)) }
 {
     match make_held(disk, name) {
         Ok(mut held) => match take_room(disk, name, folder, &mut held, zeros) {
@@ -251,7 +251,7 @@ fn take_room<D: Disk>(
 fn make_held<D: Disk>(disk: &mut D, name: &str) -> Result<D::File, ShelfFault>
     ensures fresh { IfOk result (λ file. OnSome (D.asked disk.new) (D.File.contents file ≡ Some [])) }
     ensures asked { OnOk result (HasAsked (D.asked disk.old) (D.asked disk.new) (λ steps. steps ≡ Did (Open Access.New name.now) ∷ Did (Hold name.now) ∷ [])) }
-    ensures failed { OnErr result (HasAsked (D.asked disk.old) (D.asked disk.new) (AreAside name.now false)) }
+    ensures failed { IfErr result (λ fault. HasAsked (D.asked disk.old) (D.asked disk.new) (IsUnmade name.now fault)) }
     ensures left { HoldStill (D.holds disk.old) (D.holds disk.new) }
 {
     match disk.open(Access::New, name) {
@@ -374,8 +374,7 @@ fn take_back<D: Disk>(disk: &mut D, own: &str, file: &D::File, name: &str)
 // for right before.
 fn give_name<D: Disk>(disk: &mut D, own: &str, file: &D::File, name: &str) -> Result<(), ShelfFault>
     ensures fault { IfErr result IsPutFault }
-    ensures asked { OnOk result (HasAsked (D.asked disk.old) (D.asked disk.new) (IsNaming own.now name.now)) }
-    ensures failed { OnErr result (HasAsked (D.asked disk.old) (D.asked disk.new) LeaveAll) }
+    ensures asked { HasAsked (D.asked disk.old) (D.asked disk.new) (IsNaming own.now name.now (fault_of result)) }
 {
     match disk.link(own, name) {
         Ok(()) => Ok(()),
@@ -392,8 +391,8 @@ fn rename_to_free<D: Disk>(
     name: &str,
 ) -> Result<(), ShelfFault>
     ensures fault { IfErr result IsPutFault }
-    ensures asked { OnOk result (HasAsked (D.asked disk.old) (D.asked disk.new) (λ steps. IsNaming own.now name.now (Failed (Link own.now name.now) ∷ steps))) }
-    ensures failed { OnErr result (HasAsked (D.asked disk.old) (D.asked disk.new) LeaveAll) }
+    ensures asked { HasAsked (D.asked disk.old) (D.asked disk.new)
+        (λ steps. IsNaming own.now name.now (fault_of result) (Failed (Link own.now name.now) ∷ steps)) }
 {
     match find_free(disk, name) {
         Ok(()) => match disk.rename(file, own, name) {

@@ -1,9 +1,9 @@
 use Rattle.std.proofs.Common.{◌≡◌, ◌+◌, ◌*◌, ◌-◌, ◌/◌, ◌<◌, ◌≤◌, ◌∙◌, List, ℕ, length, take, drop, ap, subst, sym, arith, length-append}
 use Rattle.std.specs.Prelude.{All}
 use Rattle.std.proofs.lemmas.List.Elements.{All-nil}
-use Rattle.tape_shelf.specs.FoundPart.{AreFoundIn, IsCompleteBlock, IsOneMore}
+use Rattle.tape_shelf.specs.FoundPart.{AreFoundIn, IsCompleteBlock}
 use Rattle.tape_shelf.specs.SavedTape.{words_in}
-use Rattle.tape_shelf.proofs.FoundBlocks.{all_found, begins_with_none, next_block, no_more, none_behind}
+use Rattle.tape_shelf.proofs.FoundBlocks.{IsOneMore, all_found, begins_with_none, next_block, no_more, none_behind}
 use Rattle.tape_shelf.proofs.found_part.blocks_in.Goals.{else-loop-number-test, then-loop-number-test+in_ok-put_block+then-not-branch}
 use Rattle.tape_shelf.proofs.found_part.blocks_in.Goals as goal
 

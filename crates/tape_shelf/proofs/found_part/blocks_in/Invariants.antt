@@ -1,7 +1,7 @@
 -- The numbers of the blocks before this one, with which the text begins.
 use Rattle.std.proofs.Common.{◌≡◌, ◌<◌, ◌*◌, length}
 use Rattle.std.specs.Prelude.{All}
-use Rattle.tape_shelf.specs.FoundPart.{BeginsWith}
+use Rattle.tape_shelf.proofs.FoundBlocks.{BeginsWith}
 use Rattle.tape_shelf.proofs.found_part.blocks_in.Given as goal
 
 abbrev pub invariant-loop-number : goal.invariant-loop-number

@@ -1,10 +1,19 @@
 use Rattle.std.proofs.Common.{◌∙◌}
-use Rattle.tape_shelf.proofs.OnShelf.{resumed, still_idle}
+use Rattle.record_file.proofs.Asking.{asked_one}
+use Rattle.tape_shelf.specs.ShelfDisk.{IsUntaken, Opened, Shut}
+use Rattle.tape_shelf.proofs.OnShelf.{in_folder, resumed}
 use Rattle.tape_shelf.proofs.left_part.take_left.Goals as goal
+
+pub returns-in_default-clause-failed : goal.returns-in_default-clause-failed
+returns-in_default-clause-failed g c = asked_one _ _ _ c.in_default.ensures.asked (Shut _ c.folder_of.ensures)
+
+pub returns-in_default-format-clause-failed : goal.returns-in_default-format-clause-failed
+returns-in_default-format-clause-failed g c = asked_one _ _ _ c.in-Ok.ensures.asked (Opened _ _ _ c.folder_of.ensures (tt, λ has. has))
 
 pub returns-in-Ok-take_named-clause-asked : goal.returns-in-Ok-take_named-clause-asked
 returns-in-Ok-take_named-clause-asked g c =
-    (_, c.in-Ok-open.ensures.opened, c.folder_of.ensures, resumed _ _ _ _ _ _ _ (c.as_str.ensures.value ∙ c.in-Ok.ensures.ok) c.in-Ok-open.ensures.asked c.in-Ok-take_named.ensures.asked)
+    (_, c.in-Ok.ensures.opened, c.folder_of.ensures, resumed _ _ _ _ _ _ _ (c.as_str.ensures.value ∙ c.in-Ok-format.ensures.ok) c.in-Ok.ensures.asked c.in-Ok-take_named.ensures.asked)
 
 pub returns-in-Err-clause-failed : goal.returns-in-Err-clause-failed
-returns-in-Err-clause-failed g c = still_idle _ _ _ _ c.in-Ok-open.ensures.asked (tt, tt) c.in-Err.ensures.failed
+returns-in-Err-clause-failed g c =
+    in_folder IsUntaken _ _ _ _ _ _ _ (c.as_str.ensures.value ∙ c.in-Ok-format.ensures.ok) c.folder_of.ensures c.in-Ok.ensures.asked c.in-Err.ensures.failed

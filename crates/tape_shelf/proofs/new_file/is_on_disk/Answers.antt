@@ -3,16 +3,16 @@ use Rattle.record_file.proofs.Asking.{asked_one, tells_failed, tells_done}
 use Rattle.std.proofs.Common.{true, false}
 use Rattle.tape_shelf.specs.ShelfDisk.{room_of}
 use Rattle.tape_shelf.proofs.OnShelf.{found_or_not}
-use Rattle.tape_shelf.specs.ShelfDisk.{Unnamed}
+use Rattle.tape_shelf.specs.ShelfDisk.{Unsynced}
 use Rattle.tape_shelf.proofs.new_file.is_on_disk.Goals as goal
 
 pub returns-then-is_err-clause-failed : goal.returns-then-is_err-clause-failed
-returns-then-is_err-clause-failed g c place = asked_one _ _ _ (tells_failed _ _ _ c.cut.result c.cut.ensures.asked c.if-is_err.ensures.value) (Unnamed _ false _ tt)
+returns-then-is_err-clause-failed g c place = asked_one _ _ _ (tells_failed _ _ _ c.cut.result c.cut.ensures.asked c.if-is_err.ensures.value) (Unsynced false _ tt tt)
 
 pub returns-then-is_err-2-clause-failed : goal.returns-then-is_err-2-clause-failed
 returns-then-is_err-2-clause-failed g c place =
     let was_cut = tells_done _ _ _ c.cut.result c.cut.ensures.asked c.if-is_err.ensures.value in
-    asked_one _ _ _ (tells_join _ _ _ _ _ was_cut (tells_failed _ _ _ c.sync_file.result c.sync_file.ensures.asked c.if-is_err-2.ensures.value)) (Unnamed _ true _ (tt, tt))
+    asked_one _ _ _ (tells_join _ _ _ _ _ was_cut (tells_failed _ _ _ c.sync_file.result c.sync_file.ensures.asked c.if-is_err-2.ensures.value)) (Unsynced true _ (tt, tt) tt)
 
 pub returns : goal.returns
 returns g c =

@@ -6,7 +6,8 @@ pub returns-then-not-is_on_disk-clause-asked : goal.returns-then-not-is_on_disk-
 returns-then-not-is_on_disk-clause-asked g c folder opened = c.if-not-is_on_disk.ensures.failed _
 
 pub returns-in-Err-clause-asked : goal.returns-in-Err-clause-asked
-returns-in-Err-clause-asked g c folder opened = not_named _ _ _ _ _ _ c.if-not-is_on_disk.ensures.asked c.in-Err.ensures.failed
+returns-in-Err-clause-asked g c folder opened =
+    not_named _ (room_of g.D.File.Write.contents c.args.part.now) _ _ _ _ _ c.as_str.ensures.value c.if-not-is_on_disk.ensures.asked c.in-Err.ensures.asked
 
 pub returns-in-Ok-sync_folder-clause-asked : goal.returns-in-Ok-sync_folder-clause-asked
 returns-in-Ok-sync_folder-clause-asked g c folder opened =

@@ -7,10 +7,10 @@ use Rattle.load_engine.specs.Lent.{memory_told}
 use Rattle.record_file.specs.DiskStep.{DiskStep}
 use Rattle.requests.specs.Asked.{SystemAsked, asked_of}
 use Rattle.requests.specs.Moment.{Moment}
-use Rattle.simulated_system.specs.LineRequests.{asked_by}
-use Rattle.simulated_system.specs.ToldOpenings.{opened_by}
-use Rattle.simulated_system.specs.declared.line_request.LineRequest.{LineRequest}
-use Rattle.simulated_system.specs.declared.told_opening.ToldOpening.{ToldOpening}
+use Rattle.told_calls.specs.LineRequests.{asked_by}
+use Rattle.told_calls.specs.ToldOpenings.{opened_by}
+use Rattle.told_calls.specs.declared.line_request.LineRequest.{LineRequest}
+use Rattle.told_calls.specs.declared.told_opening.ToldOpening.{ToldOpening}
 
 -- the lines that were given back
 abbrev pub lines_told : List LineValue → List LineTold

@@ -3,16 +3,16 @@ ghost use Rattle.std.specs.Prelude.{◌≡◌, ◌∷◌, [], ◌++◌, Some};
 ghost use Rattle.std.specs.String.{string_bytes};
 ghost use Rattle.console_lines.specs.Path.{call_to};
 ghost use Rattle.console_lines.specs.Dialling.{asked_first};
-ghost use Rattle.simulated_system.specs.LineRequests.{asked_by, request};
+ghost use Rattle.told_calls.specs.LineRequests.{asked_by, request};
 ghost use Rattle.command_tests.specs.ToldSystem.{lines_told};
 
 use console_lines::{Consoles, Dial, is_path};
 use honest_line::MemoryLine;
 use host_devices::LineFault;
 use odt_machine::Odt;
-use simulated_system::LineRequest;
 use std::alloc::Global;
 use std::process::Abort;
+use told_calls::LineRequest;
 
 // How much may be said on a line.
 const ROOM: u32 = 20_000;

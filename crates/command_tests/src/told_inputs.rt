@@ -1,15 +1,15 @@
 //! Files that are opened to be read, with a list of which were, and what each held.
 ghost use Rattle.std.specs.Prelude.{Some};
-ghost use Rattle.simulated_system.specs.ToldOpenings.{opened_by};
+ghost use Rattle.told_calls.specs.ToldOpenings.{opened_by};
 
 use input_files::InputFiles;
-use simulated_system::ToldOpening;
 use std::alloc::Global;
 use std::collections::VecDeque;
 use std::io::Read;
 use std::process::Abort;
 use std::rt::Files;
 use std::{fs, io};
+use told_calls::ToldOpening;
 
 /// The files of the system, which tell which of them were opened, and what these hold: each is read when it is opened.
 /// Where there is no memory for one thing more the process ends, since a list that lacks one would be wrong.

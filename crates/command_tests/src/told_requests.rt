@@ -10,12 +10,13 @@ use honest_line::MemoryLine;
 use host_devices::Item;
 use odt_machine::{LARGEST_WORDS, Odt, PLAIN_STYLE};
 use request_values::Load;
-use simulated_system::{LineRequest, ONE_WORD, QUIET_MS, ToldDisk, ToldOpening, remove};
+use simulated_system::{ONE_WORD, QUIET_MS, remove};
 use std::fs;
 use std::process::Abort;
 use std::rt::Files;
 use std::test::Fail;
 use std::time::Clock;
+use told_calls::{LineRequest, ToldDisk, ToldOpening};
 
 const TAPE: &str = "told.lda";
 

@@ -11,12 +11,12 @@ use crate::told_inputs::ToldInputs;
 use endings::Streams;
 use request_values::Request;
 use requests::{Kinds, System, attempt};
-use simulated_system::ToldDisk;
 use std::alloc::Global;
 use std::marker::Model;
 use std::process::Abort;
 use std::rt::Files;
 use std::time::Clock;
+use told_calls::ToldDisk;
 use witness::Witness;
 
 /// The kinds of its parts.
@@ -44,7 +44,7 @@ pub(crate) struct ToldSystem<'a, R: Abort + Files> {
 
 impl<'a, R: Abort + Files> Model for ToldSystem<'a, R> {
     ghost use Rattle.requests.specs.Asked.{SystemAsked};
-    ghost use Rattle.simulated_system.specs.ToldSteps.{steps_of};
+    ghost use Rattle.told_calls.specs.ToldSteps.{steps_of};
     ghost use Rattle.command_tests.specs.ToldSystem.{asked_told};
 
     ghost Value = { SystemAsked };

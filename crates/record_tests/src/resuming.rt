@@ -3,9 +3,9 @@ ghost use Rattle.std.specs.Prelude.{IfOk};
 ghost use Rattle.tape_shelf.specs.FoundPart.{AreFoundInPart};
 
 use request_values::AddressRange;
-use simulated_system::MemoryDisk;
 use std::alloc::Global;
 use tape_shelf::{NewFile, Shelf, ShelfFault};
+use told_calls::MemoryDisk;
 
 // The file of a save, and the one beside it.
 const SAVED: &str = "d.lda";

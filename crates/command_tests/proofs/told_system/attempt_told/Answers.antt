@@ -3,7 +3,7 @@ use Rattle.endings.specs.Held.{Held}
 use Rattle.request_values.specs.Change.{◌⇒◌}
 use Rattle.requests.specs.Asked.{SystemAsked}
 use Rattle.requests.specs.Attempt.{IsAttempted}
-use Rattle.simulated_system.specs.ToldSteps.{steps_of}
+use Rattle.told_calls.specs.ToldSteps.{steps_of}
 use Rattle.command_tests.specs.ToldSystem.{asked_told, held_told, moment_told}
 use Rattle.command_tests.proofs.told_system.attempt_told.Goals as goal
 

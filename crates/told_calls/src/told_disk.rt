@@ -3,7 +3,7 @@ ghost use Rattle.std.specs.Prelude.{◌≡◌, ◌∷◌, [], None, IfOk, MatchR
 ghost use Rattle.std.specs.String.{string_bytes};
 ghost use Rattle.host_devices.specs.Told.{Tells};
 ghost use Rattle.record_file.specs.DiskStep.{step_by};
-ghost use Rattle.simulated_system.specs.ToldSteps.{request_of, step_of, steps_of};
+ghost use Rattle.told_calls.specs.ToldSteps.{request_of, step_of, steps_of};
 
 use crate::told_file::ToldFile;
 use crate::told_step::{ToldRequest, ToldStep};

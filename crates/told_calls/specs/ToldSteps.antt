@@ -3,12 +3,12 @@ use Rattle.std.specs.Prelude.{ℕ, List, map, Option, Some, Vec, option_map}
 use Rattle.std.specs.String.{string_bytes}
 use Rattle.record_file.specs.DiskStep.{DiskStep, DiskRequest}
 use Rattle.record_file.specs.DiskStep as disk
-use Rattle.simulated_system.specs.declared.told_file.ToldFile.{ToldFile}
-use Rattle.simulated_system.specs.declared.told_step.ToldRequest.{ToldRequest}
-use Rattle.simulated_system.specs.declared.told_step.ToldRequest.TheVariants.{Look, LookAtName, FindSoleFile, FindFile, Resolve}
-use Rattle.simulated_system.specs.declared.told_step.ToldRequest.TheVariants.{Open, Hold, Link, Rename, Remove, SyncFolder, Cut, SyncFile}
-use Rattle.simulated_system.specs.declared.told_step.ToldStep.{ToldStep}
-use Rattle.simulated_system.specs.declared.told_step.ToldStep.TheVariants.{Did, Failed, LedTo}
+use Rattle.told_calls.specs.declared.told_file.ToldFile.{ToldFile}
+use Rattle.told_calls.specs.declared.told_step.ToldRequest.{ToldRequest}
+use Rattle.told_calls.specs.declared.told_step.ToldRequest.TheVariants.{Look, LookAtName, FindSoleFile, FindFile, Resolve}
+use Rattle.told_calls.specs.declared.told_step.ToldRequest.TheVariants.{Open, Hold, Link, Rename, Remove, SyncFolder, Cut, SyncFile}
+use Rattle.told_calls.specs.declared.told_step.ToldStep.{ToldStep}
+use Rattle.told_calls.specs.declared.told_step.ToldStep.TheVariants.{Did, Failed, LedTo}
 
 abbrev pub request_of : ToldRequest → DiskRequest
 request_of (Look name) = disk.Look (string_bytes name)

@@ -3,8 +3,8 @@ use Rattle.std.specs.Prelude.{List, map}
 use Rattle.std.specs.String.{string_bytes}
 use Rattle.console_lines.specs.Dialling.{LineRequest as Request}
 use Rattle.console_lines.specs.Dialling.{Dialled as WasDialled, OpenedDevice, Limited as WasLimited}
-use Rattle.simulated_system.specs.declared.line_request.LineRequest.{LineRequest}
-use Rattle.simulated_system.specs.declared.line_request.LineRequest.TheVariants.{Dialled, Opened, Limited}
+use Rattle.told_calls.specs.declared.line_request.LineRequest.{LineRequest}
+use Rattle.told_calls.specs.declared.line_request.LineRequest.TheVariants.{Dialled, Opened, Limited}
 
 -- a name was dialled, a device was opened at a path, or reads were limited to a time in milliseconds
 abbrev pub request : LineRequest → Request

@@ -3,8 +3,8 @@ use Rattle.std.specs.Prelude.{List, map, Some}
 use Rattle.std.specs.String.{string_bytes}
 use Rattle.input_files.specs.Opening.{InputStep}
 use Rattle.input_files.specs.Opening as input
-use Rattle.simulated_system.specs.declared.told_opening.ToldOpening.{ToldOpening}
-use Rattle.simulated_system.specs.declared.told_opening.ToldOpening.TheVariants.{Opened, NotOpened}
+use Rattle.told_calls.specs.declared.told_opening.ToldOpening.{ToldOpening}
+use Rattle.told_calls.specs.declared.told_opening.ToldOpening.TheVariants.{Opened, NotOpened}
 
 -- a file was opened, and held this, or was not
 abbrev pub input_step : ToldOpening → InputStep

@@ -429,6 +429,26 @@ class AtEachCall(Part):
         names = [name for name, _ in self.on_the_disk() if name not in ("statx", "openat", "flock")]
         self.is_so(names, ["write", "fsync", "fsync", "write", "fsync", "write", "ftruncate", "fsync", "link", "fsync", "unlink"])
 
+    def test_the_order_of_one_that_goes_on(self):
+        """That the part stands in its folder is on the disk before a key is sent or a byte written to it: the save that made it may have died
+        before that was, and a power cut would take it away, blocks and all."""
+        folder, part, told = os.path.basename(self.room), "a.lda.part", []
+
+        def before(call):
+            if call.name in ("write", "fsync") and self.touches(call):
+                told.append((call.name, call.file()))
+            elif call.name in ("connect", "link", "unlink"):
+                told.append((call.name, None))
+
+        block, end = [("write", part), ("fsync", part)], [("link", None), ("fsync", folder), ("unlink", None)]
+        for text in (b"", TAPE[:BLOCK]):
+            with self.subTest(len(text)):
+                told.clear()
+                self.leave(text)
+                self.is_so(self.ask(before)[1].status, 0)
+                self.is_so(told, [("fsync", folder), ("connect", None), *block, *block, *end])
+                os.remove(self.path("a.lda"))
+
     def test_a_kill_before_each_call(self):
         """FILE is whole or not there, and a block that was synced is in the part."""
         count = len(self.on_the_disk())
@@ -501,6 +521,16 @@ class AtEachCall(Part):
         self.ends(given, 4, "", fault("cannot write a.lda", errno.EIO))
         self.is_so(len(line.machine.typed) in (1 + 8 * 256, 8 * 256), True)
         self.is_left(1)
+
+    def test_a_folder_that_can_not_be_brought_to_the_disk(self):
+        """A save that would go on ends there before a key is sent, and the part is as it was."""
+        for text in (b"", TAPE[:BLOCK]):
+            self.leave(text)
+            left = self.part()
+            with self.subTest(len(text)):
+                line, given = self.ask(lambda call: call.fails(errno.EIO) if call.name == "fsync" and call.file() == os.path.basename(self.room) else None)
+                self.ends(given, 4, "", fault("cannot write a.lda", errno.EIO))
+                self.is_so((line.machine.typed, self.part(), self.are_there()), ("", left, {"a.lda.part"}))
 
 
 if __name__ == "__main__":

@@ -1,5 +1,6 @@
 pub mod Appends
 pub mod Blocks
+pub mod Durable
 pub mod Kept
 pub mod Lives
 pub mod Names
@@ -7,5 +8,6 @@ pub mod Needed
 pub mod OnDisk
 pub mod Over
 pub mod Own
+pub mod Parts
 pub mod Shelf
 pub mod Stays

@@ -6,7 +6,7 @@ use Rattle.record_file.specs.DiskStep.{DiskStep, Did, Failed, LedTo, LookAtName,
 use Rattle.record_file.specs.Folder.{IsFolderOf}
 use Rattle.record_file.specs.InPlace.{IsFrontOf}
 use Rattle.record_file.specs.declared.disk.Access.TheVariants.{New}
-use Rattle.tape_shelf.specs.ShelfDisk.{Place, Room, part_name, IsGone, Goes, HasAnother, LeaveAll, IsSearch, Free, There, Unknown, NoFileName, IsNaming, Linked, Taken, NotFreed, Renamed, NotRenamed, IsTakenBack, HasItsOwn, RenamedBack, syncing, IsNamed, Unsynced, Unnamed, Named, Unsettled}
+use Rattle.tape_shelf.specs.ShelfDisk.{Place, Room, part_name, IsGone, Goes, HasAnother, LeaveAll, IsSearch, Free, There, Unknown, NoFileName, IsNaming, Linked, LinkRefused, NotFoundFree, Renamed, NotRenamed, IsTakenBack, HasItsOwn, RenamedBack, syncing, IsNamed, Unsynced, Unnamed, Named, Unsettled}
 use Rattle.tape_shelf.specs.declared.shelf.ShelfFault.{ShelfFault}
 use Rattle.disk_law.specs.Disk.{Disk, Event, Asked, Written, Synced, Kind, History, Leaves, Nothing, File, disk_of, more, told, after, linked, renamed, file_synced, cut}
 use Rattle.disk_law.specs.Shelf.{IsSoOf, AreSoOf, IsWrittenBeside, ATapeComesWhole, ATapeStays}
@@ -58,10 +58,6 @@ all_uncut_name : (own name : List ℕ) (steps : List DiskStep) → AllName ⊥ o
 all_uncut_name own name [] k = tt
 all_uncut_name own name (step ∷ steps) k = (uncut_name own name step k.0, all_uncut_name own name steps k.1)
 
-both_keep : (xs ys : List DiskStep) → AllKeep xs → AllKeep ys → AllKeep (xs ++ ys)
-both_keep [] ys k l = l
-both_keep (x ∷ xs) ys k l = (k.0, both_keep xs ys k.1 l)
-
 both_name : (C : Type 0) (own name : List ℕ) (xs ys : List DiskStep) → AllName C own name xs → AllName C own name ys → AllName C own name (xs ++ ys)
 both_name C own name [] ys k l = l
 both_name C own name (x ∷ xs) ys k l = (k.0, both_name C own name xs ys k.1 l)
@@ -90,8 +86,8 @@ search_keeps name fault steps (NoFileName is) = tt
 
 -- a name that is not given
 unnamed_keeps : (own name : List ℕ) (fault : ShelfFault) (steps : List DiskStep) → IsNaming own name (Some fault) steps → AllKeep steps
-unnamed_keeps own name fault steps Taken = (tt, tt)
-unnamed_keeps own name fault steps (NotFreed why looking search) = (tt, search_keeps name (Some why) looking search)
+unnamed_keeps own name fault steps LinkRefused = (tt, tt)
+unnamed_keeps own name fault steps (NotFoundFree why looking search) = (tt, search_keeps name (Some why) looking search)
 unnamed_keeps own name fault steps (NotRenamed left) = (tt, (tt, (tt, tt)))
 
 naming_names : (own name : List ℕ) (steps : List DiskStep) → IsNaming own name None steps → AllName ⊥ own name steps
@@ -162,10 +158,6 @@ of_told P (Synced i ∷ earlier) each = (of_told P earlier each, tt)
 pub earlier_tell : (P : DiskStep → Type 0) (later earlier : List Event) → TellAll P (later ++ earlier) → TellAll P earlier
 earlier_tell P [] earlier all = all
 earlier_tell P (event ∷ later) earlier all = earlier_tell P later earlier all.0
-
-later_tell : (P : DiskStep → Type 0) (later earlier : List Event) → TellAll P (later ++ earlier) → TellAll P later
-later_tell P [] earlier all = tt
-later_tell P (event ∷ later) earlier all = (later_tell P later earlier all.0, all.1)
 
 keep_each : (steps : List DiskStep) → AllKeep steps → Each Keeps steps
 keep_each [] k = tt

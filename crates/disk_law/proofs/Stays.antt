@@ -10,7 +10,7 @@ use Rattle.disk_law.specs.Disk.{Disk, Event, Asked, Written, Synced, Kind, Histo
 use Rattle.disk_law.specs.Laws.{FoldersAreKept, IsOnDisk, IsBesideOnly, IsSo, AreSo, ANewRecordStays}
 use Rattle.disk_law.proofs.Kept.{not_itself, by_synced, by_written, same_text}
 
-led : (d : Disk) (name from : List ℕ) (x : Option ℕ) → ((name ≡ from) → ⊥) → (renamed d from name).leads name x → d.leads from x
+pub led : (d : Disk) (name from : List ℕ) (x : Option ℕ) → ((name ≡ from) → ⊥) → (renamed d from name).leads name x → d.leads from x
 led d name from x other (inl to) = to.1
 led d name from x other (inr (inl gone)) = absurd (other gone.0)
 led d name from x other (inr (inr same)) = absurd (same.0 refl)
@@ -122,7 +122,7 @@ stays name folder text renamed_left history (Synced i ∷ earlier) front of list
     stays name folder text renamed_left history earlier front of list lasts so.0 left (by_synced (disk_of (more history earlier)) i name left leaves)
 
 -- a list of calls that ends so, with what was told of the rename
-record EndsSo (name text : List ℕ) (steps : List DiskStep) : Type 0 where
+pub record EndsSo (name text : List ℕ) (steps : List DiskStep) : Type 0 where
   pub front : List DiskStep
   pub folder : List ℕ
   pub left : Option (List ℕ)
@@ -134,7 +134,7 @@ appended : (xs ys zs : List DiskStep) → xs ++ (ys ++ zs) ≡ (xs ++ ys) ++ zs
 appended [] ys zs = refl
 appended (x ∷ xs) ys zs = ap (λ l. x ∷ l) (appended xs ys zs)
 
-beside_ends : (name text : List ℕ) (was : Made) (course : Course) (is : Made) (steps : List DiskStep) → course ≡ Replaced → IsBeside name text was course is steps → EndsSo name text steps
+pub beside_ends : (name text : List ℕ) (was : Made) (course : Course) (is : Made) (steps : List DiskStep) → course ≡ Replaced → IsBeside name text was course is steps → EndsSo name text steps
 beside_ends name text was course is steps replaced (Whole before left folder whole f) = record {
   front = Did (FindSoleFile name) ∷ (before ++ Did (Look name) ∷ []);
   folder = folder;

@@ -1,5 +1,5 @@
 -- What calls of a load may leave of a record, wherever they are cut short by a crash.
-use Rattle.std.specs.Prelude.{◌≡◌, ◌⊎◌, ℕ, false, List, [], ◌∷◌, ◌++◌, length, Option, Some, None, ⊤}
+use Rattle.std.specs.Prelude.{◌≡◌, ◌⊎◌, ◌↔◌, ℕ, false, List, [], ◌∷◌, ◌++◌, length, Option, Some, None, ⊤}
 use Rattle.record_file.specs.Beginning.{Course, Replaced, IsBeside, IsNotWrittenOver, IsWrittenOver, new_name}
 use Rattle.record_file.specs.DiskStep.{Did, Look, Hold, Open, Rename, SyncFolder}
 use Rattle.record_file.specs.Folder.{IsFolderOf}
@@ -74,6 +74,26 @@ pub record IsDurable (d : Disk) (name : List ℕ) (i : ℕ) (text : List ℕ) : 
   pub named : (x : Option ℕ) → d.may_lead name x → x ≡ Some i
   pub left : (t : List ℕ) → d.may_hold i t → t ≡ text
   pub seen : (t : List ℕ) → d.holds i t → t ≡ text
+
+-- each program sees the name lead to this file, and in the file what a crash may leave of it
+pub record IsSeen (d : Disk) (name : List ℕ) (i : ℕ) : Type 0 where
+  pub led : (x : Option ℕ) → d.leads name x ↔ (x ≡ Some i)
+  pub held : (t : List ℕ) → d.holds i t → d.may_hold i t
+
+-- behind all of the calls that begin a record beside the old one, where the new one has come to its place, it is durable
+abbrev pub ANewRecordIsDurable : Type 0
+ANewRecordIsDurable =
+    (name text : List ℕ) (was is : Made) (history : History) (i : ℕ) (events : List Event) → IsBeside name text was Replaced is (told events)
+    → AreSo (new_name name) history events → IsSeen (disk_of (more history events)) name i → IsDurable (disk_of (more history events)) name i text
+
+-- so it is where a new file is written beside, synced and renamed, and the folder synced: such events are so
+abbrev pub replaced_by : (name folder text : List ℕ) → ℕ → List Event
+replaced_by name folder text i = Asked i (Did (SyncFolder folder)) ∷ Asked i (Did (Rename (new_name name) name (Some text))) ∷ written_beside name text i
+
+abbrev pub WhatIsRenamedIsSeen : Type 0
+WhatIsRenamedIsSeen =
+    (name folder text : List ℕ) (history : History) (i : ℕ) → IsFresh (disk_of history) i → ((t : List ℕ) → (disk_of history).holds i t → t ≡ [])
+    → AreSo (new_name name) history (replaced_by name folder text i) × IsSeen (disk_of (more history (replaced_by name folder text i))) name i
 
 -- from a first text on, such events append to a file, the latest first: this is synced, and this was written behind it since
 pub data AreAppends (i : ℕ) (first : List ℕ) : List ℕ → List ℕ → List Event → Type 0 where

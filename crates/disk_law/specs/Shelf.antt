@@ -2,10 +2,10 @@
 use Rattle.std.specs.Prelude.{◌≡◌, ◌⊎◌, ℕ, List, [], ◌∷◌, ◌++◌, length, Option, Some, None, ⊤}
 use Rattle.disk_law.specs.Disk.{told, Disk, Event, Asked, Written, Synced, InOrder, History, Leaves, disk_of, more}
 use Rattle.disk_law.specs.Laws.{AreAppends}
-use Rattle.record_file.specs.DiskStep.{Did, FindFile, Cut, SyncFile}
+use Rattle.record_file.specs.DiskStep.{Did, FindFile, Cut, SyncFile, SyncFolder}
 use Rattle.record_file.specs.Folder.{IsFolderOf}
 use Rattle.record_file.specs.InPlace.{IsFrontOf}
-use Rattle.tape_shelf.specs.ShelfDisk.{IsNamed, Place, Room, part_name}
+use Rattle.tape_shelf.specs.ShelfDisk.{IsNamed, Place, Room, making, part_name, taking_left}
 use Rattle.tape_shelf.specs.declared.shelf.ShelfFault.{ShelfFault}
 
 -- an event is so as the disk tells it: what is cut, synced and looked for is the file beside, and where it is found it has that name; nothing more is written
@@ -53,6 +53,22 @@ pub record Begins (d : Disk) (name : List ℕ) (i : ℕ) (text : List ℕ) : Typ
   pub named : (x : Option ℕ) → d.may_lead name x → x ≡ Some i
   pub left : (t : List ℕ) → d.may_hold i t → IsFrontOf text t
   pub seen : (t : List ℕ) → d.holds i t → IsFrontOf text t
+
+-- where a file is looked for by an event, and found, it is this one
+abbrev pub IsFoundAs : ℕ → Disk → Event → Type 0
+IsFoundAs part d (Asked i (Did (FindFile name wrote))) = (x : Option ℕ) → d.leads name x → x ≡ Some part
+IsFoundAs part d other = ⊤
+
+abbrev pub AreFoundAs : ℕ → History → List Event → Type 0
+AreFoundAs part history [] = ⊤
+AreFoundAs part history (event ∷ earlier) = AreFoundAs part history earlier × IsFoundAs part (disk_of (more history earlier)) event
+
+-- a part that was made, or taken up with its folder synced, is such a file, from its front on, whatever was written to it
+abbrev pub APartBegins : Type 0
+APartBegins =
+    (name folder : List ℕ) (wrote : Option (List ℕ)) (history : History) (part : ℕ) (events : List Event) → IsFolderOf name folder
+    → (told events ≡ making (part_name name) folder wrote) ⊎ (told events ≡ taking_left (part_name name) wrote ++ Did (SyncFolder folder) ∷ [])
+    → AreFoundAs part history events → Begins (disk_of (more history events)) (part_name name) part []
 
 -- of what is written into room that is there, behind what it begins with, a crash leaves at its front all that is synced: so each block that was added
 abbrev pub BlocksLast : Type 0

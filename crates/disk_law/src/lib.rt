@@ -4,10 +4,11 @@
 //! over the calls that the contracts of `record_file` and `tape_shelf` tell. No crate stands on this one.
 #![tactic(auto)]
 
-ghost use Rattle.disk_law.specs.Laws.{AppendsLast, ANewRecordStays, ARecordIsKept, FoldersAreKept, InPlaceKeeps, SyncsAreNeeded, WhatIsSyncedIsOnDisk};
+ghost use Rattle.disk_law.specs.Laws.{AppendsLast, ANewRecordIsDurable, ANewRecordStays, ARecordIsKept, FoldersAreKept};
+ghost use Rattle.disk_law.specs.Laws.{InPlaceKeeps, SyncsAreNeeded, WhatIsRenamedIsSeen, WhatIsSyncedIsOnDisk};
 ghost use Rattle.disk_law.specs.Lives.{AppendsAreStops, BeginningsAreStops};
 ghost use Rattle.disk_law.specs.Removing.{OnlyItsOwnFileGoes};
-ghost use Rattle.disk_law.specs.Shelf.{ATapeComesWhole, ATapeStays, BlocksLast};
+ghost use Rattle.disk_law.specs.Shelf.{APartBegins, ATapeComesWhole, ATapeStays, BlocksLast};
 
 /// Behind any of the calls that begin a record beside the old one a crash leaves the old record or the new one, whole. This function does
 /// nothing: its contract is the law.
@@ -20,9 +21,19 @@ pub fn a_new_record_stays()
     ensures { ANewRecordStays }
 {}
 
+/// Behind all of them it is durable under its name: what appends go on from. This function does nothing: its contract is the law.
+pub fn a_new_record_is_durable()
+    ensures { ANewRecordIsDurable }
+{}
+
 /// What is written to a new file and synced is on the disk. This function does nothing: its contract is the law.
 pub fn what_is_synced_is_on_disk()
     ensures { WhatIsSyncedIsOnDisk }
+{}
+
+/// What is renamed is seen so, and goes on from there. This function does nothing: its contract is the law.
+pub fn what_is_renamed_is_seen()
+    ensures { WhatIsRenamedIsSeen }
 {}
 
 /// What is appended and synced lasts, so the mark. This function does nothing: its contract is the law.
@@ -58,6 +69,11 @@ pub fn a_tape_comes_whole()
 /// Behind all of them it leaves FILE whole. This function does nothing: its contract is the law.
 pub fn a_tape_stays()
     ensures { ATapeStays }
+{}
+
+/// FILE.part is found again once it was made, or taken up: blocks begin in it. This function does nothing: its contract is the law.
+pub fn a_part_begins()
+    ensures { APartBegins }
 {}
 
 /// Each block that was added to a tape is found in FILE.part. This function does nothing: its contract is the law.

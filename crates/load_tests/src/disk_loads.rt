@@ -4,7 +4,7 @@ ghost use Rattle.machine_load.specs.Asked.{task, ◌⇒◌};
 ghost use Rattle.machine_load.specs.Driving.{IsDrivenOn, on_disk};
 ghost use Rattle.machine_load.specs.LoadFault.{IsLoadFault};
 ghost use Rattle.machine_load.specs.Scene.{ending};
-ghost use Rattle.simulated_system.specs.ToldSteps.{steps_of, written_to};
+ghost use Rattle.told_calls.specs.ToldSteps.{steps_of, written_to};
 ghost use Rattle.load_tests.specs.Told.{memory_line, record_told, IsReportedSo, IsSoAndClosed};
 
 use crate::memory_consoles::MemoryConsoles;
@@ -13,10 +13,10 @@ use host_devices::Unwatched;
 use machine_load::{Around, LoadFault, Outcome, load};
 use record_file::RecordFile;
 use request_values::LoadOptions;
-use simulated_system::ToldDisk;
 use std::alloc::Global;
 use std::io::Write;
 use tape_image::Plan;
+use told_calls::ToldDisk;
 
 /// Loads a plan into a machine in memory, and closes its record. What `load` and `close` promise where the record is on a
 /// disk is so of this one, which tells what it was asked.

@@ -1,16 +1,16 @@
 //! Saves of a machine in memory, with the tape on a disk that tells what it was asked.
 ghost use Rattle.std.specs.Prelude.{OnErr, OnOk, option_map};
 ghost use Rattle.tape_shelf.specs.ShelfDisk.{room_of};
-ghost use Rattle.simulated_system.specs.ToldSteps.{steps_of, written_to};
+ghost use Rattle.told_calls.specs.ToldSteps.{steps_of, written_to};
 ghost use Rattle.load_tests.specs.Told.{shelf_told, IsTapeNotPut, IsTapePut};
 
 use crate::memory_consoles::{CALLED, MemoryConsoles};
 use host_devices::Unwatched;
 use machine_look::{LookFault, SaveEnd, SaveOptions, save};
-use simulated_system::ToldDisk;
 use std::alloc::Global;
 use std::io::Write;
 use tape_shelf::NewFile;
+use told_calls::ToldDisk;
 
 /// Saves words of a machine in memory. What `save` promises of the disk on which its tape goes, is so of this
 /// one, which tells.

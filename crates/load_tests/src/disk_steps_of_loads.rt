@@ -7,12 +7,12 @@ use crate::memory_consoles::{CALLED, MemoryConsoles};
 use load_record::RecordError;
 use machine_load::{Around, LoadFault};
 use record_file::RecordFile;
-use simulated_system::{FailingSteps, ToldDisk};
 use std::alloc::Global;
 use std::io::{ErrorKind, Write};
 use std::os::unix::fs::symlink;
 use std::test::Fail;
 use std::{fs, io};
+use told_calls::{FailingSteps, ToldDisk};
 
 // One with the smallest tape's word, and with its mark; and one of another tape.
 const GOING_ON: &str = "LDAODT 2\n001000 011064";

@@ -1,7 +1,6 @@
 //! What a disk is asked to read a record and to begin it anew, for each kind of file that docs/RECORD.md names.
 
 use record_file::{RecordFault, RecordFile, Writable};
-use simulated_system::{FailingSteps, ToldDisk};
 use std::alloc::Global;
 use std::fs::File;
 use std::io::ErrorKind;
@@ -10,6 +9,7 @@ use std::test::Fail;
 use std::{fs, io};
 use tape_blocks::read_tape;
 use tape_image::Plan;
+use told_calls::{FailingSteps, ToldDisk};
 
 // The smallest tape with a word: 011064 at 001000, where it starts.
 const ONE_WORD: [u8; 16] = [

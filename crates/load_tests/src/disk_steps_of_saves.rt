@@ -6,11 +6,11 @@ use crate::memory_consoles::MemoryConsoles;
 use machine_look::{LookFault, SaveEnd, SaveOptions};
 use reading_core::Care;
 use request_values::AddressRange;
-use simulated_system::{FailingSteps, ToldDisk};
 use std::alloc::Global;
 use std::fs;
 use std::io::ErrorKind;
 use tape_shelf::NewFile;
+use told_calls::{FailingSteps, ToldDisk};
 
 // The file of a save, and the one beside it.
 const SAVED: &str = "d.lda";
@@ -40,6 +40,33 @@ const RESERVED: &str = "- look at name d.lda\n\
     + sync folder .\n\
     + open to write d.lda.part\n\
     + find d.lda.part \0\0\0\0\0\0\0\0\0\0\0\0\0\0\0\0\n";
+
+// What is to be on it where a save left such a file, to which it wrote nothing: that is taken up, and read, and its name is
+// on the disk, to which the save that made it may not have come.
+const RESUMED: &str = "- look at name d.lda\n\
+    + open to read .\n\
+    - open new d.lda.part\n\
+    + open to read .\n\
+    + sole d.lda.part\n\
+    + open to write d.lda.part\n\
+    + hold d.lda.part\n\
+    + open to read d.lda.part\n\
+    + open to write d.lda.part\n\
+    + find d.lda.part \n\
+    + sync folder .\n";
+
+// Where that can't be, nothing else is asked.
+const UNRESUMED: &str = "- look at name d.lda\n\
+    + open to read .\n\
+    - open new d.lda.part\n\
+    + open to read .\n\
+    + sole d.lda.part\n\
+    + open to write d.lda.part\n\
+    + hold d.lda.part\n\
+    + open to read d.lda.part\n\
+    + open to write d.lda.part\n\
+    + find d.lda.part \n\
+    - sync folder .\n";
 
 // What is to follow, once the word was read: the tape is on the disk before it has its name, as a second one;
 // then that is, too, and the first goes. (`?` is the tape, which is no text.)
@@ -244,6 +271,24 @@ fn a_tape_is_on_the_disk_before_its_name(rt: HostRuntime) {
         "folder"
     );
     assert!(rt; stays(&rt), "folder");
+}
+
+#[test]
+fn what_was_left_has_its_name_on_the_disk_before_the_console_is_reached(rt: HostRuntime) {
+    clear(&rt);
+    let left = [0; 16];
+    assert!(rt; fs::write(&rt, BESIDE, &left).is_ok());
+    let folder = refusing(&[(10, ErrorKind::Other)]);
+    let fault = Err(LookFault::WriteTape);
+    assert!(rt; is_saved(&rt, folder, fault, (UNRESUMED, "")), "folder");
+    assert!(rt;
+        has(&rt, SAVED, None) && has(&rt, BESIDE, Some(&left)),
+        "folder"
+    );
+    let whole = Ok(SaveEnd::Saved);
+    assert!(rt; is_saved(&rt, AMPLE, whole, (RESUMED, NAMED)), "resumed");
+    assert!(rt; holds(&rt, Some(&TAPE)), "resumed");
+    clear(&rt);
 }
 
 #[test]

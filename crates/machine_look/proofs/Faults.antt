@@ -1,5 +1,5 @@
 -- Looks that come to nothing.
-use Rattle.std.proofs.Common.{◌≡◌, ◌<◌, ℕ, true, List, [], ◌∷◌, ◌++◌, length, Some, Result, Ok, Err, IfOk, IsErrAnd, refl, arith, sym, subst, inl, inr, OnOk}
+use Rattle.std.proofs.Common.{◌≡◌, ◌<◌, ℕ, true, List, [], ◌∷◌, ◌++◌, length, Some, Result, Ok, Err, IfOk, IsErrAnd, refl, arith, sym, subst, inl, inr}
 use Rattle.std.specs.Io.KnownBytes.{Keeps}
 use Rattle.looking_engine.specs.Stopping.{LookStop}
 use Rattle.machine_look.specs.declared.look_fault.LookFault.{LookFault}
@@ -7,7 +7,7 @@ use Rattle.machine_look.specs.declared.look_fault.LookFault.TheVariants.{IsThere
 use Rattle.machine_look.specs.declared.saving.SaveOptions.{SaveOptions}
 use Rattle.tape_shelf.specs.declared.shelf.ShelfFault.{ShelfFault}
 use Rattle.tape_shelf.specs.declared.shelf.ShelfFault.TheVariants as why
-use Rattle.machine_look.specs.LookFault.{IsKeepFault, IsReadFault, IsSaveFault, IsSaveNotBegun, TakesUpNothing, fault_of_shelf}
+use Rattle.machine_look.specs.LookFault.{IsKeepFault, IsReadFault, IsSaveFault, fault_of_shelf}
 use Rattle.machine_look.specs.Behind.{Saving}
 use Rattle.machine_look.specs.Save.{IsSaveRead, SaveTold, TakesUp, console_of, has_all, numbers_of, trusts}
 use Rattle.tape_shelf.specs.SavedSteps.{adds, closes, full, puts}
@@ -18,20 +18,6 @@ use Rattle.tape_shelf.specs.ShelfTold.{AreDone, HasDone, IsDone, ShelfTold}
 use Rattle.tape_shelf.proofs.Added.{done_join, done_one}
 
 -- ---- how a save fails
-
-pub not_begun : (options : SaveOptions) (before after : SaveTold) (fault : ShelfFault) (steps : List ShelfStep) → TakesUpNothing options.range before.shelf.left fault steps → HasDone steps before.shelf after.shelf
-    → after.asked ≡ before.asked → after.lines ≡ before.lines → Keeps before.out after.out → IsSaveFault options before after (fault_of_shelf fault)
-not_begun options before after fault steps refusal done unasked unlined same = by fault refusal
-  where
-    so : (why : ShelfFault) → TakesUpNothing options.range before.shelf.left why steps → IsSaveNotBegun why options before after
-    so why refusal = record { steps = steps; refusal = refusal; refused = done; not_asked = unasked; no_line = unlined; nothing_reported = same }
-
-    by : (why : ShelfFault) → TakesUpNothing options.range before.shelf.left why steps → IsSaveFault options before after (fault_of_shelf why)
-    by why.IsThere refusal = inl (so why.IsThere refusal)
-    by why.PartIsThere refusal = so why.PartIsThere refusal
-    by why.NotOfSave refusal = so why.NotOfSave refusal
-    by why.Write refusal = inl (so why.Write refusal)
-    by why.Memory refusal = inl (so why.Memory refusal)
 
 -- what was done once a shelf was taken up
 pub done_behind : (taking steps : List ShelfStep) (folder : List ℕ) (a b c : ShelfTold) → AreDone folder taking a b → AreDone folder steps b c → HasDone (taking ++ steps) a c
@@ -100,7 +86,3 @@ saved_steps taking folder from start numbers a b c d taken added closed =
 pub no_value : {T E : Type 0} (r : Result T E) (error : E) (P : T → Type 0) → IsErrAnd r (λ e. e ≡ error) → IfOk r P
 no_value (Ok x) error P is = absurd is
 no_value (Err e) error P is = tt
-
-pub no_ok : {T E : Type 0} (r : Result T E) (error : E) (P : Type 0) → IsErrAnd r (λ e. e ≡ error) → OnOk r P
-no_ok (Ok x) error P is = absurd is
-no_ok (Err e) error P is = tt

@@ -143,19 +143,6 @@ block_behind from found read n k whole =
     ap (λ a. block_at a (flat_map low_first (take 256 (drop (256 * (n + k)) (found ++ read))))) there
     ∙ ap (λ these. block_at (from + 2 * length found + 2 * 256 * k) (flat_map low_first (take 256 these))) (ap (λ j. drop j (found ++ read)) at ∙ drop_behind found read (256 * k))
 
-pub adds_behind : (from : ℕ) (found read : List ℕ) (n m : ℕ) → length found ≡ 256 * n → adds from (found ++ read) (n + m) ≡ adds from found n ++ adds (from + 2 * length found) read m
-adds_behind from found read n zero whole =
-    (let none : n + 0 ≡ n = omega arith in ap (adds from (found ++ read)) none)
-    ∙ (same_adds from found read n (omega (arith, whole)) ∙ (sym (append-nil (adds from found n)) ∙ ap (λ more. adds from found n ++ more) (sym (no_adds (from + 2 * length found) read))))
-adds_behind from found read n (suc m) whole =
-    let behind : ℕ = from + 2 * length found in
-    (let next : n + suc m ≡ suc (n + m) = omega arith in ap (adds from (found ++ read)) next)
-    ∙ (one_more from (found ++ read) (n + m)
-    ∙ (ap (λ steps. steps ++ Add (data_block (saved_block from (found ++ read) (n + m))) ∷ []) (adds_behind from found read n m whole)
-    ∙ (ap (λ b. (adds from found n ++ adds behind read m) ++ Add (data_block b) ∷ []) (block_behind from found read n m whole)
-    ∙ (append_assoc (adds from found n) (adds behind read m) (Add (data_block (saved_block behind read m)) ∷ [])
-    ∙ ap (λ more. adds from found n ++ more) (sym (one_more behind read m))))))
-
 pub full_behind : (found read : List ℕ) → length found ≡ 256 * full found → full (found ++ read) ≡ full found + full read
 full_behind found read whole = omega (arith, whole, length-append found read)
 

@@ -1,17 +1,19 @@
 -- What the disk of a shelf was asked, by what came of a call.
-use Rattle.std.proofs.Common.{◌≡◌, ℕ, ◌+◌, ◌-◌, List, [], ◌∷◌, ◌++◌, length, take, Bool, true, false, Option, Some, None, Result, Ok, Err, refl, sym, subst, ap, ◌∙◌, arith, inl, inr, OnOk, eqb}
+use Rattle.std.proofs.Common.{◌≡◌, ℕ, ◌+◌, ◌-◌, List, [], ◌∷◌, ◌++◌, length, take, Bool, true, false, Option, Some, None, Result, Ok, Err, refl, sym, subst, ap, append_assoc, ◌∙◌, arith, inl, inr, OnOk, eqb}
 use Rattle.std.proofs.lemmas.Bool.{eqb-false, eqb-true}
 use Rattle.std.specs.Bool.{IsTrue, OnFalse, OnTrue}
 use Rattle.std.specs.Io.KnownBytes.{Appends}
 use Rattle.std.proofs.KnownBytes.{Appends-nil}
-use Rattle.std.specs.Prelude.{OnSome, option_map, is_err, replicate, IfErr, IfSome, IsErrAnd, OnErr, MatchBool, ⊤}
+use Rattle.std.proofs.lemmas.List.Elements.{All-cons, All-contains, All-nil, Contains-append_cases}
+use Rattle.std.specs.Prelude.{All, Contains, OnSome, codes, option_map, is_err, replicate, IfErr, IfSome, IsErrAnd, OnErr, MatchBool, ⊤}
 use Rattle.std.specs.String.{string_bytes}
 use Rattle.byte_io.specs.Output.{WritesPrefix}
 use Rattle.host_devices.specs.Failures.{fault_of}
 use Rattle.record_file.proofs.Aside.{GoesHeld, held_aside}
 use Rattle.host_devices.specs.Told.{HasAsked, Tells}
 use Rattle.record_file.specs.DiskStep.{DiskRequest, DiskStep, Did, Failed, answered, step_by, LookAtName, FindFile, FindSoleFile, Open, Hold, Link, Rename, Remove, SyncFolder, Cut, SyncFile, LeaveAllBut, held_behind}
-use Rattle.record_file.specs.Folder.{IsFolderOf}
+use Rattle.byte_io.specs.Text.{name_slash}
+use Rattle.record_file.specs.Folder.{Current, IsFolderOf, Named as InNamed, Root, StandsBeforeSlash}
 use Rattle.record_file.specs.declared.disk.Access.TheVariants.{ReadOnly, ReadWrite, New}
 use Rattle.host_devices.proofs.Told.{tells_join, tells_none}
 use Rattle.request_values.specs.Change.{◌⇒◌}
@@ -53,10 +55,6 @@ pub error_is : {T E : Type 0} (r : Result T E) (error : E) (P : E → Type 0) �
 error_is (Ok x) error P is h = tt
 error_is (Err e) error P is h = subst P (sym is) h
 
-pub on_err : {T E : Type 0} (r : Result T E) (P : Type 0) → P → OnErr r P
-on_err (Ok x) P is = tt
-on_err (Err e) P is = is
-
 -- ---- names
 
 pub gone : {A E : Type 0} (name : List ℕ) (written : Option (List ℕ)) (removal : Result A E)
@@ -96,6 +94,34 @@ pub not_renamed : (own name : List ℕ) (left : Option (List ℕ)) (steps : List
 not_renamed own name left steps Free = NotRenamed left
 
 -- ---- the folder
+
+-- the file beside is in it, too
+abbrev IsOther : ℕ → Type 0
+IsOther code = code ≡ name_slash → ⊥
+
+others : All IsOther (codes ".part")
+others =
+    let none : List ℕ = [] in
+    All-cons IsOther 46 (112 ∷ 97 ∷ 114 ∷ 116 ∷ none) (λ e. absurd (omega (arith, e)))
+    (All-cons IsOther 112 (97 ∷ 114 ∷ 116 ∷ none) (λ e. absurd (omega (arith, e)))
+    (All-cons IsOther 97 (114 ∷ 116 ∷ none) (λ e. absurd (omega (arith, e)))
+    (All-cons IsOther 114 (116 ∷ none) (λ e. absurd (omega (arith, e)))
+    (All-cons IsOther 116 none (λ e. absurd (omega (arith, e))) (All-nil IsOther)))))
+
+no_slash : Contains (codes ".part") name_slash → ⊥
+no_slash has = All-contains IsOther (codes ".part") name_slash others has refl
+
+nor_behind : (text : List ℕ) → (Contains text name_slash → ⊥) → Contains (text ++ codes ".part") name_slash → ⊥
+nor_behind text none has = elim (Contains-append_cases text (codes ".part") name_slash has) [ inl front ↦ none front | inr part ↦ no_slash part ]
+
+part_before_slash : (name front : List ℕ) → StandsBeforeSlash name front → StandsBeforeSlash (part_name name) front
+part_before_slash name front (rest, is, none) =
+    (rest ++ codes ".part", ap part_name is ∙ append_assoc front (name_slash ∷ rest) (codes ".part"), nor_behind rest none)
+
+pub part_folder : (name folder : List ℕ) → IsFolderOf name folder → IsFolderOf (part_name name) folder
+part_folder name folder (Current none) = Current (nor_behind name none)
+part_folder name folder (Root stands) = Root (part_before_slash name [] stands)
+part_folder name folder (InNamed front some stands) = InNamed front some (part_before_slash name front stands)
 
 -- it is opened, and then this comes of the file beside
 pub in_folder : (P : List ℕ → ShelfFault → List DiskStep → Type 0) (name folder own : List ℕ) (fault : ShelfFault) (a b c : Option (List DiskStep)) → own ≡ part_name name
@@ -351,23 +377,23 @@ put_answer contents folder name text (Err fault) before after a b h = h
 
 -- ---- a part that was left
 
--- what is refused behind a call that went well
-behind_one : (own : List ℕ) (fault : ShelfFault) (request : DiskRequest) (steps : List DiskStep) → LeavesAll own request → IsUntaken own fault steps
+-- what is refused behind a call that went well, before it was taken up
+behind_one : (own : List ℕ) (fault : ShelfFault) (request : DiskRequest) (steps : List DiskStep) → (fault ≡ Write → ⊥) → LeavesAll own request → IsUntaken own fault steps
     → IsUntaken own fault (Did request ∷ steps)
-behind_one own IsThere request steps leaves untaken = untaken
-behind_one own PartIsThere request steps leaves (idle, inl has) = ((leaves, idle), inl has)
-behind_one own PartIsThere request steps leaves (idle, inr (front, is)) = ((leaves, idle), inr (Did request ∷ front, ap (λ list. Did request ∷ list) is))
-behind_one own NotOfSave request steps leaves (idle, none) = ((leaves, idle), none)
-behind_one own Write request steps leaves untaken = untaken
-behind_one own Memory request steps leaves (idle, none) = ((leaves, idle), none)
+behind_one own IsThere request steps soon leaves untaken = untaken
+behind_one own PartIsThere request steps soon leaves (idle, inl has) = ((leaves, idle), inl has)
+behind_one own PartIsThere request steps soon leaves (idle, inr (front, is)) = ((leaves, idle), inr (Did request ∷ front, ap (λ list. Did request ∷ list) is))
+behind_one own NotOfSave request steps soon leaves (idle, none) = ((leaves, idle), none)
+behind_one own Write request steps soon leaves untaken = absurd (soon refl)
+behind_one own Memory request steps soon leaves (idle, none) = ((leaves, idle), none)
 
-pub held_untaken : (own : List ℕ) (fault : ShelfFault) (a b c : Option (List DiskStep))
+pub held_untaken : (own : List ℕ) (fault : ShelfFault) (a b c : Option (List DiskStep)) → (fault ≡ Write → ⊥)
     → HasAsked a b (λ steps. steps ≡ Did (FindSoleFile own) ∷ Did (Open ReadWrite own) ∷ Did (Hold own) ∷ []) → HasAsked b c (IsUntaken own fault) → HasAsked a c (IsUntaken own fault)
-held_untaken own fault a b c held untaken = (
+held_untaken own fault a b c soon held untaken = (
   held.0 ++ untaken.0,
   tells_join a b c held.0 untaken.0 held.1 untaken.1,
   subst (λ steps. IsUntaken own fault (steps ++ untaken.0)) (sym held.2)
-      (behind_one own fault _ _ tt (behind_one own fault _ _ refl (behind_one own fault _ _ tt untaken.2))),
+      (behind_one own fault _ _ soon tt (behind_one own fault _ _ soon refl (behind_one own fault _ _ soon tt untaken.2))),
 )
 
 pub read_untaken : (own : List ℕ) (fault : ShelfFault) (a b c : Option (List DiskStep)) → HasAsked a b (λ steps. steps ≡ Did (Open ReadOnly own) ∷ [])
@@ -375,22 +401,32 @@ pub read_untaken : (own : List ℕ) (fault : ShelfFault) (a b c : Option (List D
 read_untaken own fault a b c read is untaken = subst (λ f. HasAsked a c (IsUntaken own f)) (sym is) (
   read.0 ++ untaken.0,
   tells_join a b c read.0 untaken.0 read.1 untaken.1,
-  subst (λ steps. IsUntaken own PartIsThere (steps ++ untaken.0)) (sym read.2) (behind_one own PartIsThere _ _ tt untaken.2),
+  subst (λ steps. IsUntaken own PartIsThere (steps ++ untaken.0)) (sym read.2) (behind_one own PartIsThere _ _ (λ e. absurd (cc e)) tt untaken.2),
 )
 
--- the folder is opened, and the part is taken up
-pub resumed : (name own folder : List ℕ) (held : Option (List ℕ)) (a b c : Option (List DiskStep)) → own ≡ part_name name → Tells a b (Did (Open ReadOnly folder) ∷ [])
-    → HasAsked b c (λ steps. steps ≡ taking_left own held) → HasAsked a c (λ steps. steps ≡ Did (Open ReadOnly folder) ∷ taking_left (part_name name) held)
-resumed name own folder held a b c is opened taken = (
-  Did (Open ReadOnly folder) ∷ taken.0,
-  tells_join a b c (Did (Open ReadOnly folder) ∷ []) taken.0 opened taken.1,
-  ap (λ steps. Did (Open ReadOnly folder) ∷ steps) (taken.2 ∙ ap (λ n. taking_left n held) is),
+-- the folder is opened, and the part is taken up, and then the folder is synced
+pub resumed : (name own folder : List ℕ) (held : Option (List ℕ)) (a b c d : Option (List DiskStep)) → own ≡ part_name name → Tells a b (Did (Open ReadOnly folder) ∷ [])
+    → HasAsked b c (λ steps. steps ≡ taking_left own held) → Tells c d (Did (SyncFolder folder) ∷ [])
+    → HasAsked a d (λ steps. steps ≡ Did (Open ReadOnly folder) ∷ (taking_left (part_name name) held ++ Did (SyncFolder folder) ∷ []))
+resumed name own folder held a b c d is opened taken synced = let last : List DiskStep = Did (SyncFolder folder) ∷ [] in (
+  Did (Open ReadOnly folder) ∷ (taken.0 ++ last),
+  tells_join a b d (Did (Open ReadOnly folder) ∷ []) (taken.0 ++ last) opened (tells_join b c d taken.0 last taken.1 synced),
+  ap (λ steps. Did (Open ReadOnly folder) ∷ (steps ++ last)) (taken.2 ∙ ap (λ n. taking_left n held) is),
+)
+
+-- or that fails
+pub not_synced : (name own folder : List ℕ) (held : Option (List ℕ)) (b c d : Option (List DiskStep)) → own ≡ part_name name → IsFolderOf name folder
+    → HasAsked b c (λ steps. steps ≡ taking_left own held) → Tells c d (Failed (SyncFolder folder) ∷ []) → HasAsked b d (IsUntaken own Write)
+not_synced name own folder held b c d is of taken unsynced = (
+  taken.0 ++ Failed (SyncFolder folder) ∷ [],
+  tells_join b c d taken.0 (Failed (SyncFolder folder) ∷ []) taken.1 unsynced,
+  (held, folder, subst (λ n. IsFolderOf n folder) (sym is) (part_folder name folder of), ap (λ steps. steps ++ Failed (SyncFolder folder) ∷ []) taken.2),
 )
 
 -- how a part that was taken up is called of a shelf
 pub has_part_on : {T : Type 0} (opened : T → List ℕ → Type 0) (contents : T → Option (List ℕ)) (name numbers : List ℕ) (room : Option Room) (part : Part T) (a b : Option (List DiskStep))
     → string_bytes part.name ≡ part_name name → part.length ≡ 0 → (part.kept ≡ false → numbers ≡ []) → OnSome b (contents part.file ≡ Some []) → OnSome b (contents part.held ≡ Some [])
-    → (folder : List ℕ) × opened part.folder folder × IsFolderOf name folder × HasAsked a b (λ steps. steps ≡ Did (Open ReadOnly folder) ∷ taking_left (part_name name) (contents part.held))
+    → (folder : List ℕ) × opened part.folder folder × IsFolderOf name folder × HasAsked a b (λ steps. steps ≡ Did (Open ReadOnly folder) ∷ (taking_left (part_name name) (contents part.held) ++ Did (SyncFolder folder) ∷ []))
     → (folder : List ℕ) × IsFolderOpened opened (Some part) folder
     × HasAsked a b (HasPart folder numbers (disk_at a name room ⇒ disk_at b name (Some (room_of contents part))))
 has_part_on opened contents name numbers room part a b own empty stays fresh untouched taken = (

@@ -78,17 +78,18 @@ pub data IsNotReserved (name : List ℕ) : ShelfFault → List DiskStep → Type
   NoFile : (fault : ShelfFault) (steps : List DiskStep) → InFolder name (IsUnmade (part_name name)) fault steps
       → IsNotReserved name fault (Failed (LookAtName name) ∷ steps)
 
--- a file that an earlier save left is held, a plain one without another name, and read, and opened once more to be written from its front on, and
--- it still has its name
+-- a plain file without another name, which an earlier save left, is held, and read, and opened once more to be written from its front, and still has its name
 abbrev pub taking_left : List ℕ → Option (List ℕ) → List DiskStep
 taking_left own held =
     Did (FindSoleFile own) ∷ Did (Open ReadWrite own) ∷ Did (Hold own) ∷ Did (Open ReadOnly own) ∷ Did (Open ReadWrite own) ∷ Did (FindFile own held) ∷ []
 
--- it is not: something failed, or it can't be read; or nothing failed, and it is none of such a save, or memory was wanting. Each file is left as it is
+-- it is not: something failed, or it can't be read; or it is none of such a save, or memory was wanting; or its folder is not synced. Each file is as it was
 abbrev pub IsUntaken : List ℕ → ShelfFault → List DiskStep → Type 0
 IsUntaken own PartIsThere steps = LeaveAll own steps × (HasFailed steps ⊎ ((front : List DiskStep) × (steps ≡ front ++ Did (Open ReadOnly own) ∷ [])))
 IsUntaken own NotOfSave steps = LeaveAll own steps × (HasFailed steps → ⊥)
 IsUntaken own Memory steps = LeaveAll own steps × (HasFailed steps → ⊥)
+IsUntaken own Write steps =
+    (held : Option (List ℕ)) × (folder : List ℕ) × IsFolderOf own folder × (steps ≡ taking_left own held ++ Failed (SyncFolder folder) ∷ [])
 IsUntaken own other steps = ⊥
 
 -- the file beside, where the blocks of a tape are: its name, what was written to it, how many bytes that is, and whether there is a block in it
@@ -131,8 +132,8 @@ syncing room = Did (Cut room.written room.length) ∷ Did (SyncFile room.written
 -- have the name
 pub data IsNaming (own name : List ℕ) : Option ShelfFault → List DiskStep → Type 0 where
   Linked : IsNaming own name None (Did (Link own name) ∷ [])
-  Taken : IsNaming own name (Some IsThere) (Failed (Link own name) ∷ [])
-  NotFreed : (fault : ShelfFault) (steps : List DiskStep) → IsSearch name (Some fault) steps → IsNaming own name (Some fault) (Failed (Link own name) ∷ steps)
+  LinkRefused : IsNaming own name (Some IsThere) (Failed (Link own name) ∷ [])
+  NotFoundFree : (fault : ShelfFault) (steps : List DiskStep) → IsSearch name (Some fault) steps → IsNaming own name (Some fault) (Failed (Link own name) ∷ steps)
   Renamed : (left : Option (List ℕ)) → IsNaming own name None (Failed (Link own name) ∷ Failed (LookAtName name) ∷ Did (Rename own name left) ∷ [])
   NotRenamed : (left : Option (List ℕ))
       → IsNaming own name (Some Write) (Failed (Link own name) ∷ Failed (LookAtName name) ∷ Failed (Rename own name left) ∷ [])
@@ -191,12 +192,12 @@ pub record HasRoom (folder : List ℕ) (length : ℕ) (disk : Change ShelfDisk) 
   pub reserved : steps ≡ Failed (LookAtName disk.before.name) ∷ Did (Open ReadOnly folder) ∷ making (part_name disk.before.name) folder filled
   pub room : HasNewRoom (part_name disk.before.name) false disk.after
 
--- a file beside that was left there is gone on with, in this folder. It stays, where there is a block in it
+-- a file beside that was left there is gone on with, in this folder, once that is on the disk. It stays, where there is a block in it
 pub record HasPart (folder numbers : List ℕ) (disk : Change ShelfDisk) (steps : List DiskStep) : Type 0 where
   pub folder_of : IsFolderOf disk.before.name folder
   pub held : Option (List ℕ)
   pub untouched : OnSome disk.after.asked (held ≡ Some [])
-  pub resumed : steps ≡ Did (Open ReadOnly folder) ∷ taking_left (part_name disk.before.name) held
+  pub resumed : steps ≡ Did (Open ReadOnly folder) ∷ (taking_left (part_name disk.before.name) held ++ Did (SyncFolder folder) ∷ [])
   pub kept : Bool
   pub stays : kept ≡ false → numbers ≡ []
   pub room : HasNewRoom (part_name disk.before.name) kept disk.after

@@ -1,8 +1,8 @@
 //! The file beside a tape that an earlier save left, and that another one goes on with.
-ghost use Rattle.std.specs.Prelude.{◌≡◌, ◌∷◌, List, ℕ, Some, [], IfErr, IfOk, IfSome, OnErr, OnOk, OnSome, false};
+ghost use Rattle.std.specs.Prelude.{◌≡◌, ◌∷◌, ◌++◌, List, ℕ, Some, [], IfErr, IfOk, IfSome, OnErr, OnOk, OnSome, false};
 ghost use Rattle.std.specs.String.{string_bytes};
 ghost use Rattle.host_devices.specs.Told.{HasAsked};
-ghost use Rattle.record_file.specs.DiskStep.{Did, FindFile, FindSoleFile, Hold, HoldStill, Open};
+ghost use Rattle.record_file.specs.DiskStep.{Did, FindFile, FindSoleFile, Hold, HoldStill, Open, SyncFolder};
 ghost use Rattle.record_file.specs.Folder.{IsFolderOf};
 ghost use Rattle.record_file.specs.declared.disk.Access.TheVariants.{ReadOnly, ReadWrite};
 ghost use Rattle.tape_shelf.specs.FoundPart.{AreFoundInPart, FillBlocks, IsRefusedPart};
@@ -18,7 +18,8 @@ use request_values::AddressRange;
 use std::alloc::Global;
 
 /// Takes up the file beside the one of a name, which an earlier save of these words left, and answers the
-/// numbers that are found in it. No file is changed.
+/// numbers that are found in it. No file is changed. Its name is on the disk then, which the save that made it may not have
+/// come to: `Write` where that can't be.
 pub(crate) fn take_left<D: Disk>(
     disk: &mut D,
     alloc: Global,
@@ -34,7 +35,7 @@ pub(crate) fn take_left<D: Disk>(
     ensures untouched { IfOk result (λ left. OnSome (D.asked disk.new) (D.File.contents left.0.held ≡ Some [])) }
     ensures asked { IfOk result (λ left. (folder : List ℕ) × D.is_opened_as left.0.folder folder × IsFolderOf name.now folder
         × HasAsked (D.asked disk.old) (D.asked disk.new)
-        (λ steps. steps ≡ Did (Open ReadOnly folder) ∷ taking_left (part_name name.now) (D.File.contents left.0.held))) }
+        (λ steps. steps ≡ Did (Open ReadOnly folder) ∷ (taking_left (part_name name.now) (D.File.contents left.0.held) ++ Did (SyncFolder folder) ∷ []))) }
     ensures refused { IfErr result (IsRefusedPart range (D.holds disk.old (part_name name.now))) }
     ensures failed { IfErr result (λ fault. HasAsked (D.asked disk.old) (D.asked disk.new) (InFolder name.now (IsUntaken (part_name name.now)) fault)) }
 {
@@ -46,6 +47,9 @@ pub(crate) fn take_left<D: Disk>(
     };
     match take_named(disk, alloc, own.as_str(), range) {
         Ok((held, file, found)) => {
+            if disk.sync_folder(&folder).is_err() {
+                return Err(ShelfFault::Write);
+            }
             let Found { numbers, kept } = found;
             let part = Part {
                 name: own,
@@ -127,6 +131,7 @@ fn read_left<D: Disk>(
     ensures left { IfOk result (λ found. IfSome (D.holds disk.old name.now) (λ text. AreFoundInPart range text found.numbers.items)) }
     ensures asked { OnOk result (HasAsked (D.asked disk.old) (D.asked disk.new) (λ steps. steps ≡ Did (Open ReadOnly name.now) ∷ [])) }
     ensures refused { IfErr result (IsRefusedPart range (D.holds disk.old name.now)) }
+    ensures soon { IfErr result (λ fault. fault ≡ ShelfFault.Write → ⊥) }
     ensures failed { IfErr result (λ fault. HasAsked (D.asked disk.old) (D.asked disk.new) (IsUntaken name.now fault)) }
 {
     let Ok(mut file) = disk.open(Access::ReadOnly, name) else {

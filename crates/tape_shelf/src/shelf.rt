@@ -46,7 +46,8 @@ pub trait Shelf {
     /// Goes on with what an earlier save of these words left, and answers the numbers of its complete blocks of 512
     /// bytes. Nothing is added yet: these blocks are the first that are to be added again.
     ///
-    /// `PartIsThere` where it can't be read, or somebody else holds it; `NotOfSave` where it is none of these words.
+    /// `PartIsThere` where it can't be read, or somebody else holds it; `NotOfSave` where it is none of these words; `Write`
+    /// where its folder can't be opened or brought to the disk. `IsThere` does not come.
     fn resume(&mut self, alloc: Global, range: AddressRange) -> Result<Vec<u16>, ShelfFault>
         ensures found { IfOk result (λ found. FillBlocks range found.items) }
         ensures left { IfOk result (λ found. IfSome (told self.old).left (λ text. AreFoundInPart range text found.items)) }

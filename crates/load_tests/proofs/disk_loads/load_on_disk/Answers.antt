@@ -1,6 +1,6 @@
 use Rattle.std.proofs.lemmas.Result.{IfOk-weaker, IfErr-weaker}
 use Rattle.machine_load.proofs.Driving.{kept_on_disk, load_reported, load_unreported, reported_also, unreported_also}
-use Rattle.simulated_system.specs.ToldSteps.{steps_of, written_to}
+use Rattle.told_calls.specs.ToldSteps.{steps_of, written_to}
 use Rattle.load_tests.specs.Told.{record_told}
 use Rattle.load_tests.proofs.disk_loads.load_on_disk.Goals as goal
 

@@ -74,6 +74,25 @@ class StuckConsole(StoringConsole):
         return answer
 
 
+class Flickering:
+    """At one of the times that 001000 is opened, counted from 0, it reads as another number. A probe opens it for its first look, for its
+    trial and for its second look."""
+
+    def __init__(self, opening, reads, **named):
+        super().__init__(**named)
+        self.opening, self.reads, self.openings = opening, reads, 0
+
+    def word(self, address):
+        if address != WORD:
+            return super().word(address)
+        self.openings += 1
+        return self.reads if self.openings == self.opening + 1 else super().word(address)
+
+
+class FlickeringConsole(Flickering, Console):
+    """ODT over memory that does so."""
+
+
 class Babbling:
     """Behind the third digit of the trial it prints more than a run may hear."""
 
@@ -400,6 +419,59 @@ class Wavering(Probes):
         """One of two, at the trial's first prompt: no mishap, and no statement about the console either."""
         line = self.console_at(LossyConsole(style=2, lost_answer=25))
         self.ends(self.probe_rightly(line), 0, found(2, more=(self.CR,)))
+
+
+class Bad(Probes):
+    """ODT as ldaodt knows it, over a word that does not read as it did: it is not said to store digits, and nothing is written over the word."""
+
+    FIRST, TRIAL, SECOND = range(3)
+
+    def flickers(self, rows):
+        """Probes a word that reads wrong once, for each row of what it holds, at which opening it does not read so, and what it reads then."""
+        def trial(row):
+            old, opening, reads, words = row
+            line = self.console_at(FlickeringConsole(opening, reads, memory={WORD: old}))
+            return line, self.probe_rightly(line, words)
+
+        for row, (line, given) in self.at_once(trial, rows):
+            with self.subTest("{0:06o} reads {2:06o} at {1} {3}".format(*row)):
+                yield row, line, given
+
+    def test_a_look_that_reads_wrong(self):
+        """The first of them or the second: the number of the first is told, and nothing is typed behind the second, so that memory is what it
+        was. A digit of the trial, or two of them, are no more than other numbers: it typed all three."""
+        rows = [(old, opening, old ^ bit, "") for old in (HELD, 0, 1, 0o12, 3) for opening in (self.FIRST, self.SECOND) for bit in (0o20, 0o100000)]
+        rows += [(0o12, self.FIRST, 0o32, ""), (1, self.FIRST, 3, ""), (3, self.SECOND, 1, ""), (0o23, self.FIRST, 0o21, ""),
+                 (HELD, self.FIRST, HELD ^ 1, "--patience 0"), (HELD, self.SECOND, HELD ^ 1, "--patience 0")]
+        for (old, opening, reads, _), line, given in self.flickers(rows):
+            told = reads if opening == self.FIRST else old
+            self.ends(given, 5, said("prompt yes", "style 0", NOT_KNOWN, "forgets digits not known", held(told), "end NotTrusted"))
+            self.is_so(line.machine.typed, tried(digits="321" if told in (1, 0o12, 0o123) else "123"))
+
+    def test_a_trial_that_reads_wrong(self):
+        """What stands behind the `/` while digits are typed says nothing."""
+        for _, line, given in self.flickers([(HELD, self.TRIAL, HELD ^ 0o20, ""), (HELD, self.TRIAL, 0o123, "")]):
+            self.ends(given, 0, found())
+            self.is_so(line.machine.typed, tried() + searched(28672))
+
+    def test_a_trial_that_gave_up(self):
+        """The echo of its second digit is lost, and then the second look reads wrong: what the first one or two digits make is taken for stored,
+        all else is not. The word holds its number, so that nothing is deposited to put it back."""
+        class Lossy(Flickering, LossyConsole):
+            pass
+
+        def trial(reads):
+            line = self.console_at(Lossy(self.SECOND, reads, memory={WORD: HELD}, lost_answer=40))
+            return line, self.probe(line, "--patience 0"), line.machine.word(WORD)
+
+        for reads, (line, given, now) in self.at_once(trial, (1, 0o12, 2, 3, 0o13, 0o23, 0o124, HELD ^ 1)):
+            with self.subTest(f"{reads:06o}"):
+                stored = reads in (1, 0o12)
+                self.is_so(given.out.split("\n")[-4:], [
+                    "forgets digits no: do not load this machine" if stored else "forgets digits not known",
+                    f"the word at 001000 holds {HELD:06o} again" if stored else held(HELD), "end NotTrusted", ""])
+                self.is_so((given.status, now), (5, HELD))
+                self.is_so(line.machine.typed, "Z001000/\rZ001000/12Z001000/\r" + ("Z001000/\r" if stored else ""))
 
 
 class Storing(Probes):

@@ -35,7 +35,7 @@ abbrev pub goes_on : Option TrialFindings → Bool
 goes_on None = false
 goes_on (Some attempt) = has_line attempt.end
 
--- the console stored the digits: the second look read another number
+-- the console stored the digits: the second look read another number, which they make
 abbrev pub stores : Verdict → Bool
 stores Stores = true
 stores verdict = false

@@ -32,9 +32,9 @@ use std::time::Clock;
 /// how fast it goes, how many characters came changed in its looks, of which the onlooker is told, and how the probe ended.
 ///
 /// The word at the address is looked at, tried and looked at again, also where the trial gave up. Where
-/// the second look reads another number, the old one is put back; where it reads the same and the trial
-/// came to its end, the end of memory is searched. Each run has at most 10,000 turns, and 100 more for
-/// each mishap of the patience.
+/// the second look reads a number that the typed digits make, the old one is put back; where it reads the
+/// same and the trial came to its end, the end of memory is searched; where it reads yet another, nothing
+/// more is typed. Each run has at most 10,000 turns, and 100 more for each mishap of the patience.
 ///
 /// `Connect` comes before anything was sent. `WriteOutput` is a report that could not be written whole.
 /// `Memory` comes only where a growth was refused, with nothing reported: before a digit was typed, or

@@ -86,7 +86,7 @@ pub(crate) fn make_runs<L: Line, O: Onlooker>(
 }
 
 /// Tries whether a console forgets digits at an illegal key, as `probe` does before it searches the end of memory: a look
-/// at the word, the trial of it, a second look, and where that read another number the old one is put back.
+/// at the word, the trial of it, a second look, and where that read what the typed digits make the old number is put back.
 ///
 /// The one error is want of memory, before a digit was typed. Nobody looks on.
 pub fn try_console<L: Line>(
@@ -284,7 +284,7 @@ fn has_line(end: TrialEnd) -> bool
     }
 }
 
-// Puts the old number back, where the console stored another.
+// Puts the old number back, where the console stored the typed digits.
 fn restore<L: Line>(
     found: &Findings,
     deposit: Option<Deposit>,

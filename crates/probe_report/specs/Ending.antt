@@ -25,7 +25,7 @@ same_end found trial.Tried = search_end found
 same_end found (trial.CutOff cut) = CutOff cut
 same_end found end = GaveUp
 
--- behind the second look: another number than before is no console to be trusted
+-- behind the second look: where it read another number than before, the machine is not to be trusted, whatever made that number
 abbrev pub second_end : Findings → ℕ → TrialEnd → Option Sighting → ProbeEnd
 second_end f old end (Some (look.Number now)) = if now == old then same_end f.search end else NotTrusted
 second_end f old end (Some look.NoWord) = NoWord f.address

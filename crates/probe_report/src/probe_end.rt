@@ -6,7 +6,8 @@ pub enum ProbeEnd {
     /// The word was the same behind digits and an illegal key, and the end of memory was found.
     Probed,
 
-    /// The word was another one behind digits and an illegal key: no load of this machine is safe.
+    /// The word read as another one behind digits and an illegal key: the console stored them, or memory or the line changed
+    /// it. No load of this machine is safe.
     NotTrusted,
 
     /// More mishaps than the patience, and no prompt was heard.

@@ -4,7 +4,7 @@ ghost use Rattle.trial_core.specs.Digits.{TellsApart, digits_for};
 
 /// The number whose last three octal digits a trial types into a word that holds `old`: 123, or 321
 /// where the word holds what one, two or three of these digits would make of it.
-pub(crate) fn digits_for(old: u16) -> u16
+pub fn digits_for(old: u16) -> u16
     ensures value { result ≡ digits_for old }
     ensures apart { TellsApart old result }
 {

@@ -20,6 +20,7 @@ mod table;
 mod trial;
 mod turn;
 
+pub use digits::digits_for;
 pub use habit::{Habit, Seen};
 pub use letter::SmallLetters;
 pub use phase::{End, Phase};

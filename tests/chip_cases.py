@@ -251,6 +251,9 @@ def any_test(chance):
             break
     faults = [word(chance.choice(test.tested()), chance.randrange(BITS), chance.choice("01")) for _ in range(chance.randrange(4))]
     faults += [chip(chance.choice(test.tested()) // 2 // BANK, chance.randrange(BITS), chance.choice("01")) for _ in range(chance.randrange(3))]
+    if chance.random() < 0.1:
+        ones = chance.choice(test.tested()) // 2 // BANK
+        faults += [chip(ones, bit, "1") for bit in range(BITS)]
     return test._replace(faults=tuple(faults))
 
 

@@ -161,19 +161,40 @@ class Flickering(Chip):
         self.ends(given, 1, self.TEST._replace(faults=(word(0o1004, 6, sign),)).report({0o1004 // 2: held}))
 
     def test_when_it_is_looked_at_first(self):
-        """Nothing is deposited before two looks are alike, so that what is put back is right."""
-        for looks in ((1,), (2,), (1, 3), (2, 3)):
+        """Nothing is deposited where two looks differ, so that nothing wrong is put back: it is a bad word, and costs no patience."""
+        text = self.TEST._replace(faults=(word(0o1004, 6, "x"),))
+        rows, bus = ("".join(f"{it}\n" for it in lines) for lines in ((HEADER, *text.rows()), text.bus()))
+        for looks in ((1,), (2,), (1, 3), range(1, 100, 2)):
             with self.subTest(looks):
-                given, _ = self.shown(*looks)
-                self.ends(given, 0, self.TEST.report({}))
+                fault = word(0o1004, 6, "x", *looks)
+                line, before, given = self.tried(self.TEST._replace(faults=(fault,)), more="--patience 0")
+                self.is_harmless(line, before, bus=FIRST)
+                held = before[0o1004 // 2]
+                first, second = (held ^ (it in looks) << 6 for it in (1, 2))
+                told = f"001004 reads {first:06o}, then {second:06o}\n"
+                self.ends(given, 1, f"{rows}{told}tested 4 words, 1 do not hold\n{bus}end Tested\n")
+                self.is_so([it for it, _ in line.machine.words.stored if it == 0o1004], [])
 
-    def test_when_no_two_looks_are_alike(self):
-        """Patience ends, and nothing was deposited there."""
-        fault = word(0o1004, 6, "x", *range(1, 100, 2))
-        line, before, given = self.tried(self.TEST._replace(faults=(fault,)), more="--patience 3")
+    def test_when_the_console_is_tried(self):
+        """The first look at it is wrong, or the one behind the trial, which is a look itself: nothing is deposited, and the word is named."""
+        for look in (1, 3):
+            with self.subTest(look):
+                line, before, given = self.tried(self.TEST._replace(faults=(word(FIRST, 6, "x", look),)))
+                self.is_harmless(line, before)
+                held = before[FIRST // 2] ^ (look == 1) << 6
+                told = f"{HEADER}\n000000-017776   not tested\ntested 0 words, 0 do not hold\nthe word at {FIRST:06o} held {held:06o}, now look at it\n"
+                self.ends(given, 5, f"{told}end NotTrusted\n")
+                self.is_so(line.machine.words.stored, [])
+
+    def test_a_bank_of_which_no_look_reads_what_another_did(self):
+        """Its chips are out: nothing is deposited in it, and the test goes on behind it."""
+        faults = tuple(Fault(range(2 * BANK, 4 * BANK, 2), bit, "x", range(bit % 2 + 1, 100, 2)) for bit in range(BITS))
+        test = Test(0, 0o57776, EVERY, faults, count=3 * BANK)
+        line, before, given = self.tried(test)
         self.is_harmless(line, before)
-        self.is_so((given.status, given.out.split("\n")[-3:], given.err), (5, ["tested 2 words, 0 do not hold", "end GaveUp", ""], ""))
-        self.is_so([it for it, _ in line.machine.words.stored if it == 0o1004], [])
+        rows = "".join(f"{it}\n" for it in (HEADER, *test.rows()))
+        self.is_so((given.status, given.out[: len(rows)], given.out.split("\n")[-3:]), (1, rows, ["tested 192 words, 64 do not hold", "end Tested", ""]))
+        self.is_so([it for it, _ in line.machine.words.stored if it // 2 // BANK == 1], [])
 
 
 class Losses(Chip):

@@ -15,6 +15,7 @@ use Rattle.reading_core.specs.Addresses.{AreAddresses, IsAddress, IsRange}
 use Rattle.memory_core.specs.declared.phase.End.{End}
 use Rattle.memory_core.specs.declared.phase.End.TheVariants as core
 use Rattle.memory_core.specs.declared.seen.Seen.{Seen}
+use Rattle.memory_core.specs.Seen.{old_in}
 use Rattle.memory_core.specs.declared.stage.Borrowed.{Borrowed}
 use Rattle.memory_core.specs.Addresses.{every_address}
 use Rattle.memory_core.specs.Invariant.{IsTester}
@@ -194,13 +195,13 @@ record MayLend (before : List ℕ) (word : Borrowed) : Type 0 where
   pub lies : is_word before word.address ≡ true
   pub old : word.old ≡ word_at before word.address
 
-each_may : (before : List ℕ) (words : List Word) → AreTrue before words → AreWords words → All (λ (w : Word). MayLend before (record { address = w.address; old = w.seen.old })) words
-each_may before [] held_all are = All-nil (λ (w : Word). MayLend before (record { address = w.address; old = w.seen.old }))
+each_may : (before : List ℕ) (words : List Word) → AreTrue before words → AreWords words → All (λ (w : Word). MayLend before (record { address = w.address; old = old_in w.seen })) words
+each_may before [] held_all are = All-nil (λ (w : Word). MayLend before (record { address = w.address; old = old_in w.seen }))
 each_may before (word ∷ words) held_all are =
     let held : Word → Type 0 = λ (w : Word). IsTrueOf before w.address w.seen in
     let here : IsTrueOf before word.address word.seen = All-head held word words held_all in
-    All-cons (λ (w : Word). MayLend before (record { address = w.address; old = w.seen.old })) word words
-    (record { address = All-head (λ (w : Word). IsAddress w.address) word words are; lies = here.lies; old = here.old })
+    All-cons (λ (w : Word). MayLend before (record { address = w.address; old = old_in w.seen })) word words
+    (record { address = All-head (λ (w : Word). IsAddress w.address) word words are; lies = here.lies; old = ap old_in here.tested ∙ here.old })
     (each_may before words (All-tail held word words held_all) (All-tail (λ (w : Word). IsAddress w.address) word words are))
 
 lent_first : (before : List ℕ) (word : Borrowed) (now : List ℕ) → MayLend before word → now ≡ before → IsLent before word now

@@ -24,6 +24,7 @@ use Rattle.engine.specs.declared.stop.Stop.{Stop}
 use Rattle.memory_core.specs.declared.phase.End.{End}
 use Rattle.memory_core.specs.declared.phase.End.TheVariants as core
 use Rattle.memory_core.specs.declared.seen.Seen.{Seen}
+use Rattle.memory_core.specs.Seen.{old_in}
 use Rattle.memory_core.specs.declared.stage.Borrowed.{Borrowed}
 use Rattle.memory_core.specs.Tester.{Tester, borrowed}
 use Rattle.memory_report.specs.declared.findings.Word.{Word}
@@ -333,25 +334,25 @@ second_look_words s word r (Err cut) = refl
 -- ---- where the test of the bus begins
 
 -- what holds of each tested word holds of the first good one
-good_keeps : (P : Borrowed → Type 0) (found : Option Borrowed) (next : Word) → ((word : Borrowed) → found ≡ Some word → P word) → P (record { address = next.address; old = next.seen.old }) → (word : Borrowed) → good_also found next ≡ Some word → P word
+good_keeps : (P : Borrowed → Type 0) (found : Option Borrowed) (next : Word) → ((word : Borrowed) → found ≡ Some word → P word) → P (record { address = next.address; old = old_in next.seen }) → (word : Borrowed) → good_also found next ≡ Some word → P word
 good_keeps P (Some other) next earlier here word is = earlier word is
 good_keeps P None next earlier here word is = by (is_bad next) is
   where
-    by : (bad : Bool) → (if bad then None else Some (record { address = next.address; old = next.seen.old })) ≡ Some word → P word
+    by : (bad : Bool) → (if bad then None else Some (record { address = next.address; old = old_in next.seen })) ≡ Some word → P word
     by true e = absurd (cc e)
     by false e = subst P (cc e) here
 
-pub good_has : (P : Borrowed → Type 0) (words : List Word) (found : Option Borrowed) → ((word : Borrowed) → found ≡ Some word → P word) → All (λ (w : Word). P (record { address = w.address; old = w.seen.old })) words →
+pub good_has : (P : Borrowed → Type 0) (words : List Word) (found : Option Borrowed) → ((word : Borrowed) → found ≡ Some word → P word) → All (λ (w : Word). P (record { address = w.address; old = old_in w.seen })) words →
     (word : Borrowed) → fold good_also found words ≡ Some word → P word
 good_has P [] found earlier all word is = earlier word is
 good_has P (next ∷ words) found earlier all word is =
-    let here : Word → Type 0 = λ (w : Word). P (record { address = w.address; old = w.seen.old }) in
+    let here : Word → Type 0 = λ (w : Word). P (record { address = w.address; old = old_in w.seen }) in
     good_has P words (good_also found next) (good_keeps P found next earlier (All-head here next words all)) (All-tail here next words all) word is
 
 no_good : (P : Borrowed → Type 0) (word : Borrowed) → None ≡ Some word → P word
 no_good P word e = absurd (cc e)
 
-pub first_good_has : (P : Borrowed → Type 0) (words : List Word) → All (λ (w : Word). P (record { address = w.address; old = w.seen.old })) words → (word : Borrowed) → first_good words ≡ Some word → P word
+pub first_good_has : (P : Borrowed → Type 0) (words : List Word) → All (λ (w : Word). P (record { address = w.address; old = old_in w.seen })) words → (word : Borrowed) → first_good words ≡ Some word → P word
 first_good_has P words all word is = good_has P words None (no_good P) all word is
 
 begins_within : (to every : ℕ) (s : Standing) (place : Place) (borrowed found : Option Borrowed) → ((word : Borrowed) → found ≡ Some word → IsAddress word.address) → IsWithin to s.place → IsWithin to (bus_begins every s place borrowed found).place

@@ -9,6 +9,7 @@ use Rattle.looking_engine.specs.Stopping.{LookStop}
 use Rattle.reading_core.specs.declared.phase.End.TheVariants as looked
 use Rattle.reading_core.specs.Reader.{Reader}
 use Rattle.memory_core.specs.declared.stage.Borrowed.{Borrowed}
+use Rattle.memory_core.specs.Seen.{old_in}
 use Rattle.memory_report.specs.declared.test_end.TestEnd.TheVariants.{Tested, NoWord, GaveUp, CutOff}
 use Rattle.memory_report.specs.declared.findings.Word.{Word}
 use Rattle.memory_report.specs.Words.{is_bad}
@@ -21,7 +22,7 @@ use Rattle.machine_memory.specs.Course.{Standing, over}
 
 abbrev pub good_also : Option Borrowed → Word → Option Borrowed
 good_also (Some word) next = Some word
-good_also None next = if is_bad next then None else Some (record { address = next.address; old = next.seen.old })
+good_also None next = if is_bad next then None else Some (record { address = next.address; old = old_in next.seen })
 
 -- the first word that holds what it is given, and what it held before
 abbrev pub first_good : List Word → Option Borrowed

@@ -1,5 +1,5 @@
 -- A test of memory between two hosts: what was found so far, and what comes next (this project's own).
-use Rattle.std.specs.Prelude.{ℕ, ◌+◌, ◌*◌, ◌/◌, Bool, true, false, nat_le, if◌then◌else◌, List, [], ◌∷◌, ◌++◌, All, Option, Some, None, ⊤}
+use Rattle.std.specs.Prelude.{ℕ, ◌+◌, ◌*◌, ◌/◌, Bool, true, false, ◌==◌, nat_le, if◌then◌else◌, List, [], ◌∷◌, ◌++◌, All, Option, Some, None, ⊤}
 use Rattle.reading_core.specs.Addresses.{IsAddress, IsRange}
 use Rattle.engine.specs.declared.stop.Cut.TheVariants.{TurnsOver}
 use Rattle.engine.specs.declared.stop.Stop.{Stop}
@@ -69,15 +69,17 @@ abbrev pub unknown_end : TrialEnd → TestEnd
 unknown_end (trial.CutOff cut) = CutOff cut
 unknown_end end = GaveUp
 
-abbrev pub sighting_end : Sighting → TestEnd
-sighting_end (look.CutOff cut) = CutOff cut
-sighting_end second = GaveUp
+-- where two looks read two numbers, nothing is to be trusted
+abbrev pub sighting_end : ℕ → Sighting → TestEnd
+sighting_end old (look.CutOff cut) = CutOff cut
+sighting_end old (look.Number now) = if now == old then GaveUp else NotTrusted
+sighting_end old second = GaveUp
 
 -- what kept it from being known whether the console forgets
-abbrev pub unknown_behind : Option TrialFindings → Option Sighting → TestEnd
-unknown_behind (Some trial) None = unknown_end trial.end
-unknown_behind trial (Some second) = sighting_end second
-unknown_behind None None = GaveUp
+abbrev pub unknown_behind : ℕ → Option TrialFindings → Option Sighting → TestEnd
+unknown_behind old (Some trial) None = unknown_end trial.end
+unknown_behind old trial (Some second) = sighting_end old second
+unknown_behind old None None = GaveUp
 
 abbrev pub try_next : ℕ → Option ℕ → Place
 try_next address (Some next) = Trying next
@@ -86,7 +88,7 @@ try_next address None = Over (NoWord address)
 -- where it is not known whether it forgets, by the first look
 abbrev pub by_first : ℕ → Standing → Findings → Sighting → Standing
 -- a digit may have been typed
-by_first to s f (look.Number old) = over s (unknown_behind f.trial f.second) (Some (record { address = f.address; old = old }))
+by_first to s f (look.Number old) = over s (unknown_behind old f.trial f.second) (Some (record { address = f.address; old = old }))
 -- nothing answers: it is tried at the next bank
 by_first to s f look.NoWord = with_gap s f.address (try_next f.address (next_bank f.address to))
 by_first to s f look.GaveUp = over s GaveUp None

@@ -246,7 +246,7 @@ fn good_also(found: Option<Borrowed>, word: Word) -> Option<Borrowed>
         None if word.is_bad() => None,
         None => Some(Borrowed {
             address: word.address,
-            old: word.seen.old,
+            old: word.seen.old(),
         }),
     }
 }

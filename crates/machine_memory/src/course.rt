@@ -162,7 +162,7 @@ impl Course {
         let address = found.address;
         match found.first {
             Sighting::Number(old) => {
-                let end = unknown_behind(found.trial, found.second);
+                let end = unknown_behind(old, found.trial, found.second);
                 Ok(self.over(end, Some(Borrowed { address, old })))
             }
             Sighting::NoWord => self.with_gap(address, try_next(address, next_bank(address, to))),
@@ -251,11 +251,11 @@ fn borrowed_behind(address: u16, old: u16, put_back: Option<bool>) -> Option<Bor
 }
 
 // How it ended, where it is not known whether the console forgets digits, though the first look read a number.
-fn unknown_behind(trial: Option<TrialFindings>, second: Option<Sighting>) -> TestEnd
-    ensures { result ≡ unknown_behind trial second }
+fn unknown_behind(old: u16, trial: Option<TrialFindings>, second: Option<Sighting>) -> TestEnd
+    ensures { result ≡ unknown_behind old trial second }
 {
     match second {
-        Some(second) => sighting_end(second),
+        Some(second) => sighting_end(old, second),
         None => match trial {
             Some(TrialFindings { end, .. }) => unknown_end(end),
             None => TestEnd::GaveUp,
@@ -272,11 +272,12 @@ fn unknown_end(end: TrialEnd) -> TestEnd
     }
 }
 
-fn sighting_end(second: Sighting) -> TestEnd
-    ensures { result ≡ sighting_end second }
+fn sighting_end(old: u16, second: Sighting) -> TestEnd
+    ensures { result ≡ sighting_end old second }
 {
     match second {
         Sighting::CutOff(cut) => TestEnd::CutOff(cut),
+        Sighting::Number(now) if now != old => TestEnd::NotTrusted,
         Sighting::Number(_) | Sighting::NoWord | Sighting::GaveUp => TestEnd::GaveUp,
     }
 }

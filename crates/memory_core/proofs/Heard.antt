@@ -22,10 +22,11 @@ use Rattle.memory_core.specs.declared.phase.Phase.{Phase}
 use Rattle.memory_core.specs.declared.phase.Phase.TheVariants.{Settle, Sync, Address, Slash, Before, Value, Deposit, Return, Close, Ended}
 use Rattle.memory_core.specs.declared.phase.End.TheVariants.{Complete, GaveUp}
 use Rattle.memory_core.specs.declared.seen.Seen.{Seen}
+use Rattle.memory_core.specs.declared.seen.Seen.TheVariants.{Unsteady, Tested}
 use Rattle.memory_core.specs.declared.stage.Stage.{Stage}
 use Rattle.memory_core.specs.declared.stage.Stage.TheVariants.{Unseen, Once, Turned, Returned}
 use Rattle.memory_core.specs.declared.turn.Turn.{Turn}
-use Rattle.memory_core.specs.declared.turn.Turn.TheVariants.{Listen, Key, LooksAgain, Differs, Deposits, Tested, ReadBack, Next, Stop, Stray, Timeout}
+use Rattle.memory_core.specs.declared.turn.Turn.TheVariants.{Listen, Key, LooksAgain, Deposits, Counts, ReadBack, Next, Stop, Stray, Timeout}
 use Rattle.memory_core.specs.Invariant.{IsTester, Basis, basis_of, PhaseFits}
 use Rattle.memory_core.specs.Laws.{led, replay, WasRead, StageIsHeard, WordIsHeard, TellsOnlyHeard, ReportsOnlyHeard}
 use Rattle.memory_core.specs.MemoryTable.{TesterStep, ask, taken, turn_of, hears, waits, synced, addressed, read, reads, deposited, returned, closed, sends, listens}
@@ -101,12 +102,12 @@ whole visit value place c heard low high blank h = (
 abbrev StageWasRead : Stage → Stage → List Heard → Type 0
 StageWasRead Unseen (Once first) heard = WasRead first heard
 StageWasRead (Once first) (Turned old) heard = (old ≡ first) × WasRead old heard
-StageWasRead (Once first) Unseen heard = (other : ℕ) × (other ≢ first) × WasRead other heard
 StageWasRead (Turned old) (Returned old' turned) heard = (old' ≡ old) × WasRead turned heard
 StageWasRead before after heard = after ≡ before
 
 abbrev WordWasRead : Stage → Seen → List Heard → Type 0
-WordWasRead (Returned old turned) word heard = (word.old ≡ old) × (word.turned ≡ turned) × WasRead word.back heard
+WordWasRead (Returned old turned) (Tested r) heard = (r.old ≡ old) × (r.turned ≡ turned) × WasRead r.back heard
+WordWasRead (Once before) (Unsteady first second) heard = (first ≡ before) × (second ≢ first) × WasRead second heard
 WordWasRead stage word heard = ⊥
 
 -- what a turn takes for heard was heard, where this is known of the word under way
@@ -114,9 +115,8 @@ abbrev Tells : Stage → List Heard → Turn → Type 0
 Tells stage heard (Listen next) = HeardFits next heard
 Tells stage heard (Key key next) = HeardFits next heard
 Tells stage heard (LooksAgain first) = StageWasRead stage (Once first) heard
-Tells stage heard Differs = StageWasRead stage Unseen heard
 Tells stage heard (Deposits next) = StageWasRead stage next heard
-Tells stage heard (Tested word) = WordWasRead stage word heard
+Tells stage heard (Counts word) = WordWasRead stage word heard
 Tells stage heard turn = Unit {0}
 
 sync_tells : (stage : Stage) (heard : List Heard) (place c : ℕ) → Tells stage heard (synced (resynchronise_reply place c))
@@ -134,7 +134,7 @@ apart_of value first apart same = other apart
 read_tells : (stage : Stage) (heard : List Heard) (visit : Visit) (value : ℕ) → WasRead value heard → Tells stage heard (read stage visit value)
 read_tells Unseen heard visit value was = was
 read_tells (Once first) heard visit value was =
-    either (Tells (Once first) heard) (value == first) _ _ (λ same. (eqb-true _ _ same, was)) (λ apart. (value, apart_of value first apart, was))
+    either (Tells (Once first) heard) (value == first) _ _ (λ same. (eqb-true _ _ same, was)) (λ apart. (refl, apart_of value first apart, was))
 read_tells (Turned old) heard Look value was = refl
 read_tells (Turned old) heard Check value was = (refl, was)
 read_tells (Returned old turned) heard Look value was = refl
@@ -197,10 +197,8 @@ taken_heard : (t : Tester) (turn : Turn) (heard : List Heard) → Tells t.stage 
 taken_heard t (Listen phase) heard h = h
 taken_heard t (Key key phase) heard h = h
 taken_heard t (LooksAgain first) heard h = tt
-taken_heard t Differs heard h =
-    either_step (λ a. HeardFits a.next.phase heard) (nat_lt t.spent t.patience) (listens (record t { spent = t.spent + 1; stage = Unseen }) Settle) (listens t (Ended GaveUp)) tt tt
 taken_heard t (Deposits stage) heard h = tt
-taken_heard t (Tested word) heard h = tt
+taken_heard t (Counts word) heard h = tt
 taken_heard t ReadBack heard h = tt
 taken_heard t Next heard h =
     either_step (λ a. HeardFits a.next.phase heard) (nat_lt (length t.seen) (length t.addresses)) (sends t (digit_of (address_under_way t) 1) (Address Look 1)) (listens t (Ended Complete)) tt tt
@@ -215,12 +213,6 @@ led_heard t [] before h f = subst (HeardFits t.phase) (sym (append-nil before)) 
 led_heard t (heard ∷ more) before h f =
     subst (HeardFits (led t (heard ∷ more)).phase) (append_assoc before (heard ∷ []) more)
     (led_heard (ask t heard).next more (before ++ heard ∷ []) (kept t heard h) (taken_heard t (turn_of t heard) (before ++ heard ∷ []) (turn_tells t heard before h f)))
-
-unseen_typed : (address : ℕ) (stage : Stage) (typed : List ℕ) → StageIsTyped address stage Unseen typed
-unseen_typed address Unseen typed = tt
-unseen_typed address (Once first) typed = tt
-unseen_typed address (Turned old) typed = tt
-unseen_typed address (Returned old turned) typed = tt
 
 -- read, and behind its keys
 stage_both : (address : ℕ) (before after : Stage) (heard : List Heard) (typed : List ℕ) → StageWasRead before after heard → StageIsTyped address before after typed → StageIsHeard address before after heard typed
@@ -243,9 +235,11 @@ stage_both address (Returned old turned) (Returned old' turned') heard typed was
 
 word_both : (address : ℕ) (stage : Stage) (word : Seen) (heard : List Heard) (typed : List ℕ) → WordWasRead stage word heard → WordIsTyped address stage typed → WordIsHeard address stage word heard typed
 word_both address Unseen word heard typed was keys = absurd was
-word_both address (Once first) word heard typed was keys = absurd was
+word_both address (Once first) (Unsteady one other) heard typed was keys = (was.0, was.1, was.2, keys)
+word_both address (Once first) (Tested r) heard typed was keys = absurd was
 word_both address (Turned old) word heard typed was keys = absurd was
-word_both address (Returned old turned) word heard typed was keys = (was.0, was.1, was.2, keys)
+word_both address (Returned old turned) (Unsteady one other) heard typed was keys = absurd was
+word_both address (Returned old turned) (Tested r) heard typed was keys = (was.0, was.1, was.2, keys)
 
 same_stage : (address : ℕ) (stage : Stage) (heard : List Heard) (typed : List ℕ) → StageIsHeard address stage stage heard typed
 same_stage address Unseen heard typed = refl
@@ -265,12 +259,8 @@ taken_tells : (t : Tester) (turn : Turn) (heard : List Heard) (typed : List ℕ)
 taken_tells t (Listen phase) heard typed h k = still t (listens t phase) heard typed refl refl
 taken_tells t (Key key phase) heard typed h k = still t (sends t key phase) heard typed refl refl
 taken_tells t (LooksAgain first) heard typed h k = record { stage = λ _. stage_both (address_under_way t) t.stage (Once first) heard typed h k; word = λ other. absurd (other refl) }
-taken_tells t Differs heard typed h k =
-    either_step (λ a. TellsOnlyHeard t a.next heard typed) (nat_lt t.spent t.patience) (listens (record t { spent = t.spent + 1; stage = Unseen }) Settle) (listens t (Ended GaveUp))
-    record { stage = λ _. stage_both (address_under_way t) t.stage Unseen heard typed h (unseen_typed (address_under_way t) t.stage typed); word = λ other. absurd (other refl) }
-    (still t (listens t (Ended GaveUp)) heard typed refl refl)
 taken_tells t (Deposits stage) heard typed h k = record { stage = λ _. stage_both (address_under_way t) t.stage stage heard typed h k; word = λ other. absurd (other refl) }
-taken_tells t (Tested word) heard typed h k =
+taken_tells t (Counts word) heard typed h k =
     record { stage = λ same. absurd (one_longer t.seen word same); word = λ _. record { word = word; seen = refl; read = word_both (address_under_way t) t.stage word heard typed h k; stage = refl } }
 taken_tells t ReadBack heard typed h k = still t (taken t ReadBack) heard typed refl refl
 taken_tells t Next heard typed h k =

@@ -9,8 +9,7 @@ use Rattle.host_core.proofs.Frame.{on_test}
 use Rattle.memory_core.specs.declared.phase.Phase.TheVariants.{Settle, Sync, Address, Ended}
 use Rattle.memory_core.specs.declared.phase.End.TheVariants.{Complete, GaveUp}
 use Rattle.memory_core.specs.declared.turn.Turn.{Turn}
-use Rattle.memory_core.specs.declared.stage.Stage.TheVariants.{Unseen}
-use Rattle.memory_core.specs.declared.turn.Turn.TheVariants.{Listen, Key, LooksAgain, Differs, Deposits, Tested, ReadBack, Next, Stop, Stray, Timeout}
+use Rattle.memory_core.specs.declared.turn.Turn.TheVariants.{Listen, Key, LooksAgain, Deposits, Counts, ReadBack, Next, Stop, Stray, Timeout}
 use Rattle.memory_core.specs.Invariant.{IsTester}
 use Rattle.memory_core.specs.Laws.{led, replay, KeepsBound}
 use Rattle.memory_core.specs.MemoryTable.{TesterStep, ask, listens, sends, taken, turn_of, seen_after}
@@ -35,12 +34,8 @@ taken_asked : (t : Tester) (turn : Turn) → IsAsked t turn (taken t turn)
 taken_asked t (Listen phase) = record { addresses = refl; seen = refl; patience = refl; sent = not_sent t.sent }
 taken_asked t (Key key phase) = record { addresses = refl; seen = refl; patience = refl; sent = refl }
 taken_asked t (LooksAgain first) = record { addresses = refl; seen = refl; patience = refl; sent = refl }
-taken_asked t Differs =
-    either_asked t Differs (nat_lt t.spent t.patience) (listens (record t { spent = t.spent + 1; stage = Unseen }) Settle) (listens t (Ended GaveUp))
-    record { addresses = refl; seen = refl; patience = refl; sent = not_sent t.sent }
-    record { addresses = refl; seen = refl; patience = refl; sent = not_sent t.sent }
 taken_asked t (Deposits stage) = record { addresses = refl; seen = refl; patience = refl; sent = refl }
-taken_asked t (Tested word) = record { addresses = refl; seen = refl; patience = refl; sent = refl }
+taken_asked t (Counts word) = record { addresses = refl; seen = refl; patience = refl; sent = refl }
 taken_asked t ReadBack = record { addresses = refl; seen = refl; patience = refl; sent = refl }
 taken_asked t Next =
     either_asked t Next (nat_lt (length t.seen) (length t.addresses)) (sends t (digit_of (address_under_way t) 1) (Address Look 1)) (listens t (Ended Complete))

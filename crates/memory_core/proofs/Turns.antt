@@ -19,7 +19,7 @@ use Rattle.memory_core.specs.declared.phase.End.TheVariants.{Complete, GaveUp}
 use Rattle.memory_core.specs.declared.stage.Stage.{Stage}
 use Rattle.memory_core.specs.declared.stage.Stage.TheVariants.{Unseen, Once, Turned, Returned}
 use Rattle.memory_core.specs.declared.turn.Turn.{Turn}
-use Rattle.memory_core.specs.declared.turn.Turn.TheVariants.{Listen, Key, LooksAgain, Differs, Deposits, Tested, ReadBack, Next, Stop, Stray, Timeout}
+use Rattle.memory_core.specs.declared.turn.Turn.TheVariants.{Listen, Key, LooksAgain, Deposits, Counts, ReadBack, Next, Stop, Stray, Timeout}
 use Rattle.memory_core.specs.Bound.{testing_bound, used_before, used_in_visit, used_up_to}
 use Rattle.memory_core.specs.Invariant.{IsTester, Basis, basis_of, PhaseFits, StageFits, VisitFits, EndFits, HasWord}
 use Rattle.memory_core.specs.MemoryTable.{TesterStep, IsTesting, KeyTests, ask, taken, turn_of, hears, waits, synced, addressed, read, reads, second_look, deposited, returned, closed, next_word, sends, listens}
@@ -31,9 +31,8 @@ abbrev TurnFits : Turn → Basis → ℕ → Type 0
 TurnFits (Listen phase) b n = PhaseFits phase b × (n ≤ used_in_visit phase)
 TurnFits (Key key phase) b n = PhaseFits phase b × (n + 1 ≤ used_in_visit phase) × IsTesting key
 TurnFits (LooksAgain first) b n = HasWord b × (first < 65536) × (n + used_up_to b.stage ≤ 8)
-TurnFits Differs b n = n + used_up_to b.stage ≤ 22
 TurnFits (Deposits stage) b n = HasWord b × IsTouched stage × AreNumbers stage × (n + used_up_to b.stage ≤ 8 + used_up_to stage)
-TurnFits (Tested word) b n = HasWord b × (n + used_up_to b.stage ≤ 44)
+TurnFits (Counts word) b n = HasWord b × (n + used_up_to b.stage ≤ 44)
 TurnFits ReadBack b n = HasWord b × IsTouched b.stage × (n ≤ 15)
 TurnFits Next b n = n ≤ 1
 TurnFits (Stop end) b n = EndFits end b × (n ≤ 22)
@@ -102,10 +101,6 @@ taken_kept t (LooksAgain first) h f = record {
   fits = omega arith;
   paid = omega (arith, h.paid, f.2);
 }
-taken_kept t Differs h f =
-    either_asked (nat_lt t.spent t.patience) _ _
-    (λ more. record { asked = h.asked; within = h.within; patient = omega (arith, ltb-true _ _ more); long = h.long; stage = tt; numbers = tt; fits = tt; paid = omega (arith, h.paid, f) })
-    (λ none. given_up t h (ltb-false _ _ none) (omega (arith, f)))
 taken_kept t (Deposits stage) h f = record {
   asked = h.asked;
   within = h.within;
@@ -116,7 +111,7 @@ taken_kept t (Deposits stage) h f = record {
   fits = (f.0, record { from = omega arith; to = omega arith }, f.1);
   paid = omega (arith, h.paid, f.3);
 }
-taken_kept t (Tested word) h f = record {
+taken_kept t (Counts word) h f = record {
   asked = h.asked;
   within = simp length-append (omega (arith, f.0));
   patient = h.patient;
@@ -145,9 +140,8 @@ taken_tests : (t : Tester) (turn : Turn) (b : Basis) (n : ℕ) → TurnFits turn
 taken_tests t (Listen phase) b n f = tt
 taken_tests t (Key key phase) b n f = f.2
 taken_tests t (LooksAgain first) b n f = return_tests
-taken_tests t Differs b n f = either_key (nat_lt t.spent t.patience) (listens (record t { spent = t.spent + 1; stage = Unseen }) Settle) (listens t (Ended GaveUp)) tt tt
 taken_tests t (Deposits stage) b n f = digit_tests (number_of stage) 1
-taken_tests t (Tested word) b n f = return_tests
+taken_tests t (Counts word) b n f = return_tests
 taken_tests t ReadBack b n f = digit_tests (address_under_way t) 1
 taken_tests t Next b n f = either_key (nat_lt (length t.seen) (length t.addresses)) (sends t (digit_of (address_under_way t) 1) (Address Look 1)) (listens t (Ended Complete)) (digit_tests (address_under_way t) 1) tt
 taken_tests t (Stop end) b n f = tt
@@ -179,7 +173,7 @@ before_fits b visit c f v =
 
 -- two looks
 looks_fit : (b : Basis) (first second : ℕ) → b.stage ≡ Once first → HasWord b → second < 65536 → TurnFits (second_look first second) b 8
-looks_fit b first second is f small = either (λ t. TurnFits t b 8) (second == first) _ _ (λ _. (f, tt, small, rw is (omega arith))) (λ _. rw is (omega arith))
+looks_fit b first second is f small = either (λ t. TurnFits t b 8) (second == first) _ _ (λ _. (f, tt, small, rw is (omega arith))) (λ _. (f, rw is (omega arith)))
 
 -- a whole reading
 read_fits : (b : Basis) (stage : Stage) (visit : Visit) (value : ℕ) → b.stage ≡ stage → HasWord b → VisitFits visit stage → AreNumbers stage → value < 65536 → TurnFits (read stage visit value) b (used_before visit + 7)

@@ -18,7 +18,7 @@ use Rattle.memory_core.specs.declared.phase.End.TheVariants.{Complete, GaveUp}
 use Rattle.memory_core.specs.declared.stage.Stage.{Stage}
 use Rattle.memory_core.specs.declared.stage.Stage.TheVariants.{Unseen, Once, Turned, Returned}
 use Rattle.memory_core.specs.declared.turn.Turn.{Turn}
-use Rattle.memory_core.specs.declared.turn.Turn.TheVariants.{Listen, Key, LooksAgain, Differs, Deposits, Tested, ReadBack, Next, Stop, Stray, Timeout}
+use Rattle.memory_core.specs.declared.turn.Turn.TheVariants.{Listen, Key, LooksAgain, Deposits, Counts, ReadBack, Next, Stop, Stray, Timeout}
 use Rattle.memory_core.specs.Invariant.{IsTester, Basis, basis_of, PhaseFits, VisitFits}
 use Rattle.memory_core.specs.Laws.{led, replay, opens, deposits, EndsWith, TypesOnlyTesting}
 use Rattle.memory_core.specs.MemoryTable.{TesterStep, IsTesting, KeyTests, ask, taken, turn_of, hears, waits, synced, addressed, read, reads, deposited, returned, closed, sends, listens}
@@ -66,13 +66,14 @@ StageIsTyped address before after typed = Unit {0}
 
 abbrev pub WordIsTyped : ℕ → Stage → List ℕ → Type 0
 WordIsTyped address (Returned old turned) typed = EndsWith (deposits address old) typed
+WordIsTyped address (Once first) typed = EndsWith (opens address) typed
 WordIsTyped address stage typed = Unit {0}
 
 -- what a turn takes for read stands behind its keys
 abbrev pub TurnIsTyped : ℕ → Stage → Turn → List ℕ → Type 0
 TurnIsTyped address stage (LooksAgain first) typed = StageIsTyped address stage (Once first) typed
 TurnIsTyped address stage (Deposits next) typed = StageIsTyped address stage next typed
-TurnIsTyped address stage (Tested word) typed = WordIsTyped address stage typed
+TurnIsTyped address stage (Counts word) typed = WordIsTyped address stage typed
 TurnIsTyped address stage turn typed = Unit {0}
 
 -- how a turn goes on from what was typed
@@ -81,7 +82,7 @@ Types address stage phase (Listen next) = (typed : List ℕ) → Fits address st
 Types address stage phase (Key key next) = (typed : List ℕ) → Fits address stage phase typed → Fits address stage next (typed ++ key ∷ [])
 Types address stage phase (LooksAgain first) = (typed : List ℕ) → Fits address stage phase typed → StageIsTyped address stage (Once first) typed
 Types address stage phase (Deposits next) = (typed : List ℕ) → Fits address stage phase typed → StageIsTyped address stage next typed × Fits address next (Deposit 1) (typed ++ digit_of (number_of next) 1 ∷ [])
-Types address stage phase (Tested word) = (typed : List ℕ) → Fits address stage phase typed → WordIsTyped address stage typed
+Types address stage phase (Counts word) = (typed : List ℕ) → Fits address stage phase typed → WordIsTyped address stage typed
 Types address stage phase ReadBack = (typed : List ℕ) → Fits address stage phase typed → Fits address stage (Address Check 1) (typed ++ digit_of address 1 ∷ [])
 Types address stage phase turn = Unit {0}
 
@@ -143,7 +144,7 @@ read_types address (Once first) Look phase value is fits =
     (λ _. λ typed ends.
     let here : EndsWith (opens address) typed = subst (λ keys. EndsWith keys typed) is ends in
     (here, and_key (opens address) (opens address ++ take 1 (octal_text (number_of (Turned value)))) typed (digit_of (number_of (Turned value)) 1) refl here))
-    (λ _. tt)
+    (λ _. λ typed ends. subst (λ keys. EndsWith keys typed) is ends)
 read_types address (Once first) Check phase value is fits = absurd fits
 read_types address (Turned old) Look phase value is fits = λ typed ends.
     let here : EndsWith (opens address) typed = subst (λ keys. EndsWith keys typed) is ends in
@@ -229,10 +230,8 @@ taken_typed : (t : Tester) (turn : Turn) (typed : List ℕ) → Types (address_u
 taken_typed t (Listen phase) typed h fits = subst (Fits (address_under_way t) t.stage phase) (sym (append-nil typed)) (h typed fits)
 taken_typed t (Key key phase) typed h fits = h typed fits
 taken_typed t (LooksAgain first) typed h fits = anything (typed ++ carriage_return ∷ [])
-taken_typed t Differs typed h fits =
-    either_step typed (nat_lt t.spent t.patience) (listens (record t { spent = t.spent + 1; stage = Unseen }) Settle) (listens t (Ended GaveUp)) (anything (typed ++ [])) (anything (typed ++ []))
 taken_typed t (Deposits next) typed h fits = (h typed fits).1
-taken_typed t (Tested word) typed h fits = anything (typed ++ carriage_return ∷ [])
+taken_typed t (Counts word) typed h fits = anything (typed ++ carriage_return ∷ [])
 taken_typed t ReadBack typed h fits = h typed fits
 taken_typed t Next typed h fits =
     either_step typed (nat_lt (length t.seen) (length t.addresses)) (sends t (digit_of (address_under_way t) 1) (Address Look 1)) (listens t (Ended Complete)) (typed, refl) (anything (typed ++ []))
@@ -252,9 +251,8 @@ typed_turn : (address : ℕ) (stage : Stage) (phase : Phase) (turn : Turn) (type
 typed_turn address stage phase (Listen next) typed h fits = tt
 typed_turn address stage phase (Key key next) typed h fits = tt
 typed_turn address stage phase (LooksAgain first) typed h fits = h typed fits
-typed_turn address stage phase Differs typed h fits = tt
 typed_turn address stage phase (Deposits next) typed h fits = (h typed fits).0
-typed_turn address stage phase (Tested word) typed h fits = h typed fits
+typed_turn address stage phase (Counts word) typed h fits = h typed fits
 typed_turn address stage phase ReadBack typed h fits = tt
 typed_turn address stage phase Next typed h fits = tt
 typed_turn address stage phase (Stop end) typed h fits = tt

@@ -5,6 +5,7 @@ use Rattle.host_core.specs.declared.heard.Heard.{Heard}
 use Rattle.host_core.specs.declared.heard.Heard.TheVariants.{Got}
 use Rattle.host_core.specs.Console.{carriage_return, slash, space}
 use Rattle.memory_core.specs.declared.seen.Seen.{Seen}
+use Rattle.memory_core.specs.declared.seen.Seen.TheVariants.{Unsteady, Tested}
 use Rattle.memory_core.specs.declared.stage.Stage.{Stage}
 use Rattle.memory_core.specs.declared.stage.Stage.TheVariants.{Unseen, Once, Turned, Returned}
 use Rattle.memory_core.specs.Bound.{testing_bound}
@@ -47,30 +48,31 @@ abbrev pub EndsWith : List ℕ → List ℕ → Type 0
 EndsWith keys typed = (before : List ℕ) × (typed ≡ before ++ keys)
 
 -- what is known of the word at an address becomes more only by what was just read, where the last keys opened the word, or deposited
--- the complement there and opened it again; what it held is what two looks read; and what one look read is forgotten only where the
--- second read another number
+-- the complement there and opened it again; and what it held is what two looks read
 abbrev pub StageIsHeard : ℕ → Stage → Stage → List Heard → List ℕ → Type 0
 StageIsHeard address Unseen (Once first) heard typed = WasRead first heard × EndsWith (opens address) typed
 StageIsHeard address (Once first) (Turned old) heard typed = (old ≡ first) × WasRead old heard × EndsWith (opens address) typed
-StageIsHeard address (Once first) Unseen heard typed = (other : ℕ) × (other ≢ first) × WasRead other heard
 StageIsHeard address (Turned old) (Returned old' turned) heard typed = (old' ≡ old) × WasRead turned heard × EndsWith (deposits address (complement old)) typed
 StageIsHeard address before after heard typed = after ≡ before
 
--- a word counts as tested with what was known of it, and what was just read, where the last keys deposited what it held and opened it again
+-- a word counts as tested with what was known of it, and what was just read, where the last keys deposited what it held and opened it again;
+-- and as unsteady with what one look read, and another number that was just read, where the last keys opened it
 abbrev pub WordIsHeard : ℕ → Stage → Seen → List Heard → List ℕ → Type 0
-WordIsHeard address (Returned old turned) word heard typed =
-    (word.old ≡ old) × (word.turned ≡ turned) × WasRead word.back heard × EndsWith (deposits address old) typed
+WordIsHeard address (Returned old turned) (Tested r) heard typed =
+    (r.old ≡ old) × (r.turned ≡ turned) × WasRead r.back heard × EndsWith (deposits address old) typed
+WordIsHeard address (Once before) (Unsteady first second) heard typed =
+    (first ≡ before) × (second ≢ first) × WasRead second heard × EndsWith (opens address) typed
 WordIsHeard address stage word heard typed = ⊥
 
--- a word counts as tested with these readings, and nothing is known of the next
+-- a word counts with these readings, and nothing is known of the next
 pub record IsOneMore (before after : Tester) (heard : List Heard) (typed : List ℕ) : Type 0 where
   pub word : Seen
   pub seen : after.seen ≡ before.seen ++ word ∷ []
   pub read : WordIsHeard (address_under_way before) before.stage word heard typed
   pub stage : after.stage ≡ Unseen
 
--- what the last thing heard makes known of the word under way was read with it, behind these keys; and a word more counts as tested only with
--- the three numbers that were read of it
+-- what the last thing heard makes known of the word under way was read with it, behind these keys; and a word more counts only with
+-- the numbers that were read of it
 pub record TellsOnlyHeard (before after : Tester) (heard : List Heard) (typed : List ℕ) : Type 0 where
   pub stage : after.seen ≡ before.seen → StageIsHeard (address_under_way before) before.stage after.stage heard typed
   pub word : after.seen ≢ before.seen → IsOneMore before after heard typed

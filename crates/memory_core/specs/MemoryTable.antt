@@ -23,10 +23,11 @@ use Rattle.memory_core.specs.declared.phase.Phase.{Phase}
 use Rattle.memory_core.specs.declared.phase.Phase.TheVariants.{Settle, Sync, Address, Slash, Before, Value, Deposit, Return, Close, Ended}
 use Rattle.memory_core.specs.declared.phase.End.TheVariants.{Complete, GaveUp, NoWord}
 use Rattle.memory_core.specs.declared.seen.Seen.{Seen}
+use Rattle.memory_core.specs.declared.seen.Seen.TheVariants.{Unsteady, Tested}
 use Rattle.memory_core.specs.declared.stage.Stage.{Stage}
 use Rattle.memory_core.specs.declared.stage.Stage.TheVariants.{Unseen, Once, Turned, Returned}
 use Rattle.memory_core.specs.declared.turn.Turn.{Turn}
-use Rattle.memory_core.specs.declared.turn.Turn.TheVariants.{Listen, Key, LooksAgain, Differs, Deposits, Tested, ReadBack, Next, Stop, Stray, Timeout}
+use Rattle.memory_core.specs.declared.turn.Turn.TheVariants.{Listen, Key, LooksAgain, Deposits, Counts, ReadBack, Next, Stop, Stray, Timeout}
 
 -- Sync: behind the answer to `Z` comes the word under way, from its address on
 abbrev pub synced : Reply → Turn
@@ -44,9 +45,9 @@ addressed visit place NoEcho = Stray
 abbrev pub slash_hears : Visit → ℕ → Turn
 slash_hears visit c = if c == slash then Listen (Before visit) else Stray
 
--- two looks at the word: where they read alike, this is what it holds, and the complement is typed into it
+-- two looks at the word: where they read alike, this is what it holds, and the complement is typed into it; else it is a bad word
 abbrev pub second_look : ℕ → ℕ → Turn
-second_look first second = if second == first then Deposits (Turned second) else Differs
+second_look first second = if second == first then Deposits (Turned second) else Counts (Unsteady first second)
 
 -- a whole reading of the word under way
 abbrev pub read : Stage → Visit → ℕ → Turn
@@ -56,7 +57,7 @@ read (Once first) visit value = second_look first value
 -- behind the deposit of the complement this is what it reads as, right or wrong: what it held is typed into it again
 read (Turned old) Check value = Deposits (Returned old value)
 -- behind the deposit of that this is what it reads as, right or wrong: that was all
-read (Returned old turned) Check value = Tested (record { old = old; turned = turned; back = value })
+read (Returned old turned) Check value = Counts (Tested (record { old = old; turned = turned; back = value }))
 -- behind a mishap the number that was to be deposited is typed once more, whatever the word holds
 read (Turned old) Look value = Deposits (Turned old)
 read (Returned old turned) Look value = Deposits (Returned old turned)
@@ -124,17 +125,13 @@ next_word t =
     if nat_lt (length t.seen) (length t.addresses) then sends t (digit_of (address_under_way t) 1) (Address Look 1)
     else listens t (Ended Complete)
 
--- what a turn of the table does to the tester: a mishap is a character that the phase doesn't list, a quiet time, or a second look
--- that read another number than the first
+-- what a turn of the table does to the tester: a mishap is a character that the phase doesn't list, or a quiet time
 abbrev pub taken : Tester → Turn → TesterStep
 taken t (Listen phase) = listens t phase
 taken t (Key key phase) = sends t key phase
 taken t (LooksAgain first) = sends (record t { stage = Once first }) carriage_return (Close 0)
-taken t Differs =
-    if nat_lt t.spent t.patience then listens (record t { spent = t.spent + 1; stage = Unseen }) Settle
-    else listens t (Ended GaveUp)
 taken t (Deposits stage) = sends (record t { stage = stage }) (digit_of (number_of stage) 1) (Deposit 1)
-taken t (Tested word) = sends (record t { seen = t.seen ++ word ∷ []; stage = Unseen }) carriage_return (Close 0)
+taken t (Counts word) = sends (record t { seen = t.seen ++ word ∷ []; stage = Unseen }) carriage_return (Close 0)
 taken t ReadBack = sends t (digit_of (address_under_way t) 1) (Address Check 1)
 taken t Next = next_word t
 taken t (Stop end) = listens t (Ended end)
@@ -147,13 +144,13 @@ taken t Timeout =
 
 -- what was read so far, after a turn
 abbrev pub seen_after : List Seen → Turn → List Seen
-seen_after seen (Tested word) = seen ++ word ∷ []
+seen_after seen (Counts word) = seen ++ word ∷ []
 seen_after seen _ = seen
 
--- whether a turn ends the test of a word
-abbrev pub is_tested : Turn → Bool
-is_tested (Tested word) = true
-is_tested _ = false
+-- whether a word counts with a turn
+abbrev pub counts : Turn → Bool
+counts (Counts word) = true
+counts _ = false
 
 -- the turn that the table gives for a tester
 abbrev pub turn_of : Tester → Heard → Turn

@@ -20,5 +20,5 @@ mod turn;
 
 pub use memory::MemoryCore;
 pub use phase::{End, Phase, Visit};
-pub use seen::Seen;
+pub use seen::{Readings, Seen};
 pub use stage::{Borrowed, Stage};

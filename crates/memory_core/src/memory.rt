@@ -5,7 +5,7 @@ ghost use Rattle.memory_core.specs.Addresses.{every_address};
 ghost use Rattle.memory_core.specs.Bound.{testing_bound};
 ghost use Rattle.memory_core.specs.Invariant.{IsTester, HasWord, basis_of};
 ghost use Rattle.memory_core.specs.Laws.{KeepsBound, ReportsOnlyHeard, TypesOnlyTesting};
-ghost use Rattle.memory_core.specs.MemoryTable.{KeyTests, ask, is_tested, next_word, seen_after, taken, turn_of};
+ghost use Rattle.memory_core.specs.MemoryTable.{KeyTests, ask, counts, next_word, seen_after, taken, turn_of};
 ghost use Rattle.memory_core.specs.Tester.{address_under_way, begun, borrowed, ended, tester_of};
 
 use crate::life::{LifeState, TesterStep};
@@ -230,21 +230,17 @@ impl MemoryCore {
             Turn::Deposits(stage) => life
                 .with_stage(stage)
                 .sends(digit(stage.number(), 1), Phase::Deposit(1)),
-            Turn::Tested(_) => life
+            Turn::Counts(_) => life
                 .with_stage(Stage::Unseen)
                 .sends(CARRIAGE_RETURN, Phase::Close(0)),
             Turn::ReadBack => life.sends(digit(self.address(), 1), Phase::Address(Visit::Check, 1)),
             Turn::Next => self.next_word(),
             Turn::Stop(end) => life.listens(Phase::Ended(end)),
             Turn::Stray if life.spent < self.patience => life.with_mishap().listens(Phase::Settle),
-            Turn::Differs if life.spent < self.patience => life
-                .with_mishap()
-                .with_stage(Stage::Unseen)
-                .listens(Phase::Settle),
             Turn::Timeout if life.spent < self.patience => life
                 .with_mishap()
                 .sends(RESYNCHRONISE, Phase::Sync(0)),
-            Turn::Stray | Turn::Timeout | Turn::Differs => life.listens(Phase::Ended(End::GaveUp)),
+            Turn::Stray | Turn::Timeout => life.listens(Phase::Ended(End::GaveUp)),
         }
     }
 
@@ -263,13 +259,13 @@ impl MemoryCore {
     }
 }
 
-// Notes what a turn read of a word that is tested with it: there is room for it.
+// Notes what a turn read of a word that counts with it: there is room for it.
 fn note(seen: &mut Vec<Seen>, turn: Turn)
-    requires { is_tested turn ≡ true → length seen.old.items < vec_capacity seen.old }
+    requires { counts turn ≡ true → length seen.old.items < vec_capacity seen.old }
     ensures items { seen.new.items ≡ seen_after seen.old.items turn }
     ensures room { vec_capacity seen.old ≤ vec_capacity seen.new }
 {
-    if let Turn::Tested(word) = turn {
+    if let Turn::Counts(word) = turn {
         let _ = seen.push(word);
     }
 }

@@ -4,7 +4,7 @@ ghost use Rattle.std.specs.Prelude.{◌≡◌, ◌≤◌};
 ghost use Rattle.memory_core.specs.MemoryTable.{addressed, closed, deposited, read, reads, returned, second_look, slash_hears, synced, waits};
 
 use crate::phase::{End, Phase, Visit};
-use crate::seen::Seen;
+use crate::seen::{Readings, Seen};
 use crate::stage::Stage;
 use crate::turn::Turn;
 use host_core::answers::{Echo, Reading, Reply};
@@ -65,11 +65,11 @@ fn whole_reading(stage: Stage, visit: Visit, value: u16) -> Turn
         (Stage::Unseen, _) => Turn::LooksAgain(value),
         (Stage::Once(first), _) => second_look(first, value),
         (Stage::Turned(old), Visit::Check) => Turn::Deposits(Stage::Returned(old, value)),
-        (Stage::Returned(old, turned), Visit::Check) => Turn::Tested(Seen {
+        (Stage::Returned(old, turned), Visit::Check) => Turn::Counts(Seen::Tested(Readings {
             old,
             turned,
             back: value,
-        }),
+        })),
         (_, Visit::Look) => Turn::Deposits(stage),
     }
 }
@@ -81,7 +81,7 @@ fn second_look(first: u16, second: u16) -> Turn
     if second == first {
         Turn::Deposits(Stage::Turned(second))
     } else {
-        Turn::Differs
+        Turn::Counts(Seen::Unsteady(first, second))
     }
 }
 

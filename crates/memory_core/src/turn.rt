@@ -14,14 +14,11 @@ pub enum Turn {
     /// One look at the word read this number: it is closed as it is, and looked at again.
     LooksAgain(u16),
 
-    /// The second look read another number than the first: a mishap, behind which both are made anew.
-    Differs,
-
     /// The word is open and this is known of it now: the stage's number is typed into it.
     Deposits(Stage),
 
-    /// The word is open and this was read of it: it counts as tested, and is closed.
-    Tested(Seen),
+    /// The word is open and this was read of it: it counts, and is closed.
+    Counts(Seen),
 
     /// At the prompt after a deposit: the word under way is read back.
     ReadBack,

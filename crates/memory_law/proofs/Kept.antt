@@ -31,10 +31,12 @@ use Rattle.honest_line.proofs.Leading.{hearing, waiting}
 use Rattle.honest_line.proofs.Passings.{passing_said}
 use Rattle.looking_law.proofs.Saying.{plan_for, words_for, word_for, merged_for}
 use Rattle.memory_core.specs.declared.phase.Phase.TheVariants.{Value}
+use Rattle.memory_core.specs.declared.seen.Readings.{Readings}
 use Rattle.memory_core.specs.declared.seen.Seen.{Seen}
+use Rattle.memory_core.specs.declared.seen.Seen.TheVariants.{Unsteady, Tested}
 use Rattle.memory_core.specs.declared.stage.Stage.{Stage}
 use Rattle.memory_core.specs.declared.stage.Stage.TheVariants.{Unseen, Once, Turned, Returned}
-use Rattle.memory_core.specs.declared.turn.Turn.TheVariants.{LooksAgain, Differs, Deposits, Tested}
+use Rattle.memory_core.specs.declared.turn.Turn.TheVariants.{LooksAgain, Deposits, Counts}
 use Rattle.memory_core.specs.Invariant.{IsTester, PhaseFits, VisitFits, basis_of}
 use Rattle.memory_core.specs.Laws.{led}
 use Rattle.memory_core.specs.MemoryTable.{TesterStep, ask, taken, turn_of, read, second_look}
@@ -348,10 +350,10 @@ more_words_true memory addresses seen word before new i other low = elim (same_o
 
 -- the word is done
 tested_kept : (memory : List ℕ) (t : Tester) (x : Wire) (visit : Visit) (value : ℕ) (rest : List ℕ) (word : Seen) → (k : IsKeptTest memory t x) → AtHand memory t x visit value rest →
-    IsTester (taken t (Tested word)).next → x.machine.memory ≡ memory → IsTrueOf memory (address_under_way t) word →
-    IsKeptTest memory (taken t (Tested word)).next (sent (heard x rest) (13 ∷ []))
+    IsTester (taken t (Counts word)).next → x.machine.memory ≡ memory → IsTrueOf memory (address_under_way t) word →
+    IsKeptTest memory (taken t (Counts word)).next (sent (heard x rest) (13 ∷ []))
 tested_kept memory t x visit value rest word k hand tester back true_of =
-    let next : Tester = (taken t (Tested word)).next in
+    let next : Tester = (taken t (Counts word)).next in
     let patience : ℕ = t.patience - t.spent in
     let new : IsKept (scene x.machine (at_word (plan_for memory (ahead next)) patience 0 1 (LoadReturn Closes 0)) (13 ∷ []) [] 0) =
     close_kept x.machine memory (ahead next) (address_under_way t) patience k.kept.machine k.wide (ahead_asked next tester.asked) (omega (arith, k.tester.long)) hand.read.mode in
@@ -415,7 +417,7 @@ looks_alike first value alike = here (value == first) (same value first alike)
     same : (value first : ℕ) → value ≡ first → (value == first) ≡ true
     same value first alike = grind (arith, nat_tests)
 
-    here : (test : Bool) → test ≡ true → (if test then Deposits (Turned value) else Differs) ≡ Deposits (Turned value)
+    here : (test : Bool) → test ≡ true → (if test then Deposits (Turned value) else Counts (Unsteady first value)) ≡ Deposits (Turned value)
     here true e = refl
     here false e = absurd (cc e)
 
@@ -440,8 +442,9 @@ read_kept memory t x Look value rest (Returned old turned) is k hand fits at che
 read_kept memory t x Check value rest (Returned old turned) is k hand fits at checked tester =
     let a : ℕ = address_under_way t in
     let holds : old ≡ word_at x.machine.memory a = sym (stored_there memory a old hand.there) ∙ checked refl in
-    tested_kept memory t x Check value rest (record { old = old; turned = turned; back = value }) k hand tester (put_back memory a old x.machine.memory at.0 holds)
-    record { lies = hand.there; old = at.0.held; held = record { turned = at.1; back = hand.read.holds ∙ sym holds } }
+    let readings : Readings = record { old = old; turned = turned; back = value } in
+    tested_kept memory t x Check value rest (Tested readings) k hand tester (put_back memory a old x.machine.memory at.0 holds)
+    record { lies = hand.there; readings = readings; tested = refl; old = at.0.held; held = record { turned = at.1; back = hand.read.holds ∙ sym holds } }
 
 whole_hearing : (memory : List ℕ) (t : Tester) (x : Wire) (c : ℕ) (rest : List ℕ) → x.up ≡ c ∷ rest → IsKeptTest memory t x → IsWhole t c →
     IsKeptTest memory (ask t (Got c)).next (sent (heard x rest) (option_to_list (ask t (Got c)).key))

@@ -32,9 +32,10 @@ use Rattle.memory_core.specs.declared.phase.Phase.TheVariants.{Settle, Sync, Add
 use Rattle.memory_core.specs.declared.phase.End.{End}
 use Rattle.memory_core.specs.declared.phase.End.TheVariants.{Complete, GaveUp, NoWord}
 use Rattle.memory_core.specs.declared.stage.Stage.{Stage}
+use Rattle.memory_core.specs.declared.seen.Seen.TheVariants.{Unsteady}
 use Rattle.memory_core.specs.declared.stage.Stage.TheVariants.{Unseen, Once, Turned, Returned}
 use Rattle.memory_core.specs.declared.turn.Turn.{Turn}
-use Rattle.memory_core.specs.declared.turn.Turn.TheVariants.{Listen, Key, LooksAgain, Differs, Deposits, Tested, ReadBack, Next, Stop, Stray, Timeout}
+use Rattle.memory_core.specs.declared.turn.Turn.TheVariants.{Listen, Key, LooksAgain, Deposits, Counts, ReadBack, Next, Stop, Stray, Timeout}
 use Rattle.memory_core.specs.MemoryTable.{TesterStep, ask, taken, turn_of, hears, waits, sends, listens, synced, addressed, read, reads, deposited, returned, closed}
 use Rattle.memory_core.specs.Stage.{number_of}
 use Rattle.memory_core.specs.Tester.{Tester, address_under_way}
@@ -98,9 +99,8 @@ abbrev Agrees : Stage → Turn → LoadTurn → Type 0
 Agrees stage (Listen phase) turn = turn ≡ LoadListen (phase_for stage phase)
 Agrees stage (Key key phase) turn = turn ≡ LoadKey key (phase_for stage phase)
 Agrees stage (LooksAgain first) turn = Unit {0}
-Agrees stage Differs turn = Unit {0}
 Agrees stage (Deposits next) turn = Unit {0}
-Agrees stage (Tested word) turn = Unit {0}
+Agrees stage (Counts word) turn = Unit {0}
 Agrees stage ReadBack turn = turn ≡ LoadRevisit (LoadCheck Only (number_of stage))
 Agrees stage Next turn = turn ≡ LoadNext
 Agrees stage (Stop end) turn = turn ≡ LoadStop (end_for end)
@@ -117,7 +117,7 @@ address_agrees stage address visit place c =
 read_agrees : (stage : Stage) (visit : Visit) (value : ℕ) (turn : LoadTurn) → Agrees stage (read stage visit value) turn
 read_agrees Unseen Look value turn = tt
 read_agrees Unseen Check value turn = tt
-read_agrees (Once first) visit value turn = on_test (λ v. Agrees (Once first) (if v then Deposits (Turned value) else Differs) turn) (value == first) (λ _. tt) (λ _. tt)
+read_agrees (Once first) visit value turn = on_test (λ v. Agrees (Once first) (if v then Deposits (Turned value) else Counts (Unsteady first value)) turn) (value == first) (λ _. tt) (λ _. tt)
 read_agrees (Turned old) Look value turn = tt
 read_agrees (Turned old) Check value turn = tt
 read_agrees (Returned old turned) Look value turn = tt
@@ -180,9 +180,8 @@ turn_agrees memory t a Quiet = waits_agree t.stage t.phase
 -- a turn that the loading host takes as well
 abbrev pub IsPlain : Turn → Type 0
 IsPlain (LooksAgain first) = ⊥
-IsPlain Differs = ⊥
 IsPlain (Deposits next) = ⊥
-IsPlain (Tested word) = ⊥
+IsPlain (Counts word) = ⊥
 IsPlain turn = Unit {0}
 
 -- after its step the loading host is the one for the tester after its own, and both send the same
@@ -219,9 +218,8 @@ taken_follows memory t a (Key key phase) load plain agrees same =
     subst (λ l. Follows memory t a (load_taken (core_for memory t a) l) (taken t (Key key phase))) (sym agrees)
     record { account = more_sent a; next = refl; key = refl; lost = refl; patience = refl; spent = refl; stage = refl; seen = refl }
 taken_follows memory t a (LooksAgain first) load plain agrees same = absurd plain
-taken_follows memory t a Differs load plain agrees same = absurd plain
 taken_follows memory t a (Deposits next) load plain agrees same = absurd plain
-taken_follows memory t a (Tested word) load plain agrees same = absurd plain
+taken_follows memory t a (Counts word) load plain agrees same = absurd plain
 taken_follows memory t a ReadBack load plain agrees same =
     subst (λ l. Follows memory t a (load_taken (core_for memory t a) l) (taken t ReadBack)) (sym agrees)
     record { account = more_sent a; next = refl; key = ap (λ address. Some (digit_of address 1)) (under_way (given memory (address_under_way t) t.stage) t); lost = refl; patience = refl; spent = refl; stage = refl; seen = refl }

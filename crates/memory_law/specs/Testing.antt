@@ -15,12 +15,14 @@ use Rattle.memory_core.specs.declared.phase.Phase.{Phase}
 use Rattle.memory_core.specs.declared.phase.Phase.TheVariants.{Ended}
 use Rattle.memory_core.specs.declared.phase.End.{End}
 use Rattle.memory_core.specs.declared.phase.End.TheVariants.{GaveUp, NoWord}
+use Rattle.memory_core.specs.declared.seen.Readings.{Readings}
 use Rattle.memory_core.specs.declared.seen.Seen.{Seen}
+use Rattle.memory_core.specs.declared.seen.Seen.TheVariants.{Tested}
 use Rattle.memory_core.specs.declared.stage.Borrowed.{Borrowed}
 use Rattle.memory_core.specs.Invariant.{IsTester}
 use Rattle.memory_core.specs.Laws.{led}
 use Rattle.memory_core.specs.MemoryTable.{ask}
-use Rattle.memory_core.specs.Seen.{Holds}
+use Rattle.memory_core.specs.Seen.{HeldBoth}
 use Rattle.memory_core.specs.Tester.{Tester, begun, borrowed}
 
 -- each heard thing, and right after it the key that it makes the host send
@@ -40,11 +42,13 @@ IsAsItWas before None now = now ≡ before
 IsAsItWas before (Some word) now =
     (is_word before word.address ≡ true) × (word.old ≡ word_at before word.address) × (number : ℕ) × (now ≡ stored before word.address number)
 
--- memory has a word at the address, it held what it was given, and what it is said to have held is what memory holds there
+-- memory has a word at the address, it was tested and held what it was given, and what it is said to have held is what memory holds there
 pub record IsTrueOf (memory : List ℕ) (address : ℕ) (word : Seen) : Type 0 where
   pub lies : is_word memory address ≡ true
-  pub old : word.old ≡ word_at memory address
-  pub held : Holds word
+  pub readings : Readings
+  pub tested : word ≡ Tested readings
+  pub old : readings.old ≡ word_at memory address
+  pub held : HeldBoth readings
 
 -- an end has its cause: it gives up after more losses than the patience, and finds no word past the memory alone
 abbrev pub EndIsPaid : End → List ℕ → (patience lost : ℕ) → Type 0

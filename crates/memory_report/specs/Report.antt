@@ -5,6 +5,9 @@ use Rattle.std.specs.List.{filter, flat_map}
 use Rattle.octal.specs.Octal.{octal_text}
 use Rattle.byte_io.specs.Text.{line}
 use Rattle.engine.specs.Stopping.{cut_name}
+use Rattle.memory_core.specs.declared.seen.Readings.{Readings}
+use Rattle.memory_core.specs.declared.seen.Seen.{Seen}
+use Rattle.memory_core.specs.declared.seen.Seen.TheVariants as seen
 use Rattle.memory_core.specs.declared.stage.Borrowed.{Borrowed}
 use Rattle.memory_core.specs.Stage.{complement}
 use Rattle.memory_report.specs.declared.findings.Findings.{Findings}
@@ -72,10 +75,20 @@ abbrev pub reads_text : ℕ → ℕ → List ℕ
 reads_text deposited read = octal_text deposited ++ codes " reads " ++ octal_text read
 
 -- what a word held, and what it reads behind each number that was deposited
+abbrev pub numbers_text : Readings → List ℕ
+numbers_text r = codes " held " ++ octal_text r.old ++ codes "; " ++ reads_text (complement r.old) r.turned ++ codes ", " ++ reads_text r.old r.back
+
+-- what two looks read, where they differ
+abbrev pub looks_text : ℕ → ℕ → List ℕ
+looks_text first second = codes " reads " ++ octal_text first ++ codes ", then " ++ octal_text second
+
+-- what was read of it
+abbrev pub readings_text : Seen → List ℕ
+readings_text (seen.Unsteady first second) = looks_text first second
+readings_text (seen.Tested readings) = numbers_text readings
+
 abbrev pub word_text : Word → List ℕ
-word_text word =
-    octal_text word.address ++ codes " held " ++ octal_text word.seen.old ++ codes "; "
-    ++ reads_text (complement word.seen.old) word.seen.turned ++ codes ", " ++ reads_text word.seen.old word.seen.back ++ line []
+word_text word = octal_text word.address ++ readings_text word.seen ++ line []
 
 -- one of them, where fewer than eight are shown
 abbrev pub shown_text : ℕ → Word → List ℕ

@@ -1,14 +1,20 @@
 -- What was seen of tested words, bank by bank (this project's own).
-use Rattle.std.specs.Prelude.{ℕ, ◌/◌, Bool, ◌==◌, ◌&&◌, not, if◌then◌else◌, List, Option, Some, None, length}
+use Rattle.std.specs.Prelude.{ℕ, ◌/◌, Bool, true, ◌==◌, ◌&&◌, not, if◌then◌else◌, List, Option, Some, None, length}
 use Rattle.std.specs.List.{filter, fold}
 use Rattle.memory_core.specs.Stage.{complement}
+use Rattle.memory_core.specs.declared.seen.Seen.{Seen}
+use Rattle.memory_core.specs.declared.seen.Seen.TheVariants.{Unsteady, Tested}
 use Rattle.memory_report.specs.declared.findings.Word.{Word}
 use Rattle.memory_report.specs.declared.verdict.Verdict.{Verdict}
 use Rattle.memory_report.specs.Verdict.{and_then, verdict}
 
--- the word did not hold both numbers that it was given
+-- the word did not hold both numbers that it was given, or its looks read two
+abbrev pub fails : Seen → Bool
+fails (Unsteady first second) = true
+fails (Tested r) = not (r.turned == complement r.old && r.back == r.old)
+
 abbrev pub is_bad : Word → Bool
-is_bad word = not (word.seen.turned == complement word.seen.old && word.seen.back == word.seen.old)
+is_bad word = fails word.seen
 
 -- a bank has 4,096 words
 abbrev pub bank_of : ℕ → ℕ
@@ -17,10 +23,11 @@ bank_of address = address / 0o20000
 abbrev pub is_in : ℕ → Word → Bool
 is_in bank word = bank_of word.address == bank
 
--- what was seen of a bit, once it was seen in one word more
-abbrev pub seen_also : Option Verdict → Verdict → Option Verdict
-seen_also None next = Some next
-seen_also (Some earlier) next = Some (and_then earlier next)
+-- what was seen of a bit, once it was seen in one word more, which may say nothing of it
+abbrev pub seen_also : Option Verdict → Option Verdict → Option Verdict
+seen_also None next = next
+seen_also (Some earlier) None = Some earlier
+seen_also (Some earlier) (Some next) = Some (and_then earlier next)
 
 -- words of other banks say nothing of this one
 abbrev pub join : ℕ → ℕ → Option Verdict → Word → Option Verdict

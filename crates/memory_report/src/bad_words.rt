@@ -1,13 +1,13 @@
 //! The words that do not hold.
 ghost use Rattle.std.specs.Prelude.{◌≡◌, ◌+◌, ◌*◌, ◌≤◌, ◌++◌, length};
 ghost use Rattle.arrayvec.specs.ArrayVec.{array_vec_len};
-ghost use Rattle.memory_report.specs.Report.{bad_words_text, count_lines, more_lines, reads_text, shown_also, shown_text, word_text, words_text};
+ghost use Rattle.memory_report.specs.Report.{bad_words_text, count_lines, looks_text, more_lines, numbers_text, readings_text, reads_text, shown_also, shown_text, word_text, words_text};
 
 use crate::bank::count_bad;
 use crate::findings::Word;
 use crate::report::Report;
 use byte_io::{push_bytes, push_decimal, push_octal};
-use memory_core::Seen;
+use memory_core::{Readings, Seen};
 
 // How many of them are shown.
 const SHOWN: u64 = 8;
@@ -51,21 +51,54 @@ fn push_if_bad(text: &mut Report, word: Word, shown: u64) -> u64
     }
 }
 
-// Puts what a word held and what it reads.
+// Puts a word and what was read of it.
 fn push_word(text: &mut Report, word: Word)
     requires room { array_vec_len text.old ≤ 1700 }
     ensures items { text.new.items ≡ text.old.items ++ word_text word }
-    ensures length { array_vec_len text.new ≡ array_vec_len text.old + 61 }
+    ensures length { array_vec_len text.new ≤ array_vec_len text.old + 61 }
 {
-    let Seen { old, turned, back } = word.seen;
     push_octal(text, word.address);
+    push_readings(text, word.seen);
+    push_bytes(text, b"\n");
+}
+
+// Puts what was read of a word.
+fn push_readings(text: &mut Report, seen: Seen)
+    requires room { array_vec_len text.old ≤ 1710 }
+    ensures items { text.new.items ≡ text.old.items ++ readings_text seen }
+    ensures length { array_vec_len text.new ≤ array_vec_len text.old + 54 }
+{
+    match seen {
+        Seen::Unsteady(first, second) => push_looks(text, first, second),
+        Seen::Tested(readings) => push_numbers(text, readings),
+    }
+}
+
+// Puts what two looks read, which differ.
+fn push_looks(text: &mut Report, first: u16, second: u16)
+    requires room { array_vec_len text.old ≤ 1710 }
+    ensures items { text.new.items ≡ text.old.items ++ looks_text first second }
+    ensures length { array_vec_len text.new ≡ array_vec_len text.old + 26 }
+{
+    push_bytes(text, b" reads ");
+    push_octal(text, first);
+    push_bytes(text, b", then ");
+    push_octal(text, second);
+}
+
+// Puts what a word held and what it reads.
+fn push_numbers(text: &mut Report, readings: Readings)
+    requires room { array_vec_len text.old ≤ 1710 }
+    ensures items { text.new.items ≡ text.old.items ++ numbers_text readings }
+    ensures length { array_vec_len text.new ≡ array_vec_len text.old + 54 }
+{
+    let Readings { old, turned, back } = readings;
     push_bytes(text, b" held ");
     push_octal(text, old);
     push_bytes(text, b"; ");
     push_reads(text, u16::MAX.saturating_sub(old), turned);
     push_bytes(text, b", ");
     push_reads(text, old, back);
-    push_bytes(text, b"\n");
 }
 
 // Puts what a word reads as, behind what was deposited in it.

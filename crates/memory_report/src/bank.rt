@@ -35,10 +35,10 @@ fn join(seen: Option<Verdict>, word: Word, bank: u16, bit: u8) -> Option<Verdict
     if bank_of(word.address) != bank {
         return seen;
     }
-    let verdict = Verdict::of(word.seen, bit);
-    match seen {
-        Some(earlier) => Some(earlier.and_then(verdict)),
-        None => Some(verdict),
+    match (seen, Verdict::of(word.seen, bit)) {
+        (Some(earlier), Some(verdict)) => Some(earlier.and_then(verdict)),
+        (None, verdict) => verdict,
+        (Some(earlier), None) => Some(earlier),
     }
 }
 

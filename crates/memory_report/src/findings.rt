@@ -6,9 +6,9 @@ ghost use Rattle.memory_report.specs.Words.{all_hold, is_bad};
 use crate::bank::count_bad;
 use crate::bus_text::count_same;
 use crate::test_end::TestEnd;
-use memory_core::{Borrowed, Seen};
+use memory_core::{Borrowed, Readings, Seen};
 
-/// A word that was tested.
+/// A word that was tested, or that read differently with nothing deposited.
 #[derive(Clone, Copy, Debug, PartialEq, Eq)]
 pub struct Word {
     /// Its address.
@@ -23,8 +23,12 @@ impl Word {
     pub fn is_bad(self) -> bool
         ensures { result ≡ is_bad self }
     {
-        let Seen { old, turned, back } = self.seen;
-        turned != u16::MAX.saturating_sub(old) || back != old
+        match self.seen {
+            Seen::Unsteady(_, _) => true,
+            Seen::Tested(Readings { old, turned, back }) => {
+                turned != u16::MAX.saturating_sub(old) || back != old
+            }
+        }
     }
 }
 
@@ -57,7 +61,7 @@ pub struct Findings {
     /// The last one, not below the first.
     pub to: u16,
 
-    /// The words that were tested, in the order of their addresses.
+    /// The words that count, in the order of their addresses.
     pub words: Vec<Word>,
 
     /// The addresses at which nothing answered: at each of them the rest of its bank was left out.

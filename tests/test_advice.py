@@ -138,6 +138,14 @@ class Advice(Told):
         self.assertIn("with another --record FILE the load begins anew\n", shown)
         self.is_so(self.load(peer, "first.lda --record b.record").status, 0)
 
+    def test_a_record_of_a_program_that_may_be_running(self):
+        """It does not suit where no start is wanted: nobody is told to load once more."""
+        self.put("first.lda", bytes_of(FIRST))
+        peer = self.console_at(Console())
+        self.is_so(self.load(peer, "first.lda --record a.record").status, 0)
+        shown = self.shown(f"load first.lda {peer.address} --record a.record --no-start")
+        self.is_so(shown.splitlines()[1:], ["it says that a program was about to be started: look at the machine first, it may run"])
+
 
 class Following(Told):
     """What stands behind a tape in its file: a terminal is told, and nobody else."""

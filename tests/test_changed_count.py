@@ -1,6 +1,7 @@
 """How many characters came changed, or not from ODT: a line on standard error, behind all else of a load, a look or a probe, a field of
 its log, and a line of a probe's report. Only characters count that no loss explains, so that a line which loses, or changes nothing, has none.
 """
+import os
 import random
 import re
 import unittest
@@ -130,6 +131,18 @@ class Counts(Case):
                     given = self.ldaodt(self.words_at(line, words.replace(".lda", f"{count}.lda") if "save" in words else words))
                     wanted = (status, end) if count else (0, end.replace("Changed", "Same" if "verify" in words else "Saved"))
                     self.is_so((given.status, given.out.split("\n")[1], given.err), (*wanted, came_changed(count)))
+
+    def test_what_a_terminal_is_told(self):
+        """How to be sure, and what of it must not be gone on with."""
+        careful, once, part = "the same line with --careful decides", "again without --once", "remove the .part file, and again without --once"
+        for words, told in (("verify first.lda LINE", careful), ("save a.lda LINE 1000 1000 --once", once), ("save b.lda LINE 1000 1774 --once", once),
+                            ("save c.lda LINE 1000 2000 --once", part)):
+            with self.subTest(words):
+                line = self.console_at(ChangingOften(1, memory={0o1000: 0o11064}))
+                given, shown = self.at_a_terminal(lambda it: self.ldaodt(self.words_at(line, words), stderr=it))
+                last = f"\x1b[K{told}\n{came_changed(1)}".replace("\n", "\r\n")
+                self.is_so((given.status, given.out.split("\n")[1], shown[-len(last):]), (5, "end Changed", last))
+                self.is_so(os.path.exists(self.path("c.lda.part")), told == part)
 
     def test_probes(self):
         """In the report, too: in the line before its end, and only where there is one to tell."""

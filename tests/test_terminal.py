@@ -517,7 +517,7 @@ class Looks(Case):
         given, shown = self.look_at_a_terminal(DeafConsole(), "verify first.lda LINE --patience 2")
         self.is_so((given.status, given.out), (5, "sent 3 spent 2 looked 0 of 1 differ 0\nend GaveUp\n"))
         mishaps = "".join(SHOWN.format(f"0 of 1 words, 0%, {text}") for text in ("1 mishap", "2 mishaps"))
-        self.is_so(shown, LISTENING + NO_WORD + mishaps + CLEARED)
+        self.is_so(shown, LISTENING + NO_WORD + mishaps + CLEARED + ASK_PROBE)
 
 
 class Together(Case):

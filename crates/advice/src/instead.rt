@@ -63,20 +63,28 @@ pub fn say_instead<T: Print>(
     {
         let _ = terminal.write_all(text.as_bytes());
     }
-    if let Some(advice) = advice(failure, witness.front()) {
+    if let Some(advice) = advice(failure, witness) {
         let _ = terminal.write_all(advice.as_bytes());
     }
 }
 
-// What is told of a file with these first bytes that was refused so.
-fn advice(failure: Failure<'_>, front: Option<Front>) -> Option<&'static str> {
+// What is told of the file that was begun last and refused so.
+fn advice(failure: Failure<'_>, witness: &Witness) -> Option<&'static str> {
     match failure {
         Failure::TapeRefused(fault) | Failure::OneTapeRefused(_, fault) => {
-            advice_of_tape(fault, front)
+            advice_of_tape(fault, witness.front())
         }
-        Failure::WordsRefused(_) => advice_of_words(front?),
-        Failure::RecordRefused(RecordError::Foreign(_)) => Some(ANOTHER_RECORD),
+        Failure::WordsRefused(_) => advice_of_words(witness.front()?),
+        Failure::RecordRefused(RecordError::Foreign(_)) => Some(advice_of_record(witness.end())),
         _ => None,
+    }
+}
+
+// The same of a record, by its last bytes: one that has the mark is of a program that may be running.
+fn advice_of_record(end: Option<End>) -> &'static str {
+    match end {
+        Some(end) if end.ends_with(&MARK) => STARTED_RECORD,
+        _ => ANOTHER_RECORD,
     }
 }
 
@@ -137,6 +145,13 @@ fn missing_checksum(failure: Failure<'_>, end: Option<End>) -> Option<MissingChe
 
 // What is told of an empty tape.
 const EMPTY: &str = "the file is empty\n";
+
+// The line that a record ends with once its program was about to be started, behind the line before it.
+const MARK: [u8; 3] = *b"\nG\n";
+
+// What is told of a record that has it, and does not suit.
+const STARTED_RECORD: &str =
+    "it says that a program was about to be started: look at the machine first, it may run\n";
 
 // What is told of a record that is none of the tape's.
 const ANOTHER_RECORD: &str =

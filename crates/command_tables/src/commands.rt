@@ -36,7 +36,7 @@ Exit status:
      tape is there already, a record is another load's at the time, there was
      no connection, or the line failed
   5  a load, verify, save, probe or memory ended GaveUp, NoWord, WontHold,
-     Stale, TurnsOver, NoPrompt or NotTrusted
+     Stale, Changed, TurnsOver, NoPrompt or NotTrusted
   6  a load ended Uncertain or MaybeStarted: the program may be running
   7  no memory left
 Each fault but a refused command line is one line on standard error; another

@@ -103,9 +103,9 @@ The words from FROM to TO, both included, are looked at, each twice, since they
 may be the only copy, and written as one tape. A file that is there is never
 overwritten. Where memory ends before TO, the tape has the words below, and
 without any there is no file. Where it ends otherwise or is broken off,
-FILE.part keeps the words that were read, and the same line goes on behind
-them, once it has looked at 8 of them. Nothing is typed that changes memory or
-starts anything.
+FILE.part keeps each 256 words that were read, and the same line goes on behind
+them, once it has looked at 8 of them. Behind Changed remove it first. Nothing
+is typed that changes memory or starts anything.
 
 Exit status:
   0  the look ended Saved
@@ -152,10 +152,11 @@ const MEMORY: KnownCommand = KnownCommand {
 Each word is looked at twice, its complement is deposited and looked at, and
 what it held is put back and looked at. In the report a row is a bank of 4096
 words, and a column a bit of them, which is a chip: '.' held in every word, '0'
-or '1' reads so whatever is deposited, 'x' is bad in another way. The first 8
-words that do not hold are listed. Where each word of a range is tested, so is
-the bus: data lines that touch and addresses that are one word are told. Other
-tests may not show them.
+or '1' reads so whatever is deposited, 'x' is bad in another way, as where two
+looks read two numbers, and then nothing is deposited. The first 8 words that
+do not hold are listed. FROM wants TO. Where each word of a range is tested,
+so is the bus: data lines that touch and addresses that are one word are told.
+Other tests may not show them.
 
 Leave the console at its @ before, with no program running; none is started. At
 the first word it is tried, as by probe, whether the console forgets digits: if
@@ -167,8 +168,9 @@ Exit status:
   1  a word does not hold, data lines touch, or two addresses are one word
   4  the output could not be written, there was no connection, or the line
      failed
-  5  the test ended NotTrusted: the console stores digits; GaveUp: there was no
-     @, or there were too many mishaps; NoWord: memory has no word there; or
+  5  the test ended NotTrusted: the console stores digits, or the first word
+     reads now so, now so, and FROM should be another; GaveUp: there was no @,
+     or there were too many mishaps; NoWord: memory has no word there; or
      TurnsOver: the line never falls silent
 
 Example, one word of 64 in all memory, and every word of one bank:

@@ -82,7 +82,7 @@ const REHEARSE: KnownCommand = KnownCommand {
     arguments: &[TAPE, SCRIPT, MORE],
     help: "\
 A script says which character is delivered when, and which one is lost, a line
-for each. docs/SCRIPTS.md and the manual page ldaodt(1) describe its lines.
+for each. docs/SCRIPTS.md describes its lines.
 
 Exit status:
   0  the script was rehearsed, however the load ended

@@ -10,6 +10,7 @@ use crate::planning::plan_tapes;
 use crate::request_fault::RequestFault;
 use crate::system::{Kinds, System};
 use crate::watch::Watch;
+use advice::advise_verify;
 use console_lines::Dial;
 use endings::{Failure, FaultOutput, Output, Status, Streams};
 use machine_look::{VerifyOptions, verify};
@@ -67,6 +68,7 @@ pub(crate) fn verify_tapes<'a, K: Kinds, R: Read, W: Output, E: FaultOutput, T: 
         patience: look.patience,
     };
     let verified = verify(alloc, &plan, options, &mut consoles, dial, out, &shown);
+    advise_verify(shown.progress(), verified);
     let system = System::new(inputs, disk, consoles, clock);
     let outcome = match verified {
         Ok(end) => after_verify(end),

@@ -95,6 +95,9 @@ impl<T: DiskFile> DiskFile for WatchedFile<'_, T> {
             self.is_begun = true;
             self.witness.see_front(&buf[..count]);
         }
+        if let Ok(count) = answer {
+            self.witness.see_end(&buf[..count]);
+        }
         self.witness.of_read(answer)
     }
 

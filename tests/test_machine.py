@@ -462,6 +462,19 @@ class Machine(Case):
         self.is_so((told.returncode, told.stdout, told.stderr), (1, "", f"machine: {self.path('lsi11')} is there already, and is no link\n"))
         self.is_so(bytes_of(self.path("lsi11")), b"mine")
 
+    def test_a_name_that_cannot_be_made(self):
+        path = self.path("nowhere/lsi11")
+        told = subprocess.run([f"{TOP}/tools/machine", path], capture_output=True, text=True, timeout=60)
+        self.is_so((told.returncode, told.stdout, told.stderr), (1, "", f"machine: cannot make {path}: No such file or directory\n"))
+
+    def test_numbers_past_their_limits(self):
+        for words in ("--words -1", "--words 28673", "--loss 101", "--change -1", "--speed 0"):
+            told = subprocess.run([f"{TOP}/tools/machine", *words.split(), self.path("lsi11")], capture_output=True, text=True, timeout=60)
+            name, number = words.split()
+            self.is_so((told.returncode, told.stdout), (2, ""))
+            self.assertIn(f"argument {name}: {number} is not from ", told.stderr)
+            self.is_so(os.path.lexists(self.path("lsi11")), False)
+
     def test_a_link_that_leads_nowhere(self):
         """As a machine leaves it that was killed."""
         os.symlink("/dev/pts/nothing", self.path("lsi11"))

@@ -175,6 +175,19 @@ class Reasons(Case):
         self.is_so({it for it in cases if not re.search(rf"\b{it}\b", faults)}, set())
 
 
+class Edits(Case):
+    """The edits that the prover has to refuse, whichever of them the gate tries."""
+
+    def test_each_line_that_is_replaced_stands_once(self):
+        for folder in ("must-fail", "more-edits"):
+            for path in sorted(glob.glob(f"{TOP}/crates/*/{folder}/*.edit")):
+                lines = text_at(os.path.relpath(path, TOP)).splitlines()
+                file = text_at(f"{os.path.relpath(path, TOP).split(folder)[0]}{lines[0].removeprefix('file: ')}")
+                for line in lines:
+                    if line.startswith("old: "):
+                        self.is_so((path, file.count(line.removeprefix("old: "))), (path, 1))
+
+
 class Options(Case):
     """What README, help and the manual page say of each command's words and options."""
 
@@ -204,7 +217,7 @@ class Options(Case):
         found = {}
         for command, text in re.findall(r"^\.Cm (\w+)\n(.*?)(?=^\.Nm|\Z)", page, re.MULTILINE | re.DOTALL):
             options = re.findall(r"Fl -([\w-]+)(?: Ar (\w+))?", text)
-            words = re.findall(r"^\.(?:Ar|Op Ar) (\w+)", text, re.MULTILINE)
+            words = [word for line in re.findall(r"^\.(?:Op )?(Ar .*)", text, re.MULTILINE) for word in re.findall(r"Ar (\w+)", line)]
             found[command] = [it.upper() for it in words], {name: value.upper() for name, value in options}
         self.is_so(found, self.words_and_options())
 

@@ -257,6 +257,11 @@ def any_test(chance):
     return test._replace(faults=tuple(faults))
 
 
+def any_flicker(chance, test):
+    """A bit of one of its words that half of the looks read wrong."""
+    return word(chance.choice(test.tested()), chance.randrange(BITS), "x", *chance.sample(range(1, 2000), 1000))
+
+
 def any_bus(chance, test):
     """By chance a bad bus for a test of each word of a range, in memory that is good otherwise: the test, what its chips are besides, and what
     has to be said of the bus."""

@@ -53,8 +53,7 @@ LeaveAll own (LedTo name target ∷ more) = ⊥
 
 -- ---- room
 
--- a file is made, and held, and filled with bytes that take room, which is brought to the disk, as its name is; and it is opened once more, and still has
--- its name
+-- a file is made, held, filled with bytes that take room, and brought to the disk, as its name is; it is opened once more, and still has its name
 abbrev pub making : List ℕ → List ℕ → Option (List ℕ) → List DiskStep
 making own folder filled =
     Did (Open New own) ∷ Did (Hold own) ∷ Did (SyncFile filled) ∷ Did (SyncFolder folder) ∷ Did (Open ReadWrite own) ∷ Did (FindFile own filled) ∷ []
@@ -82,6 +81,10 @@ pub data IsNotReserved (name : List ℕ) : ShelfFault → List DiskStep → Type
 abbrev pub taking_left : List ℕ → Option (List ℕ) → List DiskStep
 taking_left own held =
     Did (FindSoleFile own) ∷ Did (Open ReadWrite own) ∷ Did (Hold own) ∷ Did (Open ReadOnly own) ∷ Did (Open ReadWrite own) ∷ Did (FindFile own held) ∷ []
+
+-- the same in a folder, which is opened for it, and synced then: so the file has its name on the disk
+abbrev pub resuming : List ℕ → List ℕ → Option (List ℕ) → List DiskStep
+resuming folder own held = Did (Open ReadOnly folder) ∷ (taking_left own held ++ Did (SyncFolder folder) ∷ [])
 
 -- it is not: something failed, or it can't be read; or it is none of such a save, or memory was wanting; or its folder is not synced. Each file is as it was
 abbrev pub IsUntaken : List ℕ → ShelfFault → List DiskStep → Type 0
@@ -128,21 +131,18 @@ pub record Place : Type 0 where
 abbrev pub syncing : Room → List DiskStep
 syncing room = Did (Cut room.written room.length) ∷ Did (SyncFile room.written) ∷ Did (FindFile room.name room.written) ∷ []
 
--- a file is given a second name, which no system does where something has it; where that can't be, it is renamed, once nothing was found to
--- have the name
+-- a file gets a second name, which no system gives where something has it; or else it is renamed, once nothing was found to have the name
 pub data IsNaming (own name : List ℕ) : Option ShelfFault → List DiskStep → Type 0 where
   Linked : IsNaming own name None (Did (Link own name) ∷ [])
   LinkRefused : IsNaming own name (Some IsThere) (Failed (Link own name) ∷ [])
   NotFoundFree : (fault : ShelfFault) (steps : List DiskStep) → IsSearch name (Some fault) steps → IsNaming own name (Some fault) (Failed (Link own name) ∷ steps)
-  Renamed : (left : Option (List ℕ)) → IsNaming own name None (Failed (Link own name) ∷ Failed (LookAtName name) ∷ Did (Rename own name left) ∷ [])
-  NotRenamed : (left : Option (List ℕ))
-      → IsNaming own name (Some Write) (Failed (Link own name) ∷ Failed (LookAtName name) ∷ Failed (Rename own name left) ∷ [])
+  Renamed : (had : Option (List ℕ)) → IsNaming own name None (Failed (Link own name) ∷ Failed (LookAtName name) ∷ Did (Rename own name had) ∷ [])
+  NotRenamed : (had : Option (List ℕ)) → IsNaming own name (Some Write) (Failed (Link own name) ∷ Failed (LookAtName name) ∷ Failed (Rename own name had) ∷ [])
 
 -- the new name goes again: the file has its own name, too, or gets it back
 pub data IsTakenBack (own name : List ℕ) (written : Option (List ℕ)) : List DiskStep → Type 0 where
   HasItsOwn : (taking : List DiskStep) → IsGone name written taking → IsTakenBack own name written (Did (FindFile own written) ∷ taking)
-  RenamedBack : (left : Option (List ℕ)) (done : Bool)
-      → IsTakenBack own name written (Failed (FindFile own written) ∷ step_by (Rename name own left) done ∷ [])
+  RenamedBack : (had : Option (List ℕ)) (done : Bool) → IsTakenBack own name written (Failed (FindFile own written) ∷ step_by (Rename name own had) done ∷ [])
 
 -- the file beside is on the disk before it gets the tape's name, and then the folder is, and its own name goes; where that fails, the new one goes again.
 -- Where it can't be brought there, no file changed but that it may be cut
@@ -197,7 +197,7 @@ pub record HasPart (folder numbers : List ℕ) (disk : Change ShelfDisk) (steps 
   pub folder_of : IsFolderOf disk.before.name folder
   pub held : Option (List ℕ)
   pub untouched : OnSome disk.after.asked (held ≡ Some [])
-  pub resumed : steps ≡ Did (Open ReadOnly folder) ∷ (taking_left (part_name disk.before.name) held ++ Did (SyncFolder folder) ∷ [])
+  pub resumed : steps ≡ resuming folder (part_name disk.before.name) held
   pub kept : Bool
   pub stays : kept ≡ false → numbers ≡ []
   pub room : HasNewRoom (part_name disk.before.name) kept disk.after

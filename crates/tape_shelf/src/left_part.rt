@@ -6,7 +6,7 @@ ghost use Rattle.record_file.specs.DiskStep.{Did, FindFile, FindSoleFile, Hold, 
 ghost use Rattle.record_file.specs.Folder.{IsFolderOf};
 ghost use Rattle.record_file.specs.declared.disk.Access.TheVariants.{ReadOnly, ReadWrite};
 ghost use Rattle.tape_shelf.specs.FoundPart.{AreFoundInPart, FillBlocks, IsRefusedPart};
-ghost use Rattle.tape_shelf.specs.ShelfDisk.{InFolder, IsUntaken, part_name, taking_left};
+ghost use Rattle.tape_shelf.specs.ShelfDisk.{InFolder, IsUntaken, part_name, resuming, taking_left};
 
 use crate::found_part::{Found, found_in};
 use crate::new_file::{PART, Part};
@@ -35,7 +35,7 @@ pub(crate) fn take_left<D: Disk>(
     ensures untouched { IfOk result (λ left. OnSome (D.asked disk.new) (D.File.contents left.0.held ≡ Some [])) }
     ensures asked { IfOk result (λ left. (folder : List ℕ) × D.is_opened_as left.0.folder folder × IsFolderOf name.now folder
         × HasAsked (D.asked disk.old) (D.asked disk.new)
-        (λ steps. steps ≡ Did (Open ReadOnly folder) ∷ (taking_left (part_name name.now) (D.File.contents left.0.held) ++ Did (SyncFolder folder) ∷ []))) }
+        (λ steps. steps ≡ resuming folder (part_name name.now) (D.File.contents left.0.held))) }
     ensures refused { IfErr result (IsRefusedPart range (D.holds disk.old (part_name name.now))) }
     ensures failed { IfErr result (λ fault. HasAsked (D.asked disk.old) (D.asked disk.new) (InFolder name.now (IsUntaken (part_name name.now)) fault)) }
 {

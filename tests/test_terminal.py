@@ -17,7 +17,7 @@ from cases import SlowConsole as Hundredths
 from chip_cases import ChipConsole, Chips, Test
 from commands import COUNTING, RUNS
 from odt_peer import EndlessMachine
-from outside import FIRST, PROGRAM, bytes_of, fault, line_failed, tape_of
+from outside import FIRST, NO_OUTPUT, PROGRAM, bytes_of, fault, line_failed, tape_of
 
 # Each line that is shown: the terminal is asked to cut what it has no column for, and behind the text to take away what
 # is left of the line before it and to wrap again.
@@ -391,6 +391,15 @@ class Terminal(Case):
         self.put("a.record", both.encode())
         given, shown = self.load_at_a_terminal(Console(), "two-words.lda --record a.record")
         self.is_so((given.out.split("\n")[1], shown.split(CLEARED)[-1]), ("end Stale 001000", "ldaodt: memory does not hold what the record says: load with --recheck\r\n"))
+
+    def test_a_report_that_can_not_be_written(self):
+        """Where the start may have gone out, the terminal is told so: nothing else says it, and who loads again would start a second time."""
+        self.put("going.record", b"LDAODT 2\n001000 011064\nG\n")
+        for words, told in (("first.lda", "the start may have gone out: look at the machine first\r\n"), ("first.lda --no-start", ""),
+                            ("first.lda --record going.record", "the start may have gone out: look at the machine first\r\n")):
+            with self.subTest(words):
+                given, shown = self.load_at_a_terminal(words=words, before="> /dev/full")
+                self.is_so((given.status, shown.split(CLEARED)[-1]), (4, told + shown_as(NO_OUTPUT)))
 
     def test_what_is_told_where_a_machine_falls_silent(self):
         """Behind the first of its two words, which takes nine keys; or at once."""

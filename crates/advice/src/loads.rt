@@ -4,7 +4,7 @@ use engine::Cut;
 use host_core::End;
 use host_devices::Line;
 use load_engine::Stop;
-use machine_load::{LoadEnd, Outcome, StubStop, Stubs, StubsEnd};
+use machine_load::{LoadEnd, LoadFault, Outcome, StubStop, Stubs, StubsEnd};
 use octal::Octal;
 use progress_display::{LastWord, ProgressLine};
 use request_values::Load;
@@ -27,6 +27,9 @@ const GOES_ON: &str = "the same line goes on where it was; power lost? add --rec
 // What helps where the start was typed before, or was about to be.
 const LOOK_FIRST: &str =
     "look at the machine first: the program may run; to load it again remove the record\n";
+
+// What is told in place of a report that can't be written, behind which nobody may load again.
+const MAY_RUN: &str = "the start may have gone out: look at the machine first\n";
 
 /// What is known of the words that a load is of.
 #[derive(Clone, Copy, Debug, PartialEq, Eq)]
@@ -95,6 +98,16 @@ pub fn advise_load<C: Clock, T: Print, L: Line>(
             say_unfit(alloc, progress, address, size)
         }
         _ => {}
+    }
+}
+
+/// Tells where a load failed with its report untold that the program may run, where it may.
+pub fn advise_unreported<C: Clock, T: Print>(
+    progress: Option<&ProgressLine<'_, C, T>>,
+    fault: LoadFault,
+) {
+    if let (Some(progress), LoadFault::WriteOutput { marked: true }) = (progress, fault) {
+        progress.say(MAY_RUN);
     }
 }
 

@@ -328,7 +328,10 @@ fn what_fails_behind_it_is_not_tried_again(rt: HostRuntime) -> Result<(), Fail> 
     );
     put(&rt, Some(GOING_ON))?;
     let (fault, asked) = loaded(&rt, AMPLE, &mut FullOutput).ok_or("memory")?;
-    assert!(rt; fault == Some(LoadFault::WriteOutput), "output");
+    assert!(rt;
+        fault == Some(LoadFault::WriteOutput { marked: true }),
+        "output"
+    );
     assert!(rt;
         asked.as_str().strip_prefix(READ) == Some(REPLACED),
         "output"

@@ -65,9 +65,10 @@ module _ (GoesSo GoesSo' : HowItGoesOn) (also : (going : Going) (around : Change
   fault_also task setting (Record why) h = h
   fault_also task setting Connect h = h
   fault_also task setting WriteRecord h = h
-  fault_also task setting WriteOutput h = record {
+  fault_also task setting (WriteOutput marked) h = record {
     finish = h.finish;
     load = load_also task (setting.before.around ⇒ setting.after.around) h.finish h.load;
+    marked_is = h.marked_is;
     given_back = h.given_back;
     missing = h.missing;
     reported = h.reported;

@@ -36,7 +36,7 @@ use Rattle.console_lines.specs.Dialling.{Call, LineRequest}
 pub of_opening : (GoesSo : HowItGoesOn) (task : LoadTask) (before after : SurroundingsTold) (lines lines' : Option (List LineTold)) (out : Option (List ℕ)) (fault : LoadFault)
     → IsOpeningFault task.plan before after fault → KeepsRecord before after → lines' ≡ lines
     → IsLoadFault GoesSo task (record { around = before; lines = lines; out = out } ⇒ record { around = after; lines = lines'; out = out }) fault
-of_opening GoesSo task before after lines lines' out WriteOutput fails same unsaid = absurd fails
+of_opening GoesSo task before after lines lines' out (WriteOutput marked) fails same unsaid = absurd fails
 of_opening GoesSo task before after lines lines' out other fails same unsaid =
     inl (record { is_so = fails; record_same = same; nothing_said = unsaid; nothing_reported = Keeps-refl out })
 
@@ -53,7 +53,7 @@ asked_unopened plan before after other call asked asked' fails same = absurd fai
 pub of_beginning : (GoesSo : HowItGoesOn) (task : LoadTask) (before between after : SurroundingsTold) (lines lines' : Option (List LineTold)) (out : Option (List ℕ)) (first : Core) (may_begin : Bool)
     (fault : LoadFault) → IsOpened task (before ⇒ between) first may_begin → IsBeginningFault (opened_as first task.options.fast may_begin) (gone between lines ⇒ gone after lines') fault
     → IsLoadFault GoesSo task (record { around = before; lines = lines; out = out } ⇒ record { around = after; lines = lines'; out = out }) fault
-of_beginning GoesSo task before between after lines lines' out first may_begin WriteOutput opened fails = absurd fails
+of_beginning GoesSo task before between after lines lines' out first may_begin (WriteOutput marked) opened fails = absurd fails
 of_beginning GoesSo task before between after lines lines' out first may_begin other opened fails =
     inr (record { first = first; may_begin = may_begin; between = between; opened = opened; is_so = fails; nothing_reported = Keeps-refl out })
 

@@ -134,6 +134,7 @@ module _ {L K : Type 0} (tells : LoadTells L K) (task : LoadTask) (before betwee
     fault = record {
       finish = finish_told tells.line lived;
       load = subst (λ around. IsLoad (IsDrivenOn tells.keeper) task (before.setting.around ⇒ around) (finish_told tells.line lived)) (sym untold.nothing_asked.around_same) is.load;
+      marked_is = refl;
       given_back = subst (λ lines. IsGivenBack lines after.setting.lines (finish_told tells.line lived).line) is.lines untold.given_back;
       missing = untold.reported.0;
       reported = subst (λ out. WritesAllBut out after.setting.out (finish_report (finish_told tells.line lived)) untold.reported.0) out_same untold.reported.1;

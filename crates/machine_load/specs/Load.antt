@@ -212,10 +212,12 @@ pub record IsReported (GoesSo : HowItGoesOn) (task : LoadTask) (setting : Change
   pub reported : Appends setting.before.out setting.after.out (load_report (counting last looks stubs again) ending.end)
   pub line_kept : setting.after.lines ≡ setting.before.lines
 
--- a load whose report could not be written whole: its life was lived all the same, and its line given back as that left it
-pub record IsReportCutShort (GoesSo : HowItGoesOn) (task : LoadTask) (setting : Change Setting) : Type 0 where
+-- a load whose report could not be written whole: its life was lived all the same, which came to the start or did not, and its line given back as that
+-- left it
+pub record IsReportCutShort (GoesSo : HowItGoesOn) (task : LoadTask) (setting : Change Setting) (marked : Bool) : Type 0 where
   pub finish : Finish
   pub load : IsLoad GoesSo task (setting.before.around ⇒ setting.after.around) finish
+  pub marked_is : marked ≡ finish.core.going
   pub given_back : IsGivenBack setting.before.lines setting.after.lines finish.line
   pub missing : List ℕ
   pub reported : WritesAllBut setting.before.out setting.after.out (finish_report finish) missing

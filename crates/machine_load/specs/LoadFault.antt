@@ -106,5 +106,5 @@ pub record StopsUnopened (task : LoadTask) (setting : Change Setting) (why : Loa
 -- how a load comes to nothing: no life is opened, or one comes to no beginning, and nothing is reported; a report that can't be written is the last
 -- thing, behind a life that went on so
 abbrev pub IsLoadFault : HowItGoesOn → LoadTask → Change Setting → LoadFault → Type 0
-IsLoadFault GoesSo task setting WriteOutput = IsReportCutShort GoesSo task setting
+IsLoadFault GoesSo task setting (WriteOutput marked) = IsReportCutShort GoesSo task setting marked
 IsLoadFault GoesSo task setting why = StopsUnopened task setting why ⊎ StopsOpened task setting why

@@ -27,7 +27,7 @@ pub record IsLifeReported {L : Type 0} (tell : Line L) (lived : Lived L) (scenes
 
 -- its report could not be written whole, and its line was given back, where it has one
 pub record IsLifeUnreported {L : Type 0} (tell : Line L) (lived : Lived L) (scenes : Change Scene) (why : LoadFault) : Type 0 where
-  pub fault_is : why ≡ WriteOutput
+  pub fault_is : why ≡ WriteOutput lived.core.going
   pub nothing_asked : AsksNoMore scenes
   pub reported : WritesPrefix scenes.before.setting.out scenes.after.setting.out (finish_report (finish_told tell lived))
   pub given_back : IsGivenBack scenes.before.setting.lines scenes.after.setting.lines (finish_told tell lived).line

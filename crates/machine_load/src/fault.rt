@@ -1,4 +1,3 @@
-use byte_io::WriteFault;
 use host_devices::LineFault;
 use load_record::RecordError;
 use record_file::RecordFault;
@@ -22,8 +21,9 @@ pub enum LoadFault {
     /// The record may not be written, or can't be written anew. Nothing was sent but looks.
     WriteRecord,
 
-    /// The report can't be written. What was sent was sent, and what was kept is kept.
-    WriteOutput,
+    /// The report can't be written. What was sent was sent, and what was kept is kept; whether the host had come to the
+    /// start, as an `Outcome` has it.
+    WriteOutput { marked: bool },
 
     /// A growth of memory was refused.
     Memory,
@@ -64,17 +64,6 @@ impl From<LineFault> for LoadFault {
 
     fn from(_line: LineFault) -> LoadFault {
         LoadFault::Connect
-    }
-}
-
-impl From<WriteFault> for LoadFault {
-    ghost use Rattle.std.specs.Prelude.{◌≡◌};
-    ghost use Rattle.machine_load.specs.declared.fault.LoadFault.TheVariants.{WriteOutput};
-
-    ghost from_gives = { λ _ fault. fault ≡ WriteOutput };
-
-    fn from(_failed: WriteFault) -> LoadFault {
-        LoadFault::WriteOutput
     }
 }
 

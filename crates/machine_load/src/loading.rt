@@ -68,9 +68,9 @@ use tape_image::Plan;
 /// `ReadRecord`, `RecordInUse`, `Record` and `Connect` come with nothing reported and the record as it
 /// was, `WriteRecord` right behind the looks, and before the connection, with the record as it was, where it
 /// is protected, or would have to be written in place and a byte of it would become another one.
-/// `WriteOutput` is a report that could not be written whole. `Memory` comes only where a growth was
-/// refused, for the record or for the looks: before any key but theirs, with nothing reported. Once its record
-/// is begun a load takes no memory but for stubs, and want of that ends these alone.
+/// `WriteOutput` is a report that could not be written whole, and says whether the start was typed or may have been.
+/// `Memory` comes only where a growth was refused, for the record or for the looks: before any key but theirs, with
+/// nothing reported. Once its record is begun a load takes no memory but for stubs, and want of that ends these alone.
 pub fn load<S: Surroundings, W: Write, O: Onlooker>(
     alloc: Global,
     plan: Plan,
@@ -250,9 +250,10 @@ fn report<S: Surroundings, W: Write>(
     );
     match write_and_flush(out, &text) {
         Ok(()) => Ok(lived.outcome()),
-        Err(fault) => {
+        Err(_) => {
+            let marked = lived.core.progress().going;
             give_back(around, lived.line);
-            Err(LoadFault::from(fault))
+            Err(LoadFault::WriteOutput { marked })
         }
     }
 }

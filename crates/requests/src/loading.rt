@@ -15,7 +15,7 @@ use crate::planning::plan_tapes;
 use crate::request_fault::RequestFault;
 use crate::system::{Kinds, System};
 use crate::watch::Watch;
-use advice::{PlanSize, advise_load};
+use advice::{PlanSize, advise_load, advise_unreported};
 use console_lines::Dial;
 use endings::{Failure, FaultOutput, Output, Status, Streams};
 use machine_load::{Around, InMemory, Outcome, Surroundings, load};
@@ -123,6 +123,7 @@ fn load_plan<'a, S: Surroundings, W: Write, C: Clock, T: Print>(
             end(request, outcome, around, out)
         }
         Err(fault) => {
+            advise_unreported(watch.progress(), fault);
             let file = record_name(request.record);
             Err(RequestFault::Load(fault).failure(request.line, file))
         }

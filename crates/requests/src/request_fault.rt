@@ -44,7 +44,7 @@ impl RequestFault {
             RequestFault::Load(LoadFault::Connect)
             | RequestFault::Look(LookFault::Connect)
             | RequestFault::Probe(ProbeFault::Connect) => Failure::CannotConnect(console),
-            RequestFault::Load(LoadFault::WriteOutput)
+            RequestFault::Load(LoadFault::WriteOutput { .. })
             | RequestFault::Look(LookFault::WriteOutput)
             | RequestFault::Probe(ProbeFault::WriteOutput) => Failure::CannotWrite,
             RequestFault::Load(LoadFault::Memory)

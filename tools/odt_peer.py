@@ -154,7 +154,7 @@ def is_there(*ends, seconds=0):
 class Line:
     """A machine, and the line to it: subclasses say what the line is made of, and whether a key is waiting there."""
 
-    def __init__(self, machine, loss=0.0, seed=0, close_after=None, takes_last=False, baud=None, tell=None, at_once=False, change=0.0):
+    def __init__(self, machine, loss=0.0, seed=0, close_after=None, takes_last=False, baud=None, tell=None, at_once=False, change=0.0, awake=False):
         self.machine, self.loss, self.change, self.baud = machine, loss, change, baud
         self.chance = random.Random(seed)
         # How many characters, keys and answers together, pass before the line breaks (None: it holds),
@@ -164,6 +164,8 @@ class Line:
         # Whether an answer is sent at once, as a bridge may do it, and not character by character. For lines that hold, lose and change
         # nothing and have no baud.
         self.at_once = at_once
+        # Whether it keeps asking for keys and never sleeps, so that nobody who types has to wake it.
+        self.awake = awake
         self.tell = tell or (lambda _text: None)
         self.is_hung_up = threading.Event()
 
@@ -293,7 +295,7 @@ class Peer(Line):
             with connection:
                 try:
                     connection.setsockopt(socket.IPPROTO_TCP, socket.TCP_NODELAY, 1)
-                    self.talk(connection.recv, connection.sendall)
+                    self.talk(self.receive, connection.sendall)
                     # A key that came and is not read would make of the close a reset, which the host tells apart.
                     connection.shutdown(socket.SHUT_WR)
                     while connection.recv(64):
@@ -301,6 +303,14 @@ class Peer(Line):
                 except OSError:
                     pass
             self.tell(f"gone: {self.count()}")
+
+    def receive(self, size):
+        while self.awake:
+            try:
+                return self.connection.recv(size, socket.MSG_DONTWAIT)
+            except BlockingIOError:
+                pass
+        return self.connection.recv(size)
 
     def is_key_there(self):
         return is_there(self.connection)
@@ -361,16 +371,16 @@ class Device(Line):
             if self.is_last:
                 self.is_last = False
                 self.is_settled.set()
-            ready, _, _ = select.select([self.ours, self.asks], [], [])
+            ready, _, _ = select.select([self.ours, self.asks], [], [], 0 if self.awake else None)
             if self.ours in ready:
                 keys = os.read(self.ours, size)
                 self.is_last = self.LAST in keys
                 keys = keys.replace(self.LAST, b"")
                 if keys or not self.is_last:
                     return keys
-            elif os.read(self.asks, 1) == b"c":
-                return b""
-            else:
+            elif self.asks in ready:
+                if os.read(self.asks, 1) == b"c":
+                    return b""
                 self.is_settled.set()
 
     def is_key_there(self):
@@ -434,11 +444,12 @@ def main():
     words.add_argument("--baud", type=int)
     words.add_argument("--break-after", type=int, help="characters, keys and answers together, after which the line is dead")
     words.add_argument("--at-once", action="store_true", help="each answer as a whole, as a bridge may send it; alone")
+    words.add_argument("--awake", action="store_true", help="it never sleeps, so that nobody who types has to wake it")
     asked = words.parse_args()
     tell = lambda text: print(text, flush=True)
     says = asked.says.encode("latin-1").decode("unicode_escape")
     machine = CONSOLES[asked.console](asked.words, asked.style, [(0, says)])
-    named = {"loss": asked.loss / 100, "change": asked.change / 100, "seed": asked.seed, "close_after": asked.break_after, "baud": asked.baud, "at_once": asked.at_once, "tell": tell}
+    named = {"loss": asked.loss / 100, "change": asked.change / 100, "seed": asked.seed, "close_after": asked.break_after, "baud": asked.baud, "at_once": asked.at_once, "awake": asked.awake, "tell": tell}
     line = Device(machine, asked.stty, **named) if asked.device else Peer(machine, asked.port, **named)
     try:
         tell(line.name)

@@ -1,7 +1,9 @@
 -- What a bench, a record and a tape tell of which the disk tells what it was asked.
-use Rattle.std.specs.Prelude.{◌≡◌, ◌⊎◌, ℕ, List, [], ◌++◌, Option, Some, None, option_map}
+use Rattle.std.specs.Prelude.{◌≡◌, ◌⊎◌, ℕ, List, [], ◌++◌, Option, Some, None, Vec, option_map}
 use Rattle.machine_load.specs.Driving.{IsDrivenOn, on_disk}
+use Rattle.machine_load.specs.declared.fault.LoadFault.{LoadFault}
 use Rattle.machine_load.specs.Load.{Ending, IsReported, Setting}
+use Rattle.machine_load.specs.LoadFault.{IsLoadFault}
 use Rattle.honest_line.specs.LineTable.{LineValue}
 use Rattle.host_devices.specs.declared.line.Line.{Ghosts as Line}
 use Rattle.machine_load.specs.Asked.{Change, LoadTask, ◌⇒◌}
@@ -15,6 +17,9 @@ use Rattle.tape_shelf.specs.ShelfTold.{HasDone, ShelfTold}
 use Rattle.record_file.specs.DiskStep.{DiskStep}
 use Rattle.record_file.specs.Known.{known_of}
 use Rattle.record_file.specs.declared.held_file.HeldFile.{HeldFile}
+use Rattle.told_calls.specs.declared.told_file.ToldFile.{ToldFile}
+use Rattle.told_calls.specs.declared.told_step.ToldStep.{ToldStep}
+use Rattle.told_calls.specs.ToldSteps.{steps_of, written_to}
 
 -- a bench with this record, and a report
 abbrev pub bench_told : Option (List ℕ) → List ℕ → Setting
@@ -25,8 +30,8 @@ abbrev pub memory_line : Line LineValue
 memory_line = record { told = λ line. Some line.items; fault_count = λ line. line.failures; last_fault = λ line. line.fault }
 
 -- a record of this name on a disk of which no file's text is known, and its file, where it is held
-abbrev pub record_told : {T : Type 0} → (T → Option (List ℕ)) → Option (List DiskStep) → List ℕ → Option (HeldFile T) → RecordDisk
-record_told written asked name held = record { asked = asked; name = name; known = option_map (known_of written) held; holds = None }
+abbrev pub record_told : {A : Type 0} → Option (Vec ToldStep A) → List ℕ → Option (HeldFile ToldFile) → RecordDisk
+record_told asked name held = record { asked = steps_of asked; name = name; known = option_map (known_of written_to) held; holds = None }
 
 -- a setting with this record, and this output
 abbrev pub disk_told : RecordDisk → Option (List ℕ) → Setting
@@ -35,6 +40,10 @@ disk_told disk out = record { around = record { steps = None; record_text = None
 -- a load was reported, and ended so; its record is kept in a file
 abbrev pub IsReportedSo : LoadTask → Ending → Change Setting → Type 0
 IsReportedSo task ending setting = IsReported (IsDrivenOn on_disk) task setting ending
+
+-- or it came to nothing, for this reason
+abbrev pub IsFaultSo : LoadTask → LoadFault → Change Setting → Type 0
+IsFaultSo task why setting = IsLoadFault (IsDrivenOn on_disk) task setting why
 
 -- this is so of a load from this record to another, over this output, and then the record was closed
 abbrev pub IsSoAndClosed : (Change Setting → Type 0) → RecordDisk → Change (Option (List ℕ)) → Option (List DiskStep) → Type 0

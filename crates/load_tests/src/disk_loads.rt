@@ -1,11 +1,9 @@
 //! Loads of a machine in memory, with a record on a disk that tells what it was asked.
 ghost use Rattle.std.specs.Prelude.{IfErr, IfOk};
 ghost use Rattle.machine_load.specs.Asked.{task, ◌⇒◌};
-ghost use Rattle.machine_load.specs.Driving.{IsDrivenOn, on_disk};
-ghost use Rattle.machine_load.specs.LoadFault.{IsLoadFault};
 ghost use Rattle.machine_load.specs.Scene.{ending};
-ghost use Rattle.told_calls.specs.ToldSteps.{steps_of, written_to};
-ghost use Rattle.load_tests.specs.Told.{memory_line, record_told, IsReportedSo, IsSoAndClosed};
+ghost use Rattle.told_calls.specs.ToldSteps.{steps_of};
+ghost use Rattle.load_tests.specs.Told.{memory_line, record_told, IsFaultSo, IsReportedSo, IsSoAndClosed};
 
 use crate::memory_consoles::MemoryConsoles;
 use honest_line::MemoryLine;
@@ -28,10 +26,10 @@ pub(crate) fn load_on_disk<'a, W: Write>(
     out: &mut W,
 ) -> (Result<Outcome<MemoryLine>, LoadFault>, ToldDisk<'a>)
     ensures ok { IfOk result.0 (λ outcome. IsSoAndClosed (IsReportedSo (task plan options) (ending memory_line outcome))
-        (record_told written_to (steps_of around.entry.records.disk.asked) around.entry.records.name.now around.entry.records.held)
+        (record_told around.entry.records.disk.asked around.entry.records.name.now around.entry.records.held)
         (W.contents out.old ⇒ W.contents out.new) (steps_of result.1.asked)) }
-    ensures err { IfErr result.0 (λ why. IsSoAndClosed (λ setting. IsLoadFault (IsDrivenOn on_disk) (task plan options) setting why)
-        (record_told written_to (steps_of around.entry.records.disk.asked) around.entry.records.name.now around.entry.records.held)
+    ensures err { IfErr result.0 (λ why. IsSoAndClosed (IsFaultSo (task plan options) why)
+        (record_told around.entry.records.disk.asked around.entry.records.name.now around.entry.records.held)
         (W.contents out.old ⇒ W.contents out.new) (steps_of result.1.asked)) }
 {
     let outcome = load(alloc, plan, options, &mut around, out, &Unwatched);

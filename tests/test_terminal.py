@@ -395,8 +395,8 @@ class Terminal(Case):
     def test_a_report_that_can_not_be_written(self):
         """Where the start may have gone out, the terminal is told so: nothing else says it, and who loads again would start a second time."""
         self.put("going.record", b"LDAODT 2\n001000 011064\nG\n")
-        for words, told in (("first.lda", "the start may have gone out: look at the machine first\r\n"), ("first.lda --no-start", ""),
-                            ("first.lda --record going.record", "the start may have gone out: look at the machine first\r\n")):
+        may_run = "the start may have gone out: look at the machine first\r\n"
+        for words, told in (("first.lda", may_run), ("first.lda --no-start", ""), ("first.lda --record going.record", may_run)):
             with self.subTest(words):
                 given, shown = self.load_at_a_terminal(words=words, before="> /dev/full")
                 self.is_so((given.status, shown.split(CLEARED)[-1]), (4, told + shown_as(NO_OUTPUT)))

@@ -305,6 +305,7 @@ class Peer(Line):
             self.tell(f"gone: {self.count()}")
 
     def receive(self, size):
+        """Waits for keys."""
         while self.awake:
             try:
                 return self.connection.recv(size, socket.MSG_DONTWAIT)

@@ -10,9 +10,9 @@ export PREFIX DESTDIR
 
 all: ldaodt
 
-# Proves and builds. rt knows by itself what has changed since, so it is asked every time.
+# Proves and builds. rt knows by itself what has changed since, so it is asked every time. The archive has no sources.
 ldaodt:
-	@tools/build
+	@if [ -x tools/build ]; then tools/build; else echo 'nothing is built here: ./ldaodt is there, and make install installs it'; fi
 
 # The merge gate: the proofs, the must-fail edits, the tests, the program's stored run; then the program that was just
 # built, tried from outside; and what each lane took.
@@ -23,9 +23,9 @@ test:
 check: ldaodt
 	@tools/check-program
 
-# The must-fail edits that the gate has no time for.
+# The must-fail edits, many at once: those of CRATES, or of each crate that promises something else than when they were tried.
 edits:
-	@tools/edits
+	@tools/edits $(CRATES)
 
 # The main jobs, one after another, against a simulated machine.
 demo: ldaodt

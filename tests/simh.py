@@ -33,14 +33,14 @@ def limit():
     resource.setrlimit(resource.RLIMIT_FSIZE, (MOST_BYTES, MOST_BYTES))
 
 
-def said_to(commands):
-    """Gives SIMH commands, and returns all that it said to them."""
+def said_to(commands, seconds=SECONDS):
+    """Gives SIMH commands, and returns all that it said to them within so many seconds."""
     with tempfile.TemporaryDirectory(prefix="simh-") as room:
         with open(f"{room}/commands", "w") as file:
             file.write("".join(f"{it}\n" for it in (*LSI_11, *commands, "exit")))
         with open(f"{room}/said", "wb") as said:
             subprocess.run(["pdp11", f"{room}/commands"], stdin=subprocess.DEVNULL, stdout=said, stderr=said,
-                           timeout=SECONDS, check=False, preexec_fn=limit)
+                           timeout=seconds, check=False, preexec_fn=limit)
         return text_at(f"{room}/said")
 
 

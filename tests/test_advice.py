@@ -13,6 +13,9 @@ from outside import FIRST, PROGRAM, block, bytes_of, tape_of
 TAPE = tape_of([(0o1000, b"\x34\x12\xad\xde")], 0o1000)
 FRONT = TAPE[:-7]
 
+# Which byte of a file its tape begins with, as `tail` counts them.
+WHICH_BYTE = "its first 001 is byte N, from 1\n"
+
 
 class Told(Case):
     """What a terminal is told of a command, and what comes of that."""
@@ -57,6 +60,23 @@ class Advice(Told):
             self.does(self.refuses(tape[:-1]), r"printf .*TAPE", TAPE="a.lda")
             self.makes(tape, "a.lda")
 
+    def test_a_long_tape_without_its_last_byte(self):
+        """However much of its last block stands in the first 8192 bytes of the file, or twice that, as it is read."""
+        for length in (8192, 16384):
+            for behind in range(8):
+                tape = bytes(length + behind - len(TAPE) + 1) + TAPE
+                self.is_so(len(tape), length + behind + 1)
+                self.does(self.refuses(tape[:-1]), r"printf .*TAPE", TAPE="a.lda")
+                self.makes(tape, "a.lda")
+
+    def test_one_of_several_without_its_last_byte(self):
+        """As of the only one; whether it is the last or not."""
+        self.put("good.lda", TAPE)
+        for words in ("check good.lda a.lda", "check a.lda good.lda", "check good.lda good.lda a.lda good.lda"):
+            self.put("a.lda", TAPE[:-1])
+            self.does(self.shown(words), r"printf .*TAPE", TAPE="a.lda")
+            self.makes(TAPE, "a.lda")
+
     def test_a_tape_that_is_cut_elsewhere_is_given_no_byte(self):
         for cut in (TAPE[:5], TAPE[:len(FRONT) - 1], TAPE[:-2], TAPE[:-3]):
             self.assertNotIn("printf", self.refuses(cut))
@@ -69,12 +89,16 @@ class Advice(Told):
     def test_a_label_before_the_first_block(self):
         for label in (b"\x7e\x11\x7e", bytes(40) + b"\x7f\x49\x41" + bytes(3)):
             text = label + TAPE
-            self.does(self.refuses(text), r"tail[^']*TAPE", N=str(text.index(b"\1\0") + 1), FILE="a.lda", TAPE="b.lda")
+            shown = self.refuses(text)
+            self.assertIn(WHICH_BYTE, shown)
+            self.does(shown, r"tail[^']*TAPE", N=str(text.index(b"\1\0") + 1), FILE="a.lda", TAPE="b.lda")
             self.makes(TAPE)
 
     def test_a_tape_behind_a_text(self):
         text = b"To: whom it may concern\n\n" + TAPE
-        self.does(self.refuses(text), r"tail[^']*TAPE", N=str(text.index(b"\1\0") + 1), FILE="a.lda", TAPE="b.lda")
+        shown = self.refuses(text)
+        self.assertIn(WHICH_BYTE, shown)
+        self.does(shown, r"tail[^']*TAPE", N=str(text.index(b"\1\0") + 1), FILE="a.lda", TAPE="b.lda")
         self.makes(TAPE)
 
     def test_what_gzip_has_compressed(self):
@@ -176,6 +200,9 @@ class Following(Told):
     def test_anything_else(self):
         self.is_so(self.follows(b"\0\0junk"), "a.lda: 6 bytes follow the tape: they belong to no tape\n")
         self.is_so(self.follows(b"\x1a"), "a.lda: 1 bytes follow the tape: they belong to no tape\n")
+        # What begins a block is 001 and 000.
+        self.is_so(self.follows(b"\1\2"), "a.lda: 2 bytes follow the tape: they belong to no tape\n")
+        self.is_so(self.follows(b"\1"), "a.lda: 1 bytes follow the tape: they belong to no tape\n")
 
     def test_a_long_file(self):
         """All of it counts, also what is longer than any tape."""

@@ -196,7 +196,7 @@ class Small(Needing):
         for folder in ("tree/tools", "tree/tests", "kit/bin", "bin", "notes"):
             os.makedirs(self.path(folder))
         shutil.copytree(ARM64, self.path("tree/tools/arm64"))
-        for it in ("build-arm64", "check-arm64"):
+        for it in ("build-arm64", "check-arm64", "crates.py"):
             shutil.copy(f"{TOP}/tools/{it}", self.path(f"tree/tools/{it}"))
 
     def put_script(self, *names, text=STAND_IN):
@@ -222,7 +222,9 @@ class Building(Small):
         os.symlink("../kit/bin/rt", self.path("bin/rt"))
         self.put("tree/crates.txt", b"# low first\nlow: arrayvec\nhigh: low itoa\napart: low\nldaodt: clap high\n")
         self.put("notes/says-rattle", f"{VERDICT}\n".encode())
-        os.makedirs(self.path("tree/crates/ldaodt/out/incremental"))
+        for folder in ("src", "out/incremental"):
+            os.makedirs(self.path(f"tree/crates/ldaodt/{folder}"))
+        self.put("tree/crates/ldaodt/src/main.rt", b"")
         self.put("tree/crates/ldaodt/out/incremental/kept", b"proofs")
 
     def test_what_is_called(self):

@@ -60,7 +60,8 @@ class Building(Case):
         super().setUp()
         self.top = f"{self.room}/repository"
         os.makedirs(f"{self.top}/tools")
-        shutil.copy(f"{TOP}/tools/prove-below", f"{self.top}/tools/prove-below")
+        for name in ("prove-below", "crates.py"):
+            shutil.copy(f"{TOP}/tools/{name}", f"{self.top}/tools/{name}")
         with open(f"{self.top}/crates.txt", "w", encoding="utf-8") as file:
             file.write(LIST)
         for name in ("low", "left", "right", "apart", "top"):
@@ -212,7 +213,7 @@ class Building(Case):
         for words in ([], ["none"], ["top", "many"]):
             ran, notes = self.build(*words)
             self.assertEqual((ran.returncode, ran.stdout, notes), (2, "", {}))
-            self.assertEqual(ran.stderr, "prove-below: which crate of crates.txt, and how many processors?\n")
+            self.assertEqual(ran.stderr, "prove-below: which crates of crates.txt, and how many processors?\n")
 
     def test_it_waits_for_another_command_of_rt(self):
         other = subprocess.Popen(["flock", f"{self.top}/crates/low", "sleep", "1"])

@@ -7,8 +7,10 @@ import re
 import unittest
 from concurrent.futures import ThreadPoolExecutor
 
-from cases import Case, Console
+from cases import LONG_QUIET, Case, Console
+import odt_peer
 from outside import came_changed, line_failed
+import traced
 
 # The dialogue of first.lda, one word deposited and started: what a console answers, with the place in it of each answer.
 PROMPT, FIRST_ADDRESS, SLASH, READING, DEPOSIT, STORED, CHECK, START, GO = 0, 4, 10, 11, 18, 24, 27, 44, 50
@@ -75,6 +77,19 @@ class ChangingAttempts(Console):
 # that was changed is made again, so that those behind it count one more. Which are changed, and how many are told: none of a trial.
 PROBES = (((), 0), ((0,), 1), ((0, 1, 2), 3), ((1,), 0), ((2,), 1), ((2, 3), 2), ((3,), 1), ((5,), 1), ((14,), 1), ((0, 3, 5, 8), 4),
           ((0, 2, 4, 6, 9, 18), 5))
+
+
+class KnownPeer(odt_peer.Peer):
+    """It knows how many keys it had answered when it last began to wait for more."""
+
+    answered_all = 0
+
+    def receive(self, size):
+        self.answered_all = self.keys
+        return super().receive(size)
+
+    def has_answered(self, keys):
+        return self.answered_all >= keys
 
 
 class Counts(Case):
@@ -173,13 +188,30 @@ class Counts(Case):
             given = super().load(self.console_at(ChangingOften(1)), "first.lda", stderr=full)
         self.is_so((given.status, given.out), (0, "sent 32 spent 1 verified 1 of 1\nend Started\n"))
 
+    def at_once(self, line, words):
+        """Runs the program at a port that is silent as soon as its machine has answered all: no silence has to be waited for, and no answer
+        is late, however busy this computer is. Where no process can be traced, silences are."""
+        if not traced.is_possible():
+            return self.ldaodt(words)
+        keys = 0
+
+        def before(call):
+            nonlocal keys
+            if call.name == "sendto":
+                keys += 1
+            elif call.name == "recvfrom" and call.file().startswith("socket:"):
+                self.until(lambda: line.has_answered(keys))
+                call.waits_for_nothing()
+        return traced.run(words, before, seconds=300, cwd=self.room)
+
     def test_losses_are_none(self):
         """A hundred loads, saves, looks and probes over lines that lose: three of a hundred characters, each way."""
         def trial(seed):
             chance = random.Random(seed)
             console = Console(style=chance.randrange(8), memory={0o1000: chance.choice((0, 0o11064))})
             words = chance.choice(("load first.lda LINE", "load first.lda LINE --careful", f"save {seed}.lda LINE 1000 1006", "verify first.lda LINE", "probe LINE"))
-            given = self.ldaodt(self.words_at(self.console_at(console, loss=0.03, seed=seed), f"{words} --patience 100"))
+            line = self.until_the_end(KnownPeer(console, loss=0.03, seed=seed))
+            given = self.at_once(line, self.words_at(line, f"{words} --patience 100", LONG_QUIET if traced.is_possible() else None))
             self.is_so((seed, given.err, "changed" in given.out.lower()), (seed, "", False))
             return int(re.search(r" spent (\d+) |$", given.out)[1] or 0)
 

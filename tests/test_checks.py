@@ -286,9 +286,9 @@ class Transcripts(Tree):
         self.assertEqual(self.verdicts(page), (0, [], "1 transcripts run, 0 left out, 0 wrong"))
 
     def test_all_that_is_wrong(self):
-        """Each in a block of its own: other text, a last line without an end, a fault that is not shown, or on the other stream, and a status that
+        """Each in a block of its own: other text, a blank at a line's end, a last line without an end, a fault that is not shown, or on the other stream, and a status that
         is not asked for."""
-        blocks = ("echo a\nb", "printf a\na", "echo a\na\n", "./ldaodt\nwell\n$ echo $?\n3", "echo 'ldaodt: ill'\nldaodt: ill",
+        blocks = ("echo a\nb", "echo 'a '\na", "echo a\na ", "printf a\na", "echo a\na\n", "./ldaodt\nwell\n$ echo $?\n3", "echo 'ldaodt: ill'\nldaodt: ill",
                   "(exit 1)", "(exit 2)", "echo a; (exit 77)\na")
         page = "".join(f"```\n$ {it}\n```\n" for it in blocks)
         places = [f"WRONG  docs/a.md:{page[:page.index(f'$ {it}{chr(10)}```')].count(chr(10)) + 1}" for it in blocks]
@@ -343,28 +343,27 @@ def words_of(path):
 
 
 class Around(Tree):
-    """tools/build, tools/gate and tools/edits."""
+    """tools/build and tools/gate."""
 
     def setUp(self):
         super().setUp()
-        for name in ("build", "gate", "edits", "lanes"):
+        for name in ("build", "gate", "lanes"):
             shutil.copy(f"{TOP}/tools/{name}", self.path(f"tools/{name}"))
-        for folder in ("bin", "crates/ldaodt", "crates/ldaodt/out", "crates/a", "crates/a/must-fail", "crates/a/more-edits"):
+        for folder in ("bin", "crates/ldaodt", "crates/ldaodt/out"):
             os.mkdir(self.path(folder))
         self.put("examples/first.lda", b"")
-        for name in ("must-fail/first", "more-edits/second", "more-edits/third"):
-            self.put(f"crates/a/{name}.edit", b"")
+        self.put_script("tools/edits", 'echo "edits $*" >> notes; [ "$*" != "$MISSED" ]')
         self.put_script("tools/prove-below", "echo below >> notes")
         self.put_script("tools/check-program", "echo checked >> notes; exit $WRONG")
         self.put_script("crates/ldaodt/out/ldaodt", "echo new")
 
-    def run_with(self, tool, *words, rt="echo '3 passed, 0 failed'", wrong=0):
+    def run_with(self, tool, *words, rt="echo '3 passed, 0 failed'", wrong=0, missed=""):
         """Runs a tool with an rt that does this, or without one."""
         path = "/usr/bin:/bin"
         if rt is not None:
             self.put_script("bin/rt", f'echo "rt $*" >> {self.path("notes")}; {rt}')
             path = f"{self.path('bin')}:{path}"
-        ran = subprocess.run([self.path(f"tools/{tool}"), *words], cwd="/", env={**os.environ, "PATH": path, "WRONG": str(wrong)},
+        ran = subprocess.run([self.path(f"tools/{tool}"), *words], cwd="/", env={**os.environ, "PATH": path, "WRONG": str(wrong), "MISSED": missed},
                              stdin=subprocess.DEVNULL, capture_output=True, text=True, timeout=60)
         notes = bytes_of(self.path("notes")).decode().splitlines()
         self.put("notes", b"")
@@ -375,27 +374,22 @@ class Around(Tree):
 
     def test_a_gate_that_is_passed(self):
         status, lines, _, notes = self.run_with("gate")
-        self.assertEqual((status, lines[-1], notes, self.program()), (0, "3 passed, 0 failed", ["rt ci", "checked"], "echo new"))
+        self.assertEqual((status, lines[-1], notes, self.program()), (0, "3 passed, 0 failed", ["edits --look", "rt ci", "checked", "edits --one"], "echo new"))
 
-    def test_a_gate_that_the_program_does_not_pass(self):
-        status, lines, _, notes = self.run_with("gate", wrong=1)
-        self.assertEqual((status, lines[-1], notes), (1, "3 passed, 1 failed", ["rt ci", "checked"]))
+    def test_a_gate_that_the_program_or_an_edit_does_not_pass(self):
+        for wrong, missed, failed in ((1, "", 1), (0, "--one", 1), (1, "--one", 2)):
+            status, lines, _, notes = self.run_with("gate", wrong=wrong, missed=missed)
+            self.assertEqual((status, lines[-1], notes), (1, f"3 passed, {failed} failed", ["edits --look", "rt ci", "checked", "edits --one"]))
+
+    def test_edits_that_were_not_tried_since(self):
+        """Nothing else is begun."""
+        status, lines, _, notes = self.run_with("gate", missed="--look")
+        self.assertEqual((status, lines[-1], notes), (1, "0 passed, 1 failed", ["edits --look"]))
 
     def test_a_gate_that_the_proofs_do_not_pass(self):
         """The program is left alone, and not tried."""
         status, lines, _, notes = self.run_with("gate", rt="echo '2 passed, 1 failed'; exit 5")
-        self.assertEqual((status, lines[-1], notes, self.program()), (5, "2 passed, 1 failed", ["rt ci"], "echo well"))
-
-    def test_edits_that_the_gate_has_no_time_for(self):
-        """They alone are tried, in a copy."""
-        subprocess.run(["git", "init", "-q", self.room], check=True)
-        listing = "ls crates/a/must-fail | tr '\\n' ' '; pwd"
-        status, lines, _, notes = self.run_with("edits", rt=listing)
-        self.assertEqual((status, lines[0].split()[:2], notes), (0, ["second.edit", "third.edit"], ["rt ci a"]))
-        self.assertNotIn(self.room, lines[0])
-        self.assertEqual(sorted(os.listdir(self.path("crates/a/must-fail"))), ["first.edit"])
-        for rt, wanted in (("echo 'BAD EDIT crates/a/must-fail/second.edit'", 1), ("exit 4", 4)):
-            self.assertEqual(self.run_with("edits", "a", rt=rt)[0], wanted)
+        self.assertEqual((status, lines[-1], notes, self.program()), (5, "2 passed, 1 failed", ["edits --look", "rt ci"], "echo well"))
 
     def test_a_program_that_is_built(self):
         """What is below it is proved first where there is no program yet. One that runs is replaced, and one that is the same is left alone."""

@@ -121,6 +121,19 @@ class Files(Many):
             told = "ldaodt: tape 5 refused at 0: Stray\r\n" + (rubouts if limit == AMPLE else "")
             self.is_so((limit, given.status, shown), (limit, 3, told))
 
+    def test_what_it_lacks_is_not_guessed(self):
+        """Where others were read since, a person is not told a checksum by the bytes with which the last of those ends."""
+        whole = tape_of([(0o1000, b"\1\2")], 0o1000)
+        self.put("cut.lda", whole[:-8])
+        self.put("lacking.lda", whole[:-1])
+        names = self.with_names({4: "cut.lda", TAPES - 1: "lacking.lda"})
+        for limit in (AMPLE, *LIMITS):
+            given, shown = self.at_a_terminal(lambda it: self.ldaodt(["check", *names], stderr=it, setup=limited(limit)))
+            self.is_so((limit, given.status, shown), (limit, 3, "ldaodt: tape 5 refused at 0: Cut\r\n"))
+        # Read by itself the last is told.
+        given, shown = self.at_a_terminal(lambda it: self.ldaodt(["check", "lacking.lda"], stderr=it))
+        self.assertIn("printf", shown)
+
     def test_a_lack_that_is_over_is_no_reason(self):
         """A record that is a pipe is refused for what it is. That the tapes before it had no descriptor once is not told with it."""
         os.mkfifo(self.path("pipe"))

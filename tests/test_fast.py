@@ -4,9 +4,9 @@ import os
 import unittest
 from concurrent.futures import ThreadPoolExecutor
 
-from cases import RunningConsole
+from cases import LONG_QUIET, RunningConsole
 from fast_cases import (BACKGROUND, GREETING, GREETING_TEXT, LEAST_GAIN, LEAST_STUB, ONE_STRETCH, START, FastCase, FastConsole, Model, bytes_at,
-                        image_of, memory_with, record_of, words_of)
+                        image_of, memory_with, record_of, stretches_of, words_of)
 from programs import WAITING, placed
 from stub_listing import CHUNK
 
@@ -34,14 +34,25 @@ class Served(FastCase):
         return Model(words_of(image), list(memory or [BACKGROUND] * words), **named)
 
     def test_a_load(self):
-        """At a port and at a device. The program runs."""
+        """At a port and at a device. The program runs. An answer among so many that is late is no mishap: the quiet time is long."""
         for line in self.lines(lambda: FastConsole(THOUSAND)):
             model = self.model().fast()
-            self.went_as(model, line, self.load(line))
+            self.went_as(model, line, self.load(line, quiet=LONG_QUIET))
             self.is_so(list(line.machine.words), memory_with(THOUSAND, 4096))
             self.is_so(line.machine.run_on(), "G" + GREETING_TEXT + HALTED_TEXT)
             self.is_so((model.stubs, model.end), ([START + 2 * (1000 - ONE_STRETCH)], "Started"))
         self.is_so(os.listdir(self.room), ["a.lda"])
+
+    def test_a_tape_of_many_stretches(self):
+        """Twenty of a hundred words each, and behind them one in which the stub lies."""
+        image = image_of(100)
+        for number in range(1, 21):
+            image.update(image_of(100 + 50 * (number == 20), START + 0o1000 * number, ()))
+        self.put_tape("a.lda", image)
+        peer = self.console_at(FastConsole(image, words=8192))
+        model = self.model(image, words=8192).fast()
+        self.went_as(model, peer, self.load(peer))
+        self.is_so((len(model.stubs), len(stretches_of(words_of(image)))), (1, 21))
 
     def test_a_longer_text_at_a_halt(self):
         """It does no harm where the stub halts: the same is typed as at any other console."""

@@ -3,11 +3,14 @@
 A full image has 28,672 words: all of memory. How many characters a load sends is counted as in test_loads.py.
 """
 import os
+import subprocess
 import unittest
 from concurrent.futures import ProcessPoolExecutor, ThreadPoolExecutor
 
 from cases import BabblingPeer, Case, Console
-from outside import Answer, block, bytes_of, line_failed, run, tape_of
+from chip_cases import Test
+from outside import PROGRAM, Answer, block, bytes_of, line_failed, run, tape_of
+from test_memory import Starving
 
 import odt_peer
 from fast_cases import FastCase
@@ -114,6 +117,17 @@ def at_a_console(room, memory, command, words=WORDS):
     return given, peer.machine.starts
 
 
+def starved_at_a_console(room, memory, command):
+    """The same where the program gets no more memory once it has typed a key."""
+    machine = Starving(0, 0, memory=memory)
+    peer = odt_peer.Peer(machine, at_once=True)
+    words = [PROGRAM, *(word.replace("LINE", peer.name) for word in command.split()), "--quiet", "2000"]
+    machine.process = subprocess.Popen(words, cwd=room, stdin=subprocess.DEVNULL, stdout=subprocess.PIPE, stderr=subprocess.PIPE, text=True)
+    out, err = machine.process.communicate(timeout=400)
+    peer.close()
+    return Answer(machine.process.returncode, out, err), machine.starts
+
+
 class Sizes(Case):
     """Plans of many sizes, of words that stand: each has 8 keys. Before the first there is a `Z`, and 7 are the start's."""
 
@@ -125,10 +139,10 @@ class Sizes(Case):
             self.put(f"{words}.lda", tape_of([(piece[0][0], b"".join(value.to_bytes(2, "little") for _, value in piece)) for piece in pieces], 0))
             self.put(f"{words}.record", record_of(plan[:-LEFT], 2).encode())
 
-    def all_end(self, rows):
+    def all_end(self, rows, runs=at_a_console):
         """Runs commands, each at a memory; asserts how each ended, and where it started the machine."""
         with ProcessPoolExecutor(4) as pool:
-            given = list(pool.map(at_a_console, [self.room] * len(rows), [memory for memory, *_ in rows], [words for _, words, *_ in rows]))
+            given = list(pool.map(runs, [self.room] * len(rows), [memory for memory, *_ in rows], [words for _, words, *_ in rows]))
         for (_, words, *wanted), came in zip(rows, given):
             with self.subTest(words):
                 self.is_so(came, tuple(wanted))
@@ -170,16 +184,26 @@ class Sizes(Case):
         differs = "".join(f"{address:06o} 177777 {value:06o} differs 000000\n" for address, value in IMAGE[:8192])
         report = f"sent {1 + 16 * 8192} spent 0 looked 8192 of 8192 differ 8192\nend Differs\n"
         saved = lambda words: Answer(0, f"sent {1 + 16 * words} spent 0 read {words} of {words}\nend Saved\n", "")
-        stand = Answer(0, f"sent {1 + 8 * WORDS} spent 0 looked {WORDS} of {WORDS} differ 0\nend Same\n", "")
         self.all_end([
             (dict(IMAGE), "save all.lda LINE 0 157776", saved(WORDS), []),
-            (dict(IMAGE), f"verify {WORDS}.lda LINE", stand, []),
             ({}, "verify 8192.lda LINE", Answer(1, differs + report, ""), []),
             (dict(IMAGE), "save saved.lda LINE 0 37776", saved(8192), []),
         ])
         for name, count in (("saved.lda", 8192), ("all.lda", WORDS)):
             words = "".join(f"{address:06o} 177777 {value:06o}\n" for address, value in IMAGE[:count])
             self.is_so(self.ldaodt(f"check {name}").out.split("words ", 1)[1], f"{count}\n{words}")
+
+
+    def test_little_memory(self):
+        """With a plan, or a test, of all of memory, and no more memory once a key was typed: a load, a `verify` and a test come to their end. Of
+        a test each third word will do: these are more than 8192."""
+        test = Test(every=3)
+        self.assertGreater(len(test.tested()), 8192)
+        self.all_end([
+            (dict(IMAGE), test.words(), Answer(0, test.report([value for _, value in IMAGE]), ""), []),
+            (dict(IMAGE), f"load {WORDS}.lda LINE", Answer(0, f"sent {8 * WORDS + 8} spent 0 verified {WORDS} of {WORDS}\nend Started\n", ""), [0]),
+            (dict(IMAGE), f"verify {WORDS}.lda LINE", Answer(0, f"sent {1 + 8 * WORDS} spent 0 looked {WORDS} of {WORDS} differ 0\nend Same\n", ""), []),
+        ], starved_at_a_console)
 
 
 class Parts(Case):

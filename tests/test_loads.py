@@ -6,6 +6,7 @@ for one that stands already 8, answered by 17; and 7 for the start, each echoed.
 """
 import errno
 import os
+import random
 import re
 import socket
 import stat
@@ -13,7 +14,8 @@ import time
 import unittest
 from concurrent.futures import ThreadPoolExecutor
 
-from cases import Case, Console, DeafConsole, LateConsole
+from cases import Case, Console, DeafConsole, Keeping, LateConsole
+import odt_peer
 from outside import NO_OUTPUT, Answer, bytes_of, fault, line_failed, tape_of
 
 # Records of first.lda: whole, as it is written today and as it was written once, and without the mark.
@@ -348,6 +350,67 @@ class Silence(Loads):
         for (option, late, wanted), given in zip(rows, answers):
             with self.subTest(option, late=late):
                 self.is_so(given, wanted)
+
+
+class PaddingConsole(Console):
+    """So many zeroes come before what it answers to its first key."""
+
+    def __init__(self, zeroes):
+        super().__init__()
+        self.zeroes = zeroes
+
+    def take(self, key):
+        return "\0" * (not self.typed and self.zeroes) + super().take(key)
+
+
+class RandomConsole(Keeping, odt_peer.DeadMachine):
+    """It answers each key by some of the characters that ODT has, as they fall."""
+
+    def __init__(self, seed):
+        super().__init__()
+        self.chance = random.Random(seed)
+
+    def take(self, key):
+        super().take(key)
+        return "".join(self.chance.choices("@?/\r\n 01234567G", k=self.chance.randrange(9)))
+
+
+class GarbledConsole(Console):
+    """ODT, of which one character in ten is heard as another one."""
+
+    def __init__(self, seed):
+        super().__init__()
+        self.chance = random.Random(seed)
+
+    def take(self, key):
+        answer = super().take(key)
+        return "".join(self.chance.choice("@?/\r\n 01234567") if self.chance.random() < 0.1 else it for it in answer)
+
+
+class Noise(Loads):
+    """What comes is no console's, or not only."""
+
+    def test_zeroes(self):
+        """A wrong speed may bring nothing else. Up to 4,095 in a row are what a console pads its lines with."""
+        for zeroes, wanted in ((4095, (0, STARTED)), (4096, (4, "sent 1 spent 0 verified 0 of 1\nend LineFailed\n", line_failed("noise")))):
+            with self.subTest(zeroes):
+                self.ends(self.load(self.console_at(PaddingConsole(zeroes), at_once=True)), *wanted)
+
+    def test_no_start_is_typed_blindly(self):
+        """Whatever comes, the load ends, counts its keys, and types the start only behind the whole address."""
+        def trial(row):
+            kind, seed = row
+            line = self.console_at(kind(seed), at_once=True)
+            given = self.load(line, "first.lda --patience 8", quiet=30)
+            typed = line.machine.typed
+            return row, given, typed
+
+        rows = [(kind, seed) for kind in (RandomConsole, GarbledConsole) for seed in range(50)]
+        with ThreadPoolExecutor(8) as pool:
+            for row, given, typed in pool.map(trial, rows):
+                with self.subTest(row):
+                    self.is_so(given.out.split(" ")[:2], ["sent", str(len(typed))])
+                    self.is_so(typed.partition("G")[1:], ("G", "") if typed.endswith("001000G") else ("", ""))
 
 
 class Records(Loads):

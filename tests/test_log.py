@@ -207,17 +207,20 @@ class Outputs(Logs):
                 self.is_so(log, f"load first.lda LINE status 0 {STARTED}" if whole else "load first.lda LINE status 4")
 
     def test_it_is_one_write(self):
-        """Over such a socket each write is a message."""
-        peer = self.console_at(Console())
-        self.begun = time.time()
-        ours, theirs = socket.socketpair(socket.AF_UNIX, socket.SOCK_SEQPACKET)
-        with ours:
-            with theirs:
-                words = f"load first.lda {peer.address} --quiet {self.quiet} --log".split()
-                subprocess.run([PROGRAM, *words], cwd=self.room, stdin=subprocess.DEVNULL, stdout=subprocess.DEVNULL, stderr=theirs, check=True)
-            messages = [text_of(it) for it in iter(lambda: ours.recv(1 << 20), b"")]
-        self.is_so(len(messages), 1)
-        self.is_so(self.split(Answer(0, "", messages[0]))[1], f"load first.lda {peer.address} status 0 {STARTED}")
+        """Over such a socket each write is a message. That of a tape with a long name, too, and of several."""
+        long = "./" * 300 + "first.lda"
+        for tape, *more in (["first.lda"], [long], [long, *["first.lda"] * 20]):
+            peer = self.console_at(Console())
+            self.begun = time.time()
+            ours, theirs = socket.socketpair(socket.AF_UNIX, socket.SOCK_SEQPACKET)
+            with ours:
+                with theirs:
+                    words = ["load", tape, peer.address, *more, "--quiet", str(self.quiet), "--log"]
+                    ran = subprocess.Popen([PROGRAM, *words], cwd=self.room, stdin=subprocess.DEVNULL, stdout=subprocess.DEVNULL, stderr=theirs)
+                    self.addCleanup(self.let_go, ran)
+                messages = [text_of(it) for it in iter(lambda: ours.recv(1 << 20), b"")]
+            self.is_so((ran.wait(60), len(messages)), (0, 1))
+            self.is_so(self.split(Answer(0, "", messages[0]))[1], f"load {' '.join([tape, *more])} {peer.address} status 0 {STARTED}")
 
 
 if __name__ == "__main__":

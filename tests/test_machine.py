@@ -186,8 +186,8 @@ class Machine(Case):
         it.hears("1002/001001 ")
 
     def test_the_halt_switch(self):
-        """Of a machine whose memory is bad, too."""
-        for options in ("--halt", "--halt --stuck 20000:0:1"):
+        """Of a machine whose memory is bad, or that takes its time, too."""
+        for options in ("--halt", "--halt --stuck 20000:0:1", "--halt --speed 9600"):
             it = self.switched_on(options)
             it.puts(words_of_hello())
             it.starts()
@@ -397,8 +397,9 @@ class Machine(Case):
             self.is_so([self.looks(it, other) for other in (0, 2, 0o4000, 0o4002, 0o1000, 0o10000)], [word] * 4 + [0, 0])
         self.switch_off()
         # What is bad of one is bad of the other, by whichever address it was asked for.
-        it = self.switched_on("--alias 15 --stuck 102000:3:1")
-        self.is_so([self.holds(it, address, 0) for address in (0o2000, 0o102000, 0o2002)], [0o10, 0o10, 0])
+        it = self.switched_on("--alias 15 --stuck 102000:3:1 --stuck 2000:5:1 --stuck 102000:0:0")
+        for word, stuck in ((0, 0o50), (0o177777, 0o177776)):
+            self.is_so([self.holds(it, address, word) for address in (0o2000, 0o102000, 0o2002)], [stuck, stuck, word])
 
     def test_a_program_in_bad_memory(self):
         """It meets what ODT does: a bit that is stuck, two addresses that are one, and no answer, which is a trap."""
@@ -438,16 +439,18 @@ class Machine(Case):
                 self.is_so(os.path.lexists(self.path("lsi11")), False)
 
     def test_a_cable_that_is_pulled(self):
-        """Behind ten keys and characters, while the program prints."""
-        it = self.switched_on("--break-after 1020")
-        it.puts(placed(ENDLESS))
-        passed = sum(len(f"{address:06o}/000000 {word:06o}\r\n@") + 14 for address, word in placed(ENDLESS).items())
-        it.types("001000G")
-        count = 1020 - passed - 7
-        self.is_so(it.hears("A" * (count - 7)), "001000G" + "A" * (count - 7))
-        self.assertTrue(self.waits(lambda: not os.path.lexists(self.path("lsi11"))))
-        with contextlib.suppress(OSError):
-            self.is_so(os.read(it.end, 64), b"")
+        """Behind ten keys and characters, while the program prints; at a machine that takes its time, too."""
+        for options in ("--break-after 1020", "--break-after 1020 --speed 9600"):
+            with self.subTest(options):
+                it = self.switched_on(options)
+                it.puts(placed(ENDLESS))
+                passed = sum(len(f"{address:06o}/000000 {word:06o}\r\n@") + 14 for address, word in placed(ENDLESS).items())
+                it.types("001000G")
+                count = 1020 - passed - 7
+                self.is_so(it.hears("A" * (count - 7)), "001000G" + "A" * (count - 7))
+                self.assertTrue(self.waits(lambda: not os.path.lexists(self.path("lsi11"))))
+                with contextlib.suppress(OSError):
+                    self.is_so(os.read(it.end, 64), b"")
 
     def test_what_was_answered_before_a_cable_is_pulled(self):
         """It can still be read a while later."""
@@ -466,6 +469,11 @@ class Machine(Case):
         path = self.path("nowhere/lsi11")
         told = subprocess.run([f"{TOP}/tools/machine", path], capture_output=True, text=True, timeout=60)
         self.is_so((told.returncode, told.stdout, told.stderr), (1, "", f"machine: cannot make {path}: No such file or directory\n"))
+
+    def test_a_cartridge_that_is_not_there(self):
+        told = subprocess.run([f"{TOP}/tools/machine", "--tu58", "nowhere", self.path("lsi11")], capture_output=True, text=True, timeout=60)
+        self.is_so((told.returncode, told.stderr.split("\n")[-2]), (2, "machine: error: argument --tu58: nowhere: No such file or directory"))
+        self.is_so(os.path.lexists(self.path("lsi11")), False)
 
     def test_numbers_past_their_limits(self):
         for words in ("--words -1", "--words 28673", "--loss 101", "--change -1", "--speed 0"):

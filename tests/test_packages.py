@@ -19,11 +19,13 @@ FILES = {
     "bin/ldaodt", "bin/ldaodt-serial", "share/man/man1/ldaodt.1", "share/man/man1/ldaodt-serial.1", "share/bash-completion/completions/ldaodt",
     "share/bash-completion/completions/ldaodt-serial", "share/zsh/site-functions/_ldaodt", "share/doc/ldaodt/README.md",
     "share/doc/ldaodt/CHANGELOG.md", "share/doc/ldaodt/docs/REAL-MACHINE.md", "share/doc/ldaodt/examples/hello.lda", "share/doc/ldaodt/tools/machine",
+    "share/doc/ldaodt/tools/tu58.py", "share/doc/ldaodt/examples/toolbox.md", "share/doc/ldaodt/examples/toolbox/tu58.words",
 }
 
 # The same in the tar.gz, below its folder.
 PACKED = {
     "ldaodt", "ldaodt-serial", "docs/ldaodt.1", "docs/ldaodt-serial.1", "README.md", "CHANGELOG.md", "docs/REAL-MACHINE.md", "examples/hello.lda", "tools/machine",
+    "examples/toolbox.md", "examples/toolbox/boards.words",
 }
 
 # What Debian calls this computer's processor.
@@ -146,6 +148,26 @@ class LaidOut(Case):
         self.assertEqual(self.files_below(usr), {"share/doc/other/README", "share/doc/ldaodt/docs/my-machine.md"})
         self.assertEqual(os.listdir(f"{usr}/share/doc/ldaodt"), ["docs"])
 
+    def test_what_can_be_run(self):
+        """The programs, and of the documents what can be run where they were taken; and everybody may read the rest."""
+        self.lay_out("install", f"{self.room}/usr")
+        archive = f"{self.top}/{self.lay_out('dist').strip()}"
+        subprocess.run(["tar", "-C", self.room, "-xpf", archive], check=True)
+        unpacked = f"{self.room}/{os.path.basename(archive).rpartition('-linux-')[0]}"
+        programs = {"bin/ldaodt", "bin/ldaodt-serial", "ldaodt", "ldaodt-serial", "tools/serial"}
+        for folder, documents in ((f"{self.room}/usr", "share/doc/ldaodt/"), (unpacked, "")):
+            for it in sorted(self.files_below(folder)):
+                source = f"{TOP}/{it.removeprefix(documents)}"
+                runs = it in programs or it.startswith(documents) and os.path.isfile(source) and os.stat(source).st_mode & 0o100
+                self.assertEqual((it, oct(os.stat(f"{folder}/{it}").st_mode & 0o777)), (it, oct(0o755 if runs else 0o644)))
+
+    def test_what_it_says_is_installed_is_there(self):
+        said = self.lay_out("install", f"{self.room}/usr").strip()
+        self.assertTrue(said.startswith("installed: "), said)
+        paths = said.removeprefix("installed: ").split(", ")
+        self.assertGreater(len(paths), 3)
+        self.assertEqual([it for it in paths if not os.path.exists(it)], [])
+
     def test_what_the_pages_point_to(self):
         """It is there where they are installed."""
         self.lay_out("install", f"{self.room}/usr")
@@ -219,7 +241,14 @@ class LaidOut(Case):
         """The C library whose newest name the program calls, and Python for what is Python's."""
         newest = max((int(one), int(other)) for one, other in re.findall(rb"GLIBC_(\d+)\.(\d+)\b", bytes_of(PROGRAM)))
         package = f"{self.top}/{self.lay_out('deb').strip()}"
-        self.assertEqual(self.told(package, "Depends", "Recommends"), "Depends: libc6 (>= {}.{})\nRecommends: python3 (>= 3.10)".format(*newest))
+        self.assertEqual(self.told(package, "Depends", "Recommends"), "Depends: libc6 (>= {}.{})\nRecommends: python3 (>= 3.10), picocom | tio | minicom".format(*newest))
+
+    def test_which_c_library_the_pages_and_a_package_ask_for(self):
+        """That of the newest name that the program calls."""
+        newest = max((int(one), int(other)) for one, other in re.findall(rb"GLIBC_(\d+)\.(\d+)\b", bytes_of(PROGRAM)))
+        wanted = ["{}.{}".format(*newest)]
+        self.assertEqual(re.findall(r"glibc (\d+\.\d+) or later", bytes_of(f"{TOP}/README.md").decode()), wanted)
+        self.assertEqual(re.findall(r"libc6 \(>= (\d+\.\d+)\)", bytes_of(f"{TOP}/tools/lay-out").decode()), wanted)
 
     def test_examples_that_are_installed(self):
         """They try the program that is on the path; and where there is none, they say so."""
@@ -242,7 +271,11 @@ class LaidOut(Case):
         subprocess.run(["tar", "-C", self.room, "-xf", archive], check=True)
         unpacked = f"{self.room}/{os.path.basename(archive).rpartition('-linux-')[0]}"
         self.lay_out("install", f"{self.room}/usr")
-        make = lambda word: subprocess.run(["make", word, f"PREFIX={self.room}/local"], cwd=unpacked, stdin=subprocess.DEVNULL, capture_output=True, check=True)
+        # Not told where it is by the make that may have begun this test, as `make test` does.
+        alone = {name: value for name, value in os.environ.items() if name not in ("MAKEFLAGS", "MAKELEVEL", "MFLAGS")}
+        make = lambda *words: subprocess.run(["make", *words, f"PREFIX={self.room}/local"], cwd=unpacked, stdin=subprocess.DEVNULL, capture_output=True, text=True, check=True, env=alone)
+        # There is nothing to build, as it says.
+        self.assertEqual(make().stdout, "nothing is built here: ./ldaodt is there, and make install installs it\n")
         make("install")
         self.assertEqual(self.files_below(f"{self.room}/local"), self.files_below(f"{self.room}/usr"))
         ran = subprocess.run([f"{self.room}/local/bin/ldaodt-serial", "--help"], stdin=subprocess.DEVNULL, capture_output=True, text=True, check=True)

@@ -13,6 +13,9 @@ from cases import Case, Console, DeafConsole, StoringConsole
 from commands import AT_A_MACHINE
 from outside import FIRST, HELLO, PROGRAM, TOP, run
 
+# What stands before a command.
+CALLED = r"(?:ldaodt|tools/serial \S+ \S+)"
+
 ROW = re.compile(r"^\|(.*)\|$", re.MULTILINE)
 
 
@@ -83,12 +86,12 @@ class Endings(Case):
     def setUp(self):
         super().setUp()
         self.page = text_at("docs/ENDINGS.md")
-        self.ends, self.commands_of = {}, {}
+        self.ends, self.commands_of, self.to_do = {}, {}, {}
         for cells in rows_of(section(self.page, "## Endings")):
-            name = re.match(r"`end (\w+)", cells[0])
+            name = re.match(r"`end (\w+)[ A]*`, (.*)", cells[0])
             if name:
-                self.ends[name[1]] = int(cells[-1])
-                self.commands_of[name[1]] = ALL if cells[1] == "all" else set(re.findall(r"`(\w+)`", cells[1]))
+                self.ends[name[1]], self.to_do[name[1]] = int(cells[1]), cells[3]
+                self.commands_of[name[1]] = ALL if name[2] == "all" else set(re.findall(r"`(\w+)`", name[2]))
         self.statuses = {int(cells[0]): cells[1] for cells in rows_of(section(self.page, "## Statuses")) if cells[0].isdecimal()}
 
     def test_each_ending_has_a_status_that_is_one(self):
@@ -119,27 +122,18 @@ class Endings(Case):
     def test_the_manual_page_says_the_same(self):
         page = text_at("docs/ldaodt.1")
         ends = page.split(".Sh ENDINGS")[1].split(".Sh EXIT STATUS")[0]
-        self.is_so(set(re.findall(r"^\.It Li (\w+)", ends, re.MULTILINE)), set(self.ends))
-        statuses = re.findall(r"^\.It (\d)\n(.*?)(?=^\.It|^\.El)", page.split(".Sh EXIT STATUS")[1].split(".Sh ")[0], re.MULTILINE | re.DOTALL)
-        self.is_so({int(it) for it, _ in statuses}, set(self.statuses))
-        said = {end: int(status) for status, text in statuses for end in ENDS.findall(text)}
-        self.is_so(said, {end: self.ends[end] for end in said})
-        self.is_so(set(said), set(self.ends) - {"none"})
+        self.is_so({end: int(status) for end, status in re.findall(r"^\.It Li (\w+).*\n(\d): ", ends, re.MULTILINE)}, self.ends)
+        statuses = re.findall(r"^\.It (\d)$", page.split(".Sh EXIT STATUS")[1].split(".Sh ")[0], re.MULTILINE)
+        self.is_so({int(it) for it in statuses}, set(self.statuses))
 
-    def test_the_way_to_a_machine_says_the_same(self):
-        """What to do at each ending of what is done with a machine."""
-        said = {}
-        for cells in rows_of(text_at("docs/REAL-MACHINE.md")):
-            name = re.fullmatch(r"`(\w+)(?: A+)?`", cells[0])
-            if name and name[1] in self.ends and len(cells) == 3:
-                said[name[1]] = int(cells[1])
-        self.is_so(said, {end: status for end, status in self.ends.items() if end != "none"})
+    def test_what_to_do_is_said_of_each_ending(self):
+        """Of each that comes of a machine."""
+        self.is_so({end for end, text in self.to_do.items() if not text}, {"none"})
 
     def test_what_may_be_the_cause_where_a_word_does_not_hold(self):
         """Not memory alone, but the line, too, and what tells which."""
-        told, = (cells[2] for cells in rows_of(text_at("docs/REAL-MACHINE.md")) if cells[0].startswith("`WontHold"))
         for word in ("memory chip", "or the line", "`--careful`", "`memory`"):
-            self.assertIn(word, told)
+            self.assertIn(word, self.to_do["WontHold"])
 
     def test_the_headline_names_its_premise(self):
         """Where it says what a line may do, it says what one must not."""
@@ -155,11 +149,18 @@ class Endings(Case):
         for heading in named:
             self.assertIn(f"\n### {heading}\n", page)
 
-    def test_each_fault_is_in_the_manual_page(self):
-        page = text_at("docs/ldaodt.1")
+    def test_each_fault_of_the_program_is_one(self):
+        """By the words of its line, up to a colon or a comma. And each that the manual page explains."""
         told = re.findall(r"`(ldaodt: [^`]*)`", "\n".join(cells[0] for cells in rows_of(section(self.page, "## Faults"))))
-        self.assertGreater(len(told), 12)
-        self.is_so(set(re.findall(r'^\.It Li "(ldaodt: .*)"$', page, re.MULTILINE)), {it for it in told if not it.startswith("ldaodt: tape K")})
+        text = "".join(text_at(f"crates/endings/src/{it}.rt") for it in ("line_words", "printing"))
+        words = re.findall(r'b"([^"]*[a-z ]{8}[^"]*)"', text)
+        said = {re.split("[:,]", next(filter(None, re.split(r"\\n|ldaodt: ", it))))[0].strip() for it in words}
+        self.assertGreater(len(said), 15)
+        # What the command line refuses before can't be met.
+        self.is_so({it for it in said if not any(it in row for row in told)}, {"machine too large"})
+        explained = set(re.findall(r'^\.It Li "(ldaodt: .*)"$', text_at("docs/ldaodt.1"), re.MULTILINE))
+        self.assertGreater(len(explained), 3)
+        self.assertLessEqual(explained, set(told))
 
 
 class Reasons(Case):
@@ -239,6 +240,110 @@ class Options(Case):
         self.assertGreater(compared, 15)
 
 
+HELP = "tests/help.md"
+
+# Numbers of the pages that are also the program's, a test's or a script's: where a page has one, and where else it stands, each with a
+# group for it. What the page of help says is the program's.
+SAID_TWICE = {
+    "docs/ldaodt.1": (
+        (r"Up to (\d+) of its words are looked at first", HELP, r"looks at up to (\d+) of its words first"),
+        (r"some (\d+) times as quick", HELP, r"some (\d+) times as quick"),
+        (r"as quick, from (\d+) words on", HELP, r"as quick, from (\d+) words on"),
+        (r"above the time of (\d+) characters", "tools/serial", r"needed=\$\(\((\d+) \* 11 "),
+        (r"both included, even and below (\d+)", HELP, r"Saves words .*? octal, even, below (\d+)"),
+        (r"leaves each (\d+) words that it has read", HELP, r"keeps each (\d+) words that were read"),
+        (r"The start of the tape, octal, by default (\d+)", HELP, r"an odd one starts nothing \[default: (\d+)\]"),
+        (r"The word that is tried: octal, even, below (\d+)", HELP, r"The word that is tried: octal, even, below (\d+)"),
+        (r"The word that is tried: .*?, by default (\d+)", HELP, r"The word that is tried: .*? \[default: (\d+)\]"),
+        (r"is a bank of (\d+) words", HELP, r"a row is a bank of (\d+) words"),
+        (r"The first (\d+) words that do not hold", HELP, r"The first (\d+) words that do not hold"),
+        (r"(\d+) keys end it", HELP, r"or after (\d+) keys"),
+        (r"[Nn]o ODT is there: (\d+) characters and silences", "crates/host_devices/src/turns.rt", r"MOST_TURNS: u64 = ([\d_]+);"),
+        (r"PastTop \(data above (\d+)\)", HELP, r"PastTop \(data above (\d+)\)"),
+        (r"transfer block\), TooLong \(more than (\d+) bytes\)", "tests/test_tapes.py", r"\nMOST = (\d+)\n"),
+        (r"PastTop \((\d+) or above\)", HELP, r"Saves words .*? octal, even, below (\d+)"),
+        (r"TooLong \(line 0: more than (\d+) bytes\)", "tests/test_make.py", r"\nMOST = (\d+)\n"),
+        (r"one of the tapes, or has more than (\d+) bytes", "tests/test_tapes.py", r"\nMOST = (\d+)\n"),
+    ),
+    "docs/REAL-MACHINE.md": (
+        (r"The whole memory\*\* is `0 (\d+)`", HELP, r"not below the first \[default: (\d+)\]"),
+        (r"From some (\d+) words on `--fast`", HELP, r"as quick, from (\d+) words on"),
+        (r"above the time of (\d+) characters", "tools/serial", r"needed=\$\(\((\d+) \* 11 "),
+        (r"characters .{0,30}: from 300 baud on (\d+) is", HELP, r"nothing more is coming, .*? \[default: (\d+)\]"),
+    ),
+    "docs/RECORD.md": ((r"looks first at up to (\d+) words of its record", HELP, r"looks at up to (\d+) of its words first"),),
+    "docs/LINE.md": (
+        (r"above the time of (\d+) characters", "tools/serial", r"needed=\$\(\((\d+) \* 11 "),
+        (r"of (\d+) bits 3\.4 seconds at 110 baud", "tools/serial", r"needed=\$\(\(34 \* (\d+) "),
+        (r"nothing more will; (\d+) by default", HELP, r"nothing more is coming, .*? \[default: (\d+)\]"),
+    ),
+}
+
+
+def flat(name):
+    """A page in one line, a manual page's without the marks of its words; a script or a test as it stands."""
+    text = text_at(name)
+    if name.endswith(".1"):
+        text = re.sub(r"^\.[A-Z][a-z] ", "", text, flags=re.MULTILINE)
+    return " ".join(text.split()) if name.endswith((".1", ".md")) else text
+
+
+class Numbers(Case):
+    """Numbers that pages have, and others, too."""
+
+    def test_what_is_said_twice(self):
+        for page, rows in SAID_TWICE.items():
+            for on_page, other, there in rows:
+                with self.subTest(page, row=on_page):
+                    told, known = (re.findall(pattern, flat(name), re.DOTALL) for pattern, name in ((on_page, page), (there, other)))
+                    self.assertTrue(told and known, (told, known))
+                    self.is_so(len({it.replace("_", "") for it in [*told, *known]}), 1)
+
+    def test_each_limit_of_the_manual_page_is_one_of_these(self):
+        """Those of three digits and more, beside ranges, defaults and what is shown to be typed, which others ask for."""
+        page = flat("docs/ldaodt.1").split(" DESCRIPTION ")[1].split(" EXAMPLES ")
+        page = f"{page[0]} {page[1].split(' DIAGNOSTICS ')[1]}".split(" SEE ALSO ")[0]
+        others = (r"\b(\d+) to \d+\b", r"\b\d+ to (\d+)\b", r"\bby default (?:it is |all )?(\d+)\b", r"\[::1\]:(2323)")
+        asked_for = {it.start(1) for pattern in (*others, *(it for it, *_ in SAID_TWICE["docs/ldaodt.1"])) for it in re.finditer(pattern, page)}
+        self.is_so([it[0] for it in re.finditer(r"\b\d{3,}\b", page) if it.start() not in asked_for], [])
+
+    def test_the_last_address(self):
+        """The one below the number that the manual page has is taken, and that is refused, where a word is saved, tried or tested."""
+        nobody = self.taken_port()
+        limit = int(re.search(r"both included, even and below (\d+)", flat("docs/ldaodt.1"))[1], 8)
+        for words in ("save new.lda LINE {0} {0}", "save new.lda LINE 0 {0}", "probe LINE --address {0}", "memory LINE {0} {0}", "memory LINE 0 {0}"):
+            for address, status in ((limit - 2, 4), (limit, 2)):
+                with self.subTest(words, address=address):
+                    self.is_so(self.ldaodt(words.format(f"{address:o}").replace("LINE", nobody)).status, status)
+
+    def test_where_a_program_is_started_by_hand(self):
+        """Where the tape starts it that a page loads: first.lda and hello.lda both at one address."""
+        starts = {re.search(r"^start (\d+)$", run(["check", it]).out, re.MULTILINE)[1] for it in (FIRST, HELLO)}
+        named = 0
+        for page in ("docs/REAL-MACHINE.md", "docs/PROBE.md", "docs/CONSOLE.md", "README.md", "examples/README.md"):
+            for start in re.findall(r"\b([0-7]{6})G\b", text_at(page)):
+                named += 1
+                self.is_so((page, {start}), (page, starts))
+        self.assertGreater(named, 1)
+
+    def test_how_long_characters_take(self):
+        """Of LINE what is told of two and of 34 characters, of 10 and 11 bits, at each speed."""
+        text, tried = flat("docs/LINE.md"), 0
+        for part, bits in ((re.search(r"the time of two characters \((.*?)\)", text)[1], 2 * 10), (re.search(r"of 11 bits (.*?)\. Where", text)[1], 34 * 11)):
+            for number, unit, speed in re.findall(r"(\d+(?:\.\d)?) ?(seconds|ms|) at (\d+)", part):
+                tried += 1
+                milliseconds = float(number) * (1 if unit == "ms" else 1000)
+                self.assertAlmostEqual(milliseconds, 1000 * bits / int(speed), delta=0.5 if unit == "ms" else 60, msg=(part, number, speed))
+        self.is_so(tried, 8)
+
+    def test_the_settings_of_a_bridge(self):
+        """ser2net reads a speed, a parity, bits and stop bits in one word; those of socat and of stty are the same."""
+        page = text_at("docs/LINE.md")
+        self.is_so(re.findall(r"serialdev,/dev/ttyUSB0,(\w+),local$", page, re.MULTILINE), ["9600n81"])
+        told = re.search(r"/dev/ttyUSB0,(b9600,\S*)", page)[1].split(",")
+        self.is_so(sorted(told), sorted("b9600 raw echo=0 cs8 parenb=0 cstopb=0 crtscts=0 clocal=1 hupcl=0".split()))
+
+
 CRATES = sorted(glob.glob(f"{TOP}/crates/*/src"))
 
 
@@ -266,12 +371,13 @@ class Crates(Case):
                 name, _, libraries = line.partition(":")
                 self.crates[name], self.floor_of[name] = libraries.split(), floor
 
-    def test_the_map_has_each_crate_on_its_floor(self):
-        told = {}
-        for part in section(text_at("docs/MAP.md"), "## The crates").split("\n**")[1:]:
-            floor = re.match(r"(?:Floor (\d+)|Tests)\*\*\n", part)
-            told.update({name: int(floor[1] or 99) for name in re.findall(r"^- `(\w+)`(?: \(for tests\))?: ", part, re.MULTILINE)})
-        self.is_so(told, self.floor_of)
+    def test_the_map_says_how_each_crate_is_listed(self):
+        """And names none that isn't there."""
+        part = section(text_at("docs/MAP.md"), "## The crates")
+        ran = subprocess.run(["bash", "-c", re.search("^```\n(.*?)^```$", part, re.MULTILINE | re.DOTALL)[1]], cwd=TOP, capture_output=True, text=True)
+        listed = re.findall(r"^crates/(\w+)/src/\w+\.rt://! \S", ran.stdout, re.MULTILINE)
+        self.is_so(sorted(listed), sorted(self.crates))
+        self.assertLessEqual({it for it in re.findall(r"`([a-z]+_\w+)`", part)} - {"_tests"}, set(self.crates))
 
     def test_each_crate_stands_on_lower_floors_alone(self):
         """And as low as that lets it."""
@@ -302,26 +408,31 @@ class Crates(Case):
         for name in self.crates:
             for file in glob.glob(f"{TOP}/crates/{name}/src/**/*.rt", recursive=True) if not name.endswith("_tests") else ():
                 for part in re.split(r"\bfn (?=\w)", text_at(os.path.relpath(file, TOP)))[1:]:
-                    if re.search(r"(?<!\bself)\.hear\(", part) and not part.startswith("hear("):
+                    if re.search(r"(?<!\bself)\.hear\(\)", part) and not part.startswith("hear("):
                         calls.add((name, re.match(r"\w+", part)[0]))
         self.is_so(calls, {("engine", "turn"), ("console_lines", "copy_next")})
 
     def test_each_function_and_clause_that_is_named_is_there(self):
-        """As `World::run`: `safe`, `since`; told: `drive_in_memory`; and functions with one clause, which has no name."""
-        crates, tests = defined_in(it for it in CRATES if "_tests/" not in it), defined_in(CRATES)
+        """As `World::run`: `safe`, `since`; `drive`: `driven`; and functions with one clause, which has no name."""
+        crates, page = defined_in(it for it in CRATES if "_tests/" not in it), text_at("docs/PROVED.md")
         named = 0
-        for cells in rows_of(text_at("docs/PROVED.md")):
+        for cells in rows_of(page.replace(section(page, "## What tells"), "")):
             if len(cells) != 2 or "`" not in cells[1]:
                 continue
-            carried, _, told = cells[1].partition(";")
-            functions, _, clauses = carried.replace("::", ".").partition(":")
-            wanted = [rf"ensures {it} \{{" for it in re.findall(r"`(\w+)`", clauses)] or [r"ensures"]
-            for function in re.findall(r"`(?:\w+\.)?(\w+)`", functions):
-                named += 1
-                self.assertTrue(any(all(re.search(it, body) for it in wanted) for body in crates[function]), f"{function} has no {clauses}")
-            for it in re.findall(r"`(\w+)`", told):
-                self.assertTrue(tests[it], f"{it} is not there")
-        self.assertGreater(named, 50)
+            for carried in cells[1].replace("::", ".").split(";"):
+                functions, _, clauses = carried.partition(":")
+                wanted = [rf"ensures {it} \{{" for it in re.findall(r"`(\w+)`", clauses)] or [r"ensures"]
+                for function in re.findall(r"`(?:\w+\.)?(\w+)`", functions):
+                    named += 1
+                    self.assertTrue(any(all(re.search(it, body) for it in wanted) for body in crates[function]), f"{function} has no {clauses}")
+        self.assertGreater(named, 90)
+
+    def test_what_tells_is_there(self):
+        """Of each clause of the table, by a name that tests may have alone."""
+        there, rows = defined_in(CRATES), rows_of(section(text_at("docs/PROVED.md"), "## What tells"))[2:]
+        self.assertGreater(len(rows), 8)
+        for function in re.findall(r"`(?:\w+::)?(\w+)`", " ".join(f"{clauses} {told}" for clauses, told in rows)):
+            self.assertTrue(there[function], f"{function} is not there")
 
     def test_promises_are_printed(self):
         ran = subprocess.run([f"{TOP}/tools/promises", "octal", "host_devices"], capture_output=True, text=True)
@@ -430,7 +541,8 @@ class Pasting(Case):
 
     def shell(self, words, block, room):
         """What a shell makes of a block that is typed into it."""
-        text = block.replace("/dev/ttyUSB0", "./ttyUSB0").replace("--listen 10", "--listen 1")
+        # At 300 baud, which a simulated machine's device does not mind, tools/serial leaves the quiet time alone.
+        text = block.replace("/dev/ttyUSB0", "./ttyUSB0").replace("--listen 10", "--listen 1").replace("tools/serial 9600 ", "tools/serial 300 ")
         env = {**os.environ, "PATH": f"{room}/bin:{os.environ['PATH']}"}
         return subprocess.run(words, input=text, text=True, cwd=room, env=env, capture_output=True, timeout=600, check=False)
 
@@ -471,7 +583,7 @@ class Pasting(Case):
 
     def test_each_load_that_is_shown_is_careful(self):
         """It costs no character more where whole words are deposited."""
-        loads = re.findall("ldaodt load .*", "".join(self.of_the_pages()))
+        loads = re.findall(f"{CALLED} load .*", "".join(self.of_the_pages()))
         self.assertGreaterEqual(len(loads), 5)
         self.is_so([it for it in loads if " --careful" not in it], [])
 
@@ -498,7 +610,7 @@ class Pasting(Case):
 
     def shown_before_a_load(self, command):
         blocks = [*self.of_the_pages(), *self.of_help(), *self.of_the_manual_page()]
-        return [it for it in blocks if re.search(rf"ldaodt {command} .*ldaodt load ", it, re.DOTALL)]
+        return [it for it in blocks if re.search(rf"{CALLED} {command} .*{CALLED} load ", it, re.DOTALL)]
 
     def test_no_load_behind_a_probe_that_warns(self):
         """At a console that stores: behind what the probe types there may be looks, and no digit is typed into a word."""

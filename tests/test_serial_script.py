@@ -51,9 +51,10 @@ SETTINGS = {
     "110/8n2": "110 raw -echo cs8 -parenb cstopb -crtscts clocal -hupcl",
 }
 
-# Baud, and the milliseconds of silence that the script asks for there; none where those of ldaodt itself will do. The first two as
-# docs/LINE.md has them.
-SLOW_LINES = {110: 4100, 150: 3193, 200: 2570, 300: None, 9600: None}
+# Baud, and the milliseconds of silence that the script asks for there; none where those of ldaodt itself will do. The first two, and the last,
+# as docs/LINE.md has them.
+QUICK_QUIET = 500
+SILENCES = {110: 4100, 150: 3193, 200: 2570, 300: None, 600: None, 1199: None, 1200: QUICK_QUIET, 9600: QUICK_QUIET, 115200: QUICK_QUIET}
 
 # What the program says where it is asked for help, as the page of transcripts has it.
 HELPS = dict(re.findall(r"^\$ ./ldaodt (\w+) --help\n(.*?)^```$", bytes_of(f"{TOP}/tests/help.md").decode(), re.MULTILINE | re.DOTALL))
@@ -143,7 +144,13 @@ TERMINAL_WORDS = {
     "minicom": "minicom -o -D DEVICE -b 9600",
 }
 
+# What a scan tries: each speed with 8 bits and no parity, and then with these.
 SPEEDS = "9600 300 1200 2400 4800 19200 38400 110".split()
+FRAMINGS = ["", "7e1", "8n2"]
+SETTINGS_TRIED = [f"{speed}/{framing}".rstrip("/") for framing in FRAMINGS for speed in SPEEDS]
+
+# The quiet times of a scan, and of ldaodt where none is given.
+SCAN_QUIET, OWN_QUIET = 500, 2000
 
 # A terminal that begins as picocom and tio do: what waits is thrown away. Before, it makes the machine say something; and again once
 # nobody else can be listening.
@@ -244,35 +251,51 @@ class Words(Script):
                 self.ends(self.serial(f"{speed} DEVICE verify a.lda --quiet 2000"), 0)
                 self.is_so(self.notes(), ["stty -F DEVICE clocal -hupcl", f"stty {words}", "DEVICE", "ldaodt verify a.lda DEVICE --quiet 2000"])
 
-    def test_the_quiet_time_of_a_slow_line(self):
-        """Where none is given it has the time of 34 characters of 11 bits and 0.7 seconds, if that is above the 2 that ldaodt takes itself;
-        and the script says so."""
-        for speed, milliseconds in SLOW_LINES.items():
+    def test_the_quiet_time_of_a_line(self):
+        """Where none is given a slow one has the time of 34 characters of 11 bits and 0.7 seconds, if that is above the 2 that ldaodt takes itself,
+        and the script says so; one that is quick enough has half a second."""
+        for speed, milliseconds in SILENCES.items():
             for words, called in (("load a.lda", "load%s a.lda DEVICE"), ("verify a.lda b.lda", "verify%s a.lda DEVICE b.lda"), ("probe", "probe%s DEVICE"),
                                   ("load -- a.lda", "load%s -- a.lda DEVICE")):
                 with self.subTest(speed, words=words):
-                    said = milliseconds and f"ldaodt-serial: --quiet {milliseconds}: at {speed} baud 34 characters take {milliseconds - 700} ms\n"
-                    self.ends(self.serial(f"{speed} DEVICE {words}"), 0, "", said or "")
+                    is_slow = milliseconds and speed < 300
+                    said = f"ldaodt-serial: --quiet {milliseconds}: at {speed} baud 34 characters take {milliseconds - 700} ms\n" if is_slow else ""
+                    self.ends(self.serial(f"{speed} DEVICE {words}"), 0, "", said)
                     self.is_so(self.notes()[-1], "ldaodt " + called % (f" --quiet {milliseconds}" if milliseconds else ""))
-        for words in ("load a.lda DEVICE --quiet 300", "load a.lda DEVICE --quiet=300"):
-            self.ends(self.serial(f"110 DEVICE {words.replace(' DEVICE', '')}"), 0)
-            self.is_so(self.notes()[-1], f"ldaodt {words}")
+        for speed in 110, 9600:
+            for words in ("load a.lda DEVICE --quiet 300", "load a.lda DEVICE --quiet=300"):
+                self.ends(self.serial(f"{speed} DEVICE {words.replace(' DEVICE', '')}"), 0)
+                self.is_so(self.notes()[-1], f"ldaodt {words}")
+
+    def test_it_is_above_what_a_stub_may_still_send(self):
+        """34 characters of 11 bits, at each speed: so that the next key meets ODT."""
+        for speed, milliseconds in SILENCES.items():
+            self.assertGreater(milliseconds or OWN_QUIET, 34 * 11 * 1000 / speed)
 
     def test_the_pages_have_the_same_words(self):
-        page = lambda name: bytes_of(f"{TOP}/docs/{name}").decode()
-        self.is_so(re.findall(r"^stty -F /dev/ttyUSB0 (9600 .*)$", page("REAL-MACHINE.md"), re.MULTILINE)[0], SETTINGS["9600"])
+        page = lambda name: " ".join(bytes_of(f"{TOP}/docs/{name}").decode().split())
+        machine, line, manual = page("REAL-MACHINE.md"), page("LINE.md"), page("ldaodt-serial.1")
+        self.is_so(re.findall(r"stty -F /dev/ttyUSB0 (9600 [^`]*-hupcl) ", machine)[0], SETTINGS["9600"])
+        with_parity, = re.findall(r"`(cs7 [^`]*)` for 7 bits with even parity", machine)
+        self.is_so(f"9600 raw -echo {with_parity} -cstopb -crtscts clocal -hupcl", SETTINGS["9600/7e1"])
+        self.is_so(re.findall(r"`(inpck [^`]*)`", line), ["inpck ignpar"])
         for speed in (110, 150):
-            self.assertIn(f"{SLOW_LINES[speed]} at {speed}", page("LINE.md"))
+            self.assertIn(f"{SILENCES[speed]} at {speed}", line)
+        self.is_so(re.findall(r"`--quiet (\d+)` from (\d+) baud on", line), [(str(QUICK_QUIET), "1200")])
+        self.is_so(re.findall(r"Fl -quiet (?:Ar )?(\d+) from (\d+) baud on", manual), [(str(QUICK_QUIET), "1200")])
+        self.is_so(re.findall(r"quiet time of (\d+) milliseconds", manual), [str(SCAN_QUIET)])
+        self.is_so(re.findall(r"\d+", re.search(r"Probes at (.*?) baud", manual)[1]), SPEEDS)
+        self.is_so(re.findall(r"[78][neo][12]", re.search(r"then at each with (.*?), up to", manual)[1]), [it for it in FRAMINGS if it])
 
     def test_where_the_device_stands(self):
         for words, called in PLACES:
             with self.subTest(words):
-                self.ends(self.serial(f"9600 DEVICE {words}"), 0)
+                self.ends(self.serial(f"300 DEVICE {words}"), 0)
                 self.is_so(self.notes()[-1], f"ldaodt {called.replace('LINE', 'DEVICE')}")
 
     def test_a_space_is_a_space(self):
         self.stand_in("ldaodt", text="#!/bin/bash\nprintf '%s\\n' \"$@\" >> \"$NOTES\"\n")
-        self.ends(self.serial(["9600", "DEVICE", "load", "a b.lda", "", "--record", "$HOME *"]), 0)
+        self.ends(self.serial(["300", "DEVICE", "load", "a b.lda", "", "--record", "$HOME *"]), 0)
         self.is_so(self.notes()[-6:], ["load", "a b.lda", "DEVICE", "", "--record", "$HOME *"])
 
     def test_help_of_a_command_sets_nothing(self):
@@ -326,6 +349,110 @@ class Words(Script):
             self.assertIn(word, given.out)
         self.is_so(re.findall(r"^  (\d+) +(.*)$", given.out, re.MULTILINE), STATUSES)
         self.ends(self.serial(""), 2, "", given.out)
+
+
+# A Python whose adapter has these flags, in a file, and may be refused a change of them.
+ADAPTER = f"""#!{sys.executable}
+import errno, fcntl, os, sys
+def ioctl(line, request, told):
+    assert os.ttyname(line) == os.environ["ADAPTER"], os.ttyname(line)
+    with open(os.environ["FLAGS"]) as file:
+        flags = int(file.read(), 8)
+    if request == 0x541E:
+        return told[:16] + flags.to_bytes(4, sys.byteorder) + bytes(range(20, len(told)))
+    assert request == 0x541F and told[20:] == bytes(range(20, len(told))), told
+    if "REFUSES" in os.environ:
+        raise OSError(errno.EPERM, "so")
+    with open(os.environ["FLAGS"], "w") as file:
+        file.write(f"{{int.from_bytes(told[16:20], sys.byteorder):o}}")
+fcntl.ioctl = ioctl
+assert sys.argv[1] == "-Ic", sys.argv
+code, sys.argv = sys.argv[2], ["-c", *sys.argv[3:]]
+exec(code, {{"__name__": "__main__"}})
+"""
+
+# The flags of an adapter as it comes, and the one for low latency.
+FLAGS, LOW_LATENCY = 0o100, 0o20000
+
+
+class Adapters(Script):
+    """Adapters that hold characters back: their flag for low latency, beside a stand-in for the calls, since no pseudo-terminal has it."""
+
+    TOLD = "ldaodt-serial: low latency while this runs\n"
+
+    def setUp(self):
+        super().setUp()
+        self.stand_in("bin/stty", "bin/minicom")
+        self.stand_in("bin/python3", text=ADAPTER)
+        self.stand_in("ldaodt", text='#!/bin/bash\ncat "$FLAGS"\n[ -t 3 ] || echo no device\necho " $*"\necho "end Started"\nexit "${ldaodt_ends-0}"\n')
+        self.flags(FLAGS)
+        text = bytes_of(self.path("tools/serial")).decode()
+        self.assertEqual(text.count("/sys/bus/usb-serial/devices/"), 1)
+        self.put("tools/serial", text.replace("/sys/bus/usb-serial/devices/", self.path("timers/")).encode())
+
+    def flags(self, flags=None):
+        if flags is not None:
+            self.put("flags", f"{flags:o}".encode())
+        return int(bytes_of(self.path("flags")), 8)
+
+    def asked(self, words="300 DEVICE load a.lda", **more):
+        return self.serial(words, env={"FLAGS": self.path("flags"), "ADAPTER": self.device, **more})
+
+    def held(self, milliseconds):
+        """An adapter whose timer is so long; returns what is told of it."""
+        timer = self.path(f"timers/{os.path.basename(self.device)}/latency_timer")
+        os.makedirs(os.path.dirname(timer), exist_ok=True)
+        self.put(os.path.relpath(timer, self.room), f"{milliseconds}\n".encode())
+        return f"ldaodt-serial: the adapter holds characters back for {milliseconds} ms: 'echo 1 | sudo tee {timer}' ends that\n"
+
+    def test_it_is_set_while_the_program_runs(self):
+        """And put back, however that ends; its status is the program's."""
+        for status in (0, 5):
+            given = self.asked(ldaodt_ends=str(status))
+            self.ends(given, status, f"{FLAGS | LOW_LATENCY:o} load a.lda {self.device}\nend Started\n", self.TOLD)
+            self.is_so(self.flags(), FLAGS)
+
+    def test_behind_a_load(self):
+        given = self.asked("300 DEVICE load a.lda --talk")
+        self.is_so((given.status, given.out.split("\n")[0], given.err.startswith(self.TOLD)), (0, f"{FLAGS | LOW_LATENCY:o} load --listen 1 a.lda {self.device}", True))
+        self.is_so((self.flags(), self.notes()[-1]), (FLAGS, "minicom -o -D DEVICE -b 300"))
+
+    def test_one_that_has_it_keeps_it(self):
+        self.flags(FLAGS | LOW_LATENCY)
+        self.held(1)
+        self.ends(self.asked(), 0, f"{FLAGS | LOW_LATENCY:o} load a.lda {self.device}\nend Started\n", "")
+        self.is_so(self.flags(), FLAGS | LOW_LATENCY)
+
+    def test_where_it_may_not_be(self):
+        """It is said what ends that, where a timer says that the adapter holds anything back; without Python, too."""
+        told = self.held(16)
+        for more in ({"REFUSES": "1"}, None):
+            if more is None:
+                os.remove(self.path("bin/python3"))
+            self.ends(self.asked(**(more or {})), 0, f"{FLAGS:o} load a.lda {self.device}\nend Started\n", told)
+        self.held(1)
+        self.ends(self.asked(), 0, f"{FLAGS:o} load a.lda {self.device}\nend Started\n", "")
+
+    def test_what_would_end_it_is_handed_on(self):
+        """To whom it was sent alone, or, as by Ctrl-C, to all; the flag is put back then, and the end is that of the program."""
+        for name, number in (("TERM", signal.SIGTERM), ("HUP", signal.SIGHUP), ("INT", signal.SIGINT)):
+            with self.subTest(name):
+                env = {**os.environ, "PATH": self.path("bin"), "NOTES": self.path("notes"), "HELPS": self.path("helps"), "FLAGS": self.path("flags"),
+                       "ADAPTER": self.device}
+                self.stand_in("ldaodt", text='#!/bin/bash\ntrap "kill %1; exit 41" TERM\ntrap "kill %1; exit 42" HUP\ntrap "kill %1; exit 43" INT\n'
+                              'cat "$FLAGS"; sleep 20 & echo " runs"; wait\n')
+                heed = lambda: [signal.signal(it, signal.SIG_DFL) for it in (signal.SIGINT, signal.SIGHUP, signal.SIGTERM)]
+                with subprocess.Popen([self.path("tools/serial"), "300", self.device, "probe"], cwd=self.room, env=env, stdin=subprocess.DEVNULL,
+                                      stdout=subprocess.PIPE, stderr=subprocess.DEVNULL, text=True, start_new_session=True, preexec_fn=heed) as ran:
+                    self.is_so(ran.stdout.readline(), f"{FLAGS | LOW_LATENCY:o} runs\n")
+                    (os.killpg if number == signal.SIGINT else os.kill)(ran.pid, number)
+                    ran.communicate(timeout=60)
+                self.is_so((ran.returncode, self.flags()), ({"TERM": 41, "HUP": 42, "INT": 43}[name], FLAGS))
+
+    def test_a_program_that_a_signal_ends(self):
+        """So ends the script."""
+        self.stand_in("ldaodt", text='#!/bin/bash\nkill -TERM $$\n')
+        self.is_so((self.asked().status, self.flags()), (-signal.SIGTERM, FLAGS))
 
 
 class Troubles(Script):
@@ -416,9 +543,13 @@ class Troubles(Script):
 
 # A program that says of a speed what the test has of it, and of any other that nothing was heard.
 PROBING = """#!/bin/bash
-speed=$(stty -F "${@: -1}" speed)
-echo "$speed: ldaodt $*" >> "$NOTES"
-report=report_$speed status=status_$speed
+setting=$(stty -F "${@: -1}" speed)
+case $(stty -F "${@: -1}" -a) in
+    *cs7*) setting+=/7e1 ;;
+    *' cstopb'*) setting+=/8n2 ;;
+esac
+echo "$setting: ldaodt $*" >> "$NOTES"
+report=report_${setting//\\//_} status=status_${setting//\\//_}
 printf %s "${!report-prompt no
 heard nothing
 help: docs/REAL-MACHINE.md, \"Nothing answers\"
@@ -436,18 +567,23 @@ OTHERS = "prompt yes\nheard @001000/0000000\nhelp: so\nend GaveUp\n"
 TALKS = "prompt no\nheard S\\r\\nMEMORY TEST PAS\nhelp: so\nend TurnsOver\n"
 BROKEN = "prompt yes\nstyle 0\nkeeps small letters not known\nforgets digits not known\nthe word at 001000 held 000000, now look at it\nend LineFailed\n"
 
-# The speed of a report, the report, its status; how many speeds are tried, how the scan ends, what it says of that speed, and what is
-# to be written then.
+# What a scan tries of a pseudo-terminal, which knows no 7 bits.
+TRIED = [it for it in SETTINGS_TRIED if not it.endswith("/7e1")]
+
+# The setting of a report, the report, its status; how many are tried, how the scan ends, what it says of that setting, and what is to be
+# written then.
 SCANS = (
     # The speeds that most have come first, and the last one is tried, too.
     (9600, PROBED, 0, 1, 0, "an ODT answers\n" + PROBED, "load TAPE"),
     (110, PROBED, 0, 8, 0, "an ODT answers\n" + PROBED, "load TAPE"),
+    ("9600/8n2", PROBED, 0, 9, 0, "an ODT answers\n" + PROBED, "load TAPE"),
+    ("110/8n2", PROBED, 0, 16, 0, "an ODT answers\n" + PROBED, "load TAPE"),
     # An ODT that may not be loaded answers, too; and so does one that has no word there, or is behind a bad line.
     (300, STORES, 5, 2, 0, "an ODT answers\n" + STORES, "probe"),
     (300, NO_WORD, 5, 2, 0, "an ODT answers\n" + NO_WORD, "probe"),
     (300, BAD_LINE, 5, 2, 0, "an ODT answers\n" + BAD_LINE, "probe"),
     # A prompt alone is none.
-    (300, PROMPT, 5, 8, 5, "no ODT, heard @001000/00000\n", None),
+    (300, PROMPT, 5, 16, 5, "no ODT, heard @001000/00000\n", None),
     # Longer numbers come at the right speed alone.
     (300, OTHERS, 5, 2, 5, "no ODT of 16 bits, heard @001000/0000000\n", None),
     # What never falls silent does so at no speed.
@@ -469,16 +605,32 @@ class Scans(Script):
 
     def test_what_is_tried_and_said(self):
         self.stand_in("ldaodt", text=PROBING)
-        for speed, report, status, count, ended, said, written in SCANS:
-            with self.subTest(speed, report=report):
-                given = self.serial("scan DEVICE", env={f"report_{speed}": report, f"status_{speed}": str(status)})
-                self.is_so(self.notes(), [f"{it}: ldaodt probe --quiet 500 DEVICE" for it in SPEEDS[:count]])
-                lines = {it: f"{it}: no ODT, heard nothing\n" for it in SPEEDS[:count]}
-                lines[str(speed)] = said if ended in (4, 7) else f"{speed}: {said}"
-                wanted = "".join(lines.values()) + (f"now write: {self.path('tools/serial')} {speed} {self.device} {written}\n" if written else "")
+        for setting, report, status, count, ended, said, written in SCANS:
+            with self.subTest(setting, report=report):
+                name = str(setting).replace("/", "_")
+                given = self.serial("scan DEVICE", env={f"report_{name}": report, f"status_{name}": str(status)})
+                self.is_so(self.notes(), [f"{it}: ldaodt probe --quiet {SCAN_QUIET} DEVICE" for it in TRIED[:count]])
+                lines = {it: f"{it}: no ODT, heard nothing\n" for it in TRIED[:count]}
+                lines[str(setting)] = said if ended in (4, 7) else f"{setting}: {said}"
+                if count > len(SPEEDS):
+                    lines[SPEEDS[-1]] += "9600/7e1: this device can't be set so\n"
+                wanted = "".join(lines.values()) + (f"now write: {self.path('tools/serial')} {setting} {self.device} {written}\n" if written else "")
                 self.is_so((given.status, given.out), (ended, wanted))
                 kind = " of 16 bits" if report == OTHERS else ""
                 self.is_so(given.err.split("\n")[0], f"ldaodt-serial: no ODT{kind} answers at {self.device}" if ended == 5 else "")
+
+    def test_settings_that_a_pseudo_terminal_does_not_know(self):
+        """With a `stty` that sets nothing each is tried in its turn, up to the one that answers, as it is set."""
+        os.remove(self.path("bin/stty"))
+        self.stand_in("bin/stty")
+        self.stand_in("ldaodt", text='#!/bin/bash\n[ "$(grep -c " cs7 " "$NOTES")" = 3 ] && '
+                      '{ echo "prompt yes"; echo "style 0"; exit 0; }\necho "heard nothing"\nexit 5\n')
+        given = self.serial("scan DEVICE")
+        tried = SETTINGS_TRIED[:SETTINGS_TRIED.index("1200/7e1") + 1]
+        self.is_so([it.split(":")[0] for it in given.out.splitlines() if re.match(r"\d+(/\w+)?: ", it)], tried)
+        self.is_so((given.status, given.out.splitlines()[-1]), (0, f"now write: {self.path('tools/serial')} 1200/7e1 {self.device} load TAPE"))
+        set_to = [it.removeprefix("stty ") for it in self.notes() if " raw " in it]
+        self.is_so(set_to[::len(set_to) - 1], [SETTINGS["9600"], SETTINGS["9600/7e1"].replace("9600", "1200")])
 
     def test_what_a_terminal_is_told(self):
         """How long it may take, once, and not what the program tells a terminal of each probe; its faults are handed on."""
@@ -487,7 +639,7 @@ class Scans(Script):
         with open(ours, "rb", buffering=0) as screen, open(theirs, "wb", buffering=0) as terminal:
             env = {**os.environ, "PATH": self.path("bin"), "NOTES": self.path("notes"), "HELPS": self.path("helps"), "tries": "1"}
             subprocess.run([self.path("tools/serial"), "scan", self.device], cwd=self.room, env=env, stdin=subprocess.DEVNULL, stdout=subprocess.DEVNULL, stderr=terminal, timeout=60)
-            self.is_so(screen.read(4096), b"ldaodt-serial: up to eight speeds, at each some seconds\r\na fault\r\n")
+            self.is_so(screen.read(4096), b"ldaodt-serial: up to 24 settings, at each some seconds\r\na fault\r\n")
 
     def test_what_is_to_be_written_can_be_written(self):
         """Names with a space, of the script and of its device: the line is one for a shell."""
@@ -500,7 +652,7 @@ class Scans(Script):
         self.notes()
         env = {**os.environ, "PATH": self.path("bin"), "NOTES": self.path("notes"), "HELPS": self.path("helps")}
         ran = subprocess.run(["bash", "-c", written], cwd=self.room, env=env, capture_output=True, timeout=60)
-        self.is_so((ran.returncode, self.notes()), (5, ["9600: ldaodt probe ./my line"]))
+        self.is_so((ran.returncode, self.notes()), (5, ["9600: ldaodt probe --quiet 500 ./my line"]))
 
     def test_an_interrupt(self):
         """Ctrl-C ends the scan, and no other speed is tried."""
@@ -580,6 +732,25 @@ class Terminals(Script):
                 self.is_so(self.serial("9600 DEVICE load a.lda --talk", env=more).status, status)
                 self.is_so([it for it in [*self.notes(), *os.listdir(self.room)] if it.startswith("tmp.")], [])
 
+    def test_nothing_is_left_behind_where_a_name_has_a_space(self):
+        """Nor does anything else go: what stands beside that by a part of its name."""
+        self.stand_in("bin/minicom")
+        for name in ("a b", "a"):
+            os.mkdir(self.path(name))
+        for words in ("talk", "load a.lda --talk"):
+            self.is_so(self.serial(f"300 DEVICE {words}", env={"TMPDIR": self.path("a b")}).status, 0)
+            self.is_so((os.listdir(self.path("a b")), os.path.isdir(self.path("a"))), ([], True))
+
+    def test_what_was_said_before_at_a_device_whose_name_has_a_space(self):
+        """It is shown, as at any other."""
+        os.symlink(self.device, self.path("tty USB0"))
+        for terminal in ("picocom", "tio"):
+            self.stand_in(f"bin/{terminal}")
+            os.write(self.ours, b"KEPT\n")
+            given = self.serial(["300", "./tty USB0", "load", "a.lda", "--talk"])
+            self.is_so((given.status, given.out), (0, "KEPT\n"))
+            os.remove(self.path(f"bin/{terminal}"))
+
     def test_behind_an_interrupt(self):
         """Ctrl-C ends the program's listening alone; what it says then is heard, and the terminal begins."""
         self.stand_in("bin/minicom")
@@ -612,13 +783,12 @@ class Terminals(Script):
             ("load a.lda --listen=5 --talk", "load a.lda DEVICE --listen=5"),
         ):
             with self.subTest(words):
-                self.is_so(self.serial(f"9600 DEVICE {words}", env={"minicom_ends": "3"}).status, 3)
-                self.is_so(self.notes()[-2:], [f"ldaodt {called}", "minicom -o -D DEVICE -b 9600"])
+                self.is_so(self.serial(f"300 DEVICE {words}", env={"minicom_ends": "3"}).status, 3)
+                self.is_so(self.notes()[-2:], [f"ldaodt {called}", "minicom -o -D DEVICE -b 300"])
         # 130 is an interrupt, here of a load that started nothing.
         for status in (*range(1, 8), 130):
-            self.ends(self.serial("9600 DEVICE load a.lda --talk", env={"ldaodt_ends": str(status)}), status)
+            self.ends(self.serial("300 DEVICE load a.lda --talk", env={"ldaodt_ends": str(status)}), status)
             self.is_so(self.notes()[-1], "ldaodt load --listen 1 a.lda DEVICE")
-
 
     def test_behind_a_load_at_a_slow_line(self):
         """It has the quiet time of that, too."""
@@ -700,7 +870,7 @@ class Machines(Script):
     def test_beside_a_load(self):
         """The load goes on at its speed."""
         line = self.machine(Console())
-        first = self.begin("1200 DEVICE load first.lda --quiet 3000")
+        first = self.begin("1200 DEVICE load first.lda --quiet 10000")
         self.until_it_loads(first, line)
         for words in ("300 DEVICE probe", "scan DEVICE", "300 DEVICE load first.lda"):
             given = self.serial(words)
@@ -784,9 +954,13 @@ class Installed(Script):
 
     def test_below_a_folder_and_gone_again(self):
         self.lay_out("install", self.path("a prefix"))
-        self.ends(self.serial("9600 DEVICE probe", script=self.path("a prefix/bin/ldaodt-serial")), 0)
+        self.ends(self.serial("300 DEVICE probe", script=self.path("a prefix/bin/ldaodt-serial")), 0)
         self.is_so(self.notes()[-1], "ldaodt probe DEVICE")
         self.assertTrue(os.path.exists(self.path("a prefix/share/man/man1/ldaodt-serial.1")))
+        # What it says names the page that is installed.
+        given = self.serial(["300", "./nothing/it", "probe"], script=self.path("a prefix/bin/ldaodt-serial"), env={"stty_says": "so", "stty_ends": "1"})
+        named = given.err.split("\n")[1].split(", step")[0]
+        self.is_so((given.status, named), (4, self.path("a prefix/share/doc/ldaodt/docs/REAL-MACHINE.md")))
         self.lay_out("uninstall", self.path("a prefix"))
         self.is_so([name for _, _, files in os.walk(self.path("a prefix")) for name in files], [])
 
@@ -798,8 +972,10 @@ class Installed(Script):
         archive = self.lay_out("dist").strip()
         subprocess.run(["tar", "-C", self.room, "-xf", f"{self.top}/{archive}"], check=True)
         for name in ("ldaodt-serial", "tools/serial"):
-            self.ends(self.serial("9600 DEVICE probe", script=self.path(f"ldaodt-0.0.0/{name}")), 0)
+            self.ends(self.serial("300 DEVICE probe", script=self.path(f"ldaodt-0.0.0/{name}")), 0)
             self.is_so(self.notes()[-1], "probe DEVICE")
+            given = self.serial(["300", "./nothing/it", "probe"], script=self.path(f"ldaodt-0.0.0/{name}"), env={"stty_says": "so", "stty_ends": "1"})
+            self.is_so(given.err.split("\n")[1].split(", step")[0], self.path("ldaodt-0.0.0/docs/REAL-MACHINE.md"))
         self.assertTrue(os.path.exists(self.path("ldaodt-0.0.0/docs/ldaodt-serial.1")))
 
 

@@ -1,13 +1,15 @@
 """What the program asks of the system, call by call: what may happen between two calls, what a call may answer, and in which
 order they come. No contract says that of a system's own files, sockets and devices, which tell nothing of what they hold.
 """
+import collections
 import errno
 import os
 import stat
 import unittest
 
 from cases import Case, Console
-from outside import Answer, bytes_of, fault, tape_of
+import odt_peer
+from outside import NO_OUTPUT, Answer, bytes_of, fault, tape_of
 import traced
 
 VERIFIED, MARKED = "LDAODT 2\n001000 011064\n", "LDAODT 2\n001000 011064\nG\n"
@@ -237,6 +239,77 @@ class Answers(Calls):
         self.ends(given, 0, "sent 17 spent 0 read 1 of 1\nend Saved\n")
         self.is_so(bytes_of(self.path("a.lda")), tape_of([(0o1000, b"\x34\x12")]))
 
+    def test_a_read_that_is_interrupted_again_and_again(self):
+        """As that of a run which is held and let go. It is made again, up to 4,095 times, each time for what may still come."""
+        for times in (1, 5, 4095):
+            left = [times]
+
+            def before(call, left=left):
+                if call.name == "recvfrom" and call.file().startswith("socket:") and left[0]:
+                    left[0] -= 1
+                    return call.fails(errno.EINTR)
+
+            with self.subTest(times):
+                self.ends(self.load(self.console_at(Console()), before, ""), 0, STARTED)
+                self.is_so(left, [0])
+
+    def test_a_tape_that_no_second_name_can_be_given(self):
+        """Not by its file system, or not any more: it is renamed, where its name is still free. Where that can't be told it is not taken."""
+        for error in (errno.EPERM, errno.EOPNOTSUPP, errno.EMLINK):
+            for looks_fail in (False, True):
+                linked = []
+
+                def before(call, error=error, looks_fail=looks_fail, linked=linked):
+                    if call.name == "link":
+                        linked.append(call.name)
+                        return call.fails(error)
+                    return call.fails(errno.EACCES) if looks_fail and linked and call.looked_at() == "a.lda" else None
+
+                with self.subTest(errno.errorcode[error], looks_fail=looks_fail):
+                    given = self.ask(self.console_at(Console(memory=HELD)), "save a.lda LINE 1000 1000", before)
+                    text, name = tape_of([(0o1000, b"\x34\x12")]), "a.lda.part" if looks_fail else "a.lda"
+                    self.is_so((len(linked), given.status, given.err.split("\n")[0]), (1, *((4, "ldaodt: cannot write a.lda") if looks_fail else (0, ""))))
+                    self.is_so([it for it in sorted(os.listdir(self.room)) if it.startswith("a.")], [name])
+                    self.is_so(bytes_of(self.path(name)), text)
+                    os.remove(self.path(name))
+
+    def test_a_name_that_can_not_be_looked_for(self):
+        """There may be a file: no tape is made for it, and nothing is typed."""
+        line = self.console_at(Console())
+        given = self.ask(line, "save a.lda LINE 1000 1000", lambda call: call.fails(errno.EACCES) if call.looked_at() == "a.lda" else None)
+        self.ends(given, 4, "", fault("cannot write a.lda", errno.EACCES))
+        self.holds({})
+        self.is_so((line.connections, line.machine.typed), (0, ""))
+
+    def test_a_new_record_that_somebody_holds(self):
+        """Another load has just made it: it is left alone, and the record is written where it is."""
+        self.put("a.record", VERIFIED.encode())
+        number, made = os.stat(self.path("a.record")).st_ino, []
+
+        def before(call):
+            if call.name == "flock" and call.file() == "a.record.ldaodt-new":
+                made.append(os.stat(self.path("a.record.ldaodt-new")).st_ino)
+                return call.fails(errno.EWOULDBLOCK)
+
+        self.ends(self.load(self.console_at(Console(memory=HELD)), before), 0, STOOD)
+        self.is_so((os.stat(self.path("a.record")).st_ino, len(made), bytes_of(self.path("a.record")).decode()), (number, 1, MARKED))
+
+    def test_a_record_that_is_another_file_at_each_look(self):
+        """Eight times it is opened anew; then somebody else is at work with it."""
+        held = []
+
+        def before(call):
+            if call.name == "flock":
+                held.append(call.file())
+            elif held and call.looked_at() == "a.record":
+                return call.finds_another_file(traced.INODE)
+
+        self.put("a.record", VERIFIED.encode())
+        line = self.console_at(Console(memory=HELD))
+        self.ends(self.load(line, before), 4, "", "ldaodt: record in use: a.record\n")
+        self.holds({"a.record": VERIFIED})
+        self.is_so((held, line.connections), (["a.record"] * 8, 0))
+
     def test_a_record_that_can_not_be_gone_back_in(self):
         """Behind a link it would be written over: what is written behind it instead would be a part of it."""
         line = self.console_at(Console(memory=HELD))
@@ -245,6 +318,33 @@ class Answers(Calls):
         given = self.load(line, lambda call: call.fails(errno.EIO) if call.name == "lseek" and call.file() == "b.record" else None)
         self.ends(given, 4, "", fault("cannot write a.record", errno.EIO))
         self.is_so((bytes_of(self.path("b.record")).decode(), line.machine.typed), (VERIFIED, LOOKED))
+
+    def test_a_read_that_is_interrupted_has_no_reason(self):
+        """Of each kind of input: it is told that it could not be read, and not that a call was interrupted, which nobody could mend."""
+        self.put("a.record", VERIFIED.encode())
+        self.put("a.script", b"clean\n")
+        self.put("a.words", b"1000/1\n")
+        line = self.console_at(Console())
+        for name, words in (("first.lda", "check first.lda"), ("a.script", "rehearse first.lda a.script"), ("a.words", "make b.lda a.words"),
+                            ("a.record", f"load first.lda {line.address} --record a.record")):
+            interrupted = lambda call, name=name: call.fails(errno.EINTR) if call.name == "read" and call.file() == name else None
+            with self.subTest(words):
+                self.ends(traced.run(words.split(), interrupted, cwd=self.room), 4, "", fault(f"cannot read {name}"))
+        line.settle()
+        self.is_so(line.machine.typed, "")
+
+    def test_a_terminal_that_takes_the_front_of_a_line(self):
+        """And no more: though the end of a line was given, it did not come, and the program ends the line, for the shell's prompt to begin one."""
+        taken = []
+
+        def before(call):
+            if call.name == "write" and call.arguments[0] == 1:
+                taken.append(call)
+                return call.takes(1) if len(taken) == 1 else call.fails(errno.EIO)
+            return None
+
+        given, shown = self.at_a_terminal(lambda it: traced.run(["check", "first.lda"], before, cwd=self.room, stdout=it, stderr=it))
+        self.is_so((given.status, shown), (4, f"b{NO_OUTPUT}\n".replace("\n", "\r\n")))
 
     def test_what_was_made_in_vain_and_can_not_be_removed(self):
         """A full disk takes no byte of a record or of a tape, or nobody listens: that is told, and not why what was made for it stays."""
@@ -484,6 +584,22 @@ class Orders(Calls):
             found.clear()
             given = traced.run(["load", "first.lda", address, "--quiet", str(self.quiet)], lambda call: found.append(call.name), cwd=self.room)
             self.is_so((given.status, found.count("connect")), (status, 1))
+
+    def test_much_is_read_at_once(self):
+        """Of a tape as much as there is room for, and the rest of a block of 57,344 bytes whole; what a console has answered to a key with one
+        read."""
+        self.put("full.lda", tape_of([(0, b"\x55" * 57344)]))
+        counts = collections.Counter()
+
+        def before(call):
+            if call.name in ("read", "recvfrom"):
+                counts["line" if call.file().startswith("socket:") else call.file()] += 1
+
+        given = traced.run(["load", "full.lda", "127.0.0.1:1"], before, cwd=self.room)
+        self.is_so((given.status, 0 < counts["full.lda"] <= 3), (4, True))
+        line = self.until_the_end(odt_peer.Peer(Console(), at_once=True))
+        self.ends(self.load(line, before, ""), 0, STARTED)
+        self.assertLessEqual(counts["line"], 1 + 30)
 
     def test_a_key_is_a_packet_of_its_own(self):
         """The socket is told so before the first key."""

@@ -6,6 +6,7 @@ import ctypes
 import os
 import platform
 import signal
+import socket
 import struct
 import subprocess
 
@@ -15,10 +16,10 @@ import outside
 class X86:
     """The numbers of the calls that tests know by name, and where a process's registers have a call."""
 
-    NAMES = {1: "write", 2: "open", 8: "lseek", 16: "ioctl", 42: "connect", 44: "sendto", 54: "setsockopt", 72: "fcntl", 73: "flock", 74: "fsync",
-             75: "fdatasync", 77: "ftruncate", 82: "rename", 86: "link", 87: "unlink", 91: "fchmod", 257: "openat", 263: "unlink", 264: "renameat", 265: "link",
-             316: "renameat2", 332: "statx"}
-    POKE, NUMBER, ANSWER, ARGUMENTS = 6, 8 * 15, 8 * 10, (8 * 14, 8 * 13, 8 * 12)
+    NAMES = {0: "read", 1: "write", 2: "open", 3: "close", 8: "lseek", 16: "ioctl", 41: "socket", 42: "connect", 44: "sendto", 45: "recvfrom", 54: "setsockopt",
+             72: "fcntl", 73: "flock", 74: "fsync", 75: "fdatasync", 77: "ftruncate", 82: "rename", 86: "link", 87: "unlink", 91: "fchmod", 257: "openat",
+             263: "unlink", 264: "renameat", 265: "link", 316: "renameat2", 332: "statx"}
+    POKE, NUMBER, ANSWER, ARGUMENTS = 6, 8 * 15, 8 * 10, (8 * 14, 8 * 13, 8 * 12, 8 * 7)
 
     def put(self, process, place, value):
         ptrace(self.POKE, process, place, value)
@@ -27,10 +28,11 @@ class X86:
 class Arm:
     """The same of 64-bit ARM: its registers come and go as a whole, and a call's number is none of them."""
 
-    NAMES = {25: "fcntl", 29: "ioctl", 32: "flock", 35: "unlink", 37: "link", 38: "renameat", 46: "ftruncate", 52: "fchmod", 56: "openat", 62: "lseek",
-             64: "write", 82: "fsync", 83: "fdatasync", 203: "connect", 206: "sendto", 208: "setsockopt", 276: "renameat2", 291: "statx"}
+    NAMES = {25: "fcntl", 29: "ioctl", 32: "flock", 35: "unlink", 37: "link", 38: "renameat", 46: "ftruncate", 52: "fchmod", 56: "openat", 57: "close",
+             62: "lseek", 63: "read", 64: "write", 82: "fsync", 83: "fdatasync", 198: "socket", 203: "connect", 206: "sendto", 207: "recvfrom", 208: "setsockopt",
+             276: "renameat2", 291: "statx"}
     GET, SET, REGISTERS, COUNT = 0x4204, 0x4205, 1, 34
-    NUMBER, ANSWER, ARGUMENTS = 0x404, 0, (0, 1, 2)
+    NUMBER, ANSWER, ARGUMENTS = 0x404, 0, (0, 1, 2, 3)
 
     def put(self, process, place, value):
         if place == self.NUMBER:
@@ -95,13 +97,21 @@ class Call:
         """The number that it gives a socket's option."""
         return int.from_bytes(self.bytes(self.arguments[3], 4), "little")
 
+    def path(self):
+        """What its first argument has open: a file's path, or what the system calls it."""
+        return os.readlink(f"/proc/{self.process}/fd/{self.arguments[0]}")
+
     def file(self):
-        """What its first argument has open: a file's name, or what the system calls it."""
-        return os.path.basename(os.readlink(f"/proc/{self.process}/fd/{self.arguments[0]}"))
+        """The same without the folder."""
+        return os.path.basename(self.path())
 
     def takes(self, count):
         """A write is of so many bytes at most."""
         PROCESSOR.put(self.process, PROCESSOR.ARGUMENTS[2], min(count, self.arguments[2]))
+
+    def waits_for_nothing(self):
+        """A read of a socket is answered at once: by what has come, or as one whose time is over."""
+        PROCESSOR.put(self.process, PROCESSOR.ARGUMENTS[3], self.arguments[3] | socket.MSG_DONTWAIT)
 
     def fails(self, error):
         """The system is not asked; the call's answer is this error."""
@@ -147,10 +157,10 @@ def run(words, before, seconds=60, **more):
     """Runs the program; `before` is told of each call before it is made, and what it returns is the call's answer in place of
     the system's, or is called once the system has answered. The thread that calls this follows the process, which is killed
     where it does not end in time."""
-    with subprocess.Popen([outside.PROGRAM, *words], stdin=subprocess.DEVNULL, stdout=subprocess.PIPE, stderr=subprocess.PIPE, **more,
-                          preexec_fn=lambda: (signal.alarm(seconds), ptrace(TRACED))) as process:
+    how = {"stdin": subprocess.DEVNULL, "stdout": subprocess.PIPE, "stderr": subprocess.PIPE, **more}
+    with subprocess.Popen([outside.PROGRAM, *words], **how, preexec_fn=lambda: (signal.alarm(seconds), ptrace(TRACED))) as process:
         process.returncode = follow(process.pid, before)
-        out, err = (outside.text_of(pipe.read()) for pipe in (process.stdout, process.stderr))
+        out, err = (outside.text_of(pipe.read()) if pipe else "" for pipe in (process.stdout, process.stderr))
     return outside.Answer(process.returncode, out, err)
 
 

@@ -2,11 +2,11 @@
 
 It is written from the definition of the PDP-11 alone and shares no line of text with `ldaodt`, so that a test may compare the two.
 It knows each instruction of an LSI-11 but those of EIS and FIS, which trap as reserved ones, in all addressing modes, with its
-traps, the trace bit and the console's interrupts. There is no line clock and no other device: a reference to them, or to memory
-that isn't there, traps through 000004. Where models of the PDP-11 differ it does as an LSI-11.
+traps, the trace bit and the console's interrupts. There is no line clock, and no other board but those that are put on the bus: a
+reference to them, or to memory that isn't there, traps through 000004. Where models of the PDP-11 differ it does as an LSI-11.
 
     Processor     registers, condition codes, and one method for each group of instructions
-    Bus           memory, and the registers of the serial line
+    Bus           memory, the registers of the serial line, and those of further boards
     SerialLine    a receiver of one character and a transmitter of one
     Computer      these three, and the time, which is counted in instructions
 
@@ -131,7 +131,7 @@ class SerialLine:
 
 
 class Bus:
-    """What an address leads to: memory, a list of words from 000000 on, or a register of the serial line.
+    """What an address leads to: memory, a list of words from 000000 on, or a register of the serial line or of a further board.
 
     An LSI-11 takes the address of a word without its lowest bit; other models trap at an odd one."""
 
@@ -139,8 +139,27 @@ class Bus:
 
     def __init__(self, words, line, odd_addresses_trap):
         self.words, self.line, self.odd_addresses_trap = words, line, odd_addresses_trap
-        # It grows with each word that gets another value.
+        # What answers at an even address where no memory is: it reads and writes the register of that address, and is reset.
+        self.boards = dict.fromkeys(self.REGISTERS, line)
+        # It grows with each word that gets another value, and with each question to a further board, whose next answer may be another.
         self.changes = 0
+
+    def put(self, board, registers):
+        """Puts a board onto the bus, which answers at these addresses."""
+        self.boards |= dict.fromkeys(registers, board)
+
+    def reset(self):
+        """Resets each board."""
+        for board in set(self.boards.values()):
+            board.reset()
+
+    def board(self, address):
+        """The board that answers at an address."""
+        board = self.boards.get(address & ~1)
+        if board is None:
+            raise Trap(BUS_ERROR)
+        self.changes += board is not self.line
+        return board
 
     def read(self, address, size):
         """Reads a word or a byte."""
@@ -148,10 +167,8 @@ class Bus:
             raise Trap(BUS_ERROR)
         if address < 2 * len(self.words):
             word = self.words[address >> 1]
-        elif address & ~1 in self.REGISTERS:
-            word = self.line.read(address & ~1)
         else:
-            raise Trap(BUS_ERROR)
+            word = self.board(address).read(address & ~1)
         return word if size == 2 else word >> 8 if address & 1 else word & BYTE
 
     def write(self, address, value, size):
@@ -165,10 +182,10 @@ class Bus:
             if value != word:
                 self.words[address >> 1] = value
                 self.changes += 1
-        elif address & ~1 not in self.REGISTERS:
-            raise Trap(BUS_ERROR)
-        elif size == 2 or not address & 1:
-            self.line.write(address & ~1, value)
+        else:
+            board = self.board(address)
+            if size == 2 or not address & 1:
+                board.write(address & ~1, value)
 
 
 # What a branch asks the condition codes for, by the high byte of the instruction.
@@ -543,7 +560,7 @@ class Processor:
 
     def reset(self, _instruction):
         """RESET of the bus."""
-        self.bus.line.reset()
+        self.bus.reset()
 
 
 # The first and the last word of each group of instructions, and the method that executes it. Other words are reserved.
@@ -639,7 +656,7 @@ class Computer:
 
     def start(self, address):
         """Starts at an address, behind a reset of the bus, with a status of 0. Registers R0 to R6 stay what they are."""
-        self.line.reset()
+        self.bus.reset()
         self.processor.registers[PC], self.processor.status = address, 0
         self.processor.is_waiting, self.is_running, self.is_waiting = False, True, False
 

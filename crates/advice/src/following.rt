@@ -3,21 +3,15 @@
 use crate::instead::{BLOCK, RUBOUT};
 use endings::write_name;
 use std::alloc::Global;
-use std::fmt;
+use std::io;
 use std::io::{Print, Write};
 use tape_blocks::read_with_layout;
 
 // Where nothing is punched; a leader is of that or of rubouts.
 const BLANK: u8 = 0o000;
 
-// How many bytes of a block stand before its address.
-const ADDRESS_AT: usize = 4;
-
-// Where the first block of an object module seems to belong: so its kind is written, which is 1.
-const FIRST_OF_MODULE: [u8; 2] = [1, 0];
-
 // What the bytes behind a tape look like.
-#[derive(Clone, Copy, Debug, PartialEq, Eq)]
+#[derive(Clone, Copy)]
 enum Content {
     // A block of another tape.
     Tape,
@@ -27,25 +21,6 @@ enum Content {
 
     // Anything else.
     Unknown,
-}
-
-// That so many bytes of a file follow its tape, as it is told behind the file's name.
-#[derive(Clone, Copy)]
-struct Followed {
-    bytes: u64,
-    content: Content,
-}
-
-impl fmt::Display for Followed {
-    fn fmt<W: fmt::Write>(&self, f: &mut fmt::Formatter<W>) -> fmt::Result {
-        let bytes = self.bytes;
-        write!(f, "{bytes} bytes follow the tape: ")?;
-        match self.content {
-            Content::Tape => write!(f, "another tape, which 'tail -c {bytes} FILE > TAPE' makes"),
-            Content::Module => f.write_str("this is an object module, and no tape: link it"),
-            Content::Unknown => f.write_str("they belong to no tape"),
-        }
-    }
 }
 
 /// Tells whoever waits at a terminal what follows the tape in a file of so many bytes, where anything does but a
@@ -65,13 +40,23 @@ pub fn say_what_follows<T: Print>(
         return;
     };
     let taken = text.len() as u64 - (behind.len() as u64).min(text.len() as u64);
-    let followed = Followed {
-        bytes: length.saturating_sub(taken),
-        content,
-    };
+    let bytes = length.saturating_sub(taken);
     let mut line = Vec::new(alloc);
-    if write_name(&mut line, name).is_ok() && writeln!(line, ": {followed}").is_ok() {
+    if write_name(&mut line, name).is_ok() && write_followed(&mut line, bytes, content).is_ok() {
         let _ = terminal.write_all(&line);
+    }
+}
+
+// Writes behind a file's name that so many bytes follow its tape.
+fn write_followed(line: &mut Vec<u8>, bytes: u64, content: Content) -> io::Result<()> {
+    write!(line, ": {bytes} bytes follow the tape: ")?;
+    match content {
+        Content::Tape => writeln!(
+            line,
+            "another tape, which 'tail -c {bytes} FILE > TAPE' makes"
+        ),
+        Content::Module => line.write_all(b"this is an object module, and no tape: link it\n"),
+        Content::Unknown => line.write_all(b"they belong to no tape\n"),
     }
 }
 
@@ -89,14 +74,10 @@ fn content_of(text: &[u8], behind: &[u8]) -> Option<Content> {
     Some(Content::Tape)
 }
 
-// Whether the first block of a text is that of an object module.
+// Whether the first block of a text is that of an object module: its kind, which is 1, stands where a tape has an address.
 fn is_module(text: &[u8]) -> bool {
     match text.iter().position(|byte| *byte != BLANK) {
-        Some(first) => text[first..]
-            .iter()
-            .skip(ADDRESS_AT)
-            .take(2)
-            .eq(FIRST_OF_MODULE.iter()),
+        Some(first) => matches!(&text[first..], [_, _, _, _, 1, 0, ..]),
         None => false,
     }
 }

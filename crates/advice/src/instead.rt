@@ -5,13 +5,12 @@ ghost use Rattle.advice.specs.Instead.{instead_of, is_head_of_gzip, is_head_of_r
 use endings::Failure;
 use load_record::RecordError;
 use std::alloc::Global;
-use std::fmt;
 use std::io::Print;
 use tape_blocks::{Fault, Why};
 use witness::{End, Front, Witness};
 
 /// What an input is that is no tape.
-#[derive(Clone, Copy, Debug, PartialEq, Eq)]
+#[derive(Clone, Copy)]
 pub enum Instead {
     /// Intel HEX.
     IntelHex,
@@ -58,13 +57,20 @@ pub fn say_instead<T: Print>(
     let Some(terminal) = terminal else {
         return;
     };
-    if let Some(checksum) = missing_checksum(failure, witness.end())
-        && let Ok(text) = format!(in alloc; "{checksum}\n")
-    {
-        let _ = terminal.write_all(text.as_bytes());
+    if let Some(checksum) = missing_checksum(failure, witness.end()) {
+        say_checksum(alloc, terminal, checksum);
     }
     if let Some(advice) = advice(failure, witness) {
         let _ = terminal.write_all(advice.as_bytes());
+    }
+}
+
+// Tells which one byte makes a tape of a file that lacks it, in octal digits.
+fn say_checksum<T: Print>(alloc: Global, terminal: &T, checksum: u8) {
+    if let Ok(text) = format!(in alloc;
+        "its last block lacks its checksum: printf '\\{checksum:03o}' >> TAPE\n"
+    ) {
+        let _ = terminal.write_all(text.as_bytes());
     }
 }
 
@@ -116,31 +122,17 @@ pub(crate) const BLOCK: [u8; 2] = [1, 0];
 // The front of the block that ends a tape, without the start and the checksum.
 const LAST_BLOCK: [u8; 4] = [1, 0, 6, 0];
 
-// The checksum of a block that a tape ends with, which is the one byte that it lacks.
-#[derive(Clone, Copy)]
-struct MissingChecksum(u8);
-
-impl fmt::Display for MissingChecksum {
-    fn fmt<W: fmt::Write>(&self, f: &mut fmt::Formatter<W>) -> fmt::Result {
-        let (high, middle, low) = (self.0 >> 6, self.0 >> 3 & 7, self.0 & 7);
-        write!(
-            f,
-            "its last block lacks its checksum: printf '\\{high}{middle}{low}' >> TAPE"
-        )
-    }
-}
-
 // The checksum that a tape lacks which was refused so, and of which these bytes are the last.
-fn missing_checksum(failure: Failure<'_>, end: Option<End>) -> Option<MissingChecksum> {
+fn missing_checksum(failure: Failure<'_>, end: Option<End>) -> Option<u8> {
     let (Failure::TapeRefused(fault) | Failure::OneTapeRefused(_, fault)) = failure else {
         return None;
     };
     let end = end?;
-    if fault.why != Why::Cut || !end.starts_with(&LAST_BLOCK) {
+    if !matches!(fault.why, Why::Cut) || !end.starts_with(&LAST_BLOCK) {
         return None;
     }
     let sum = end.iter().fold(0u8, |sum, byte| sum.wrapping_add(*byte));
-    Some(MissingChecksum(sum.wrapping_neg()))
+    Some(sum.wrapping_neg())
 }
 
 // What is told of an empty tape.

@@ -6,9 +6,9 @@ use host_devices::Line;
 use load_engine::Stop;
 use machine_load::{LoadEnd, LoadFault, Outcome, StubStop, Stubs, StubsEnd};
 use octal::Octal;
-use progress_display::{LastWord, ProgressLine};
+use progress_display::ProgressLine;
 use request_values::Load;
-use std::alloc::Global;
+use std::alloc::{AllocError, Global};
 use std::fmt;
 use std::io::Print;
 use std::time::Clock;
@@ -32,7 +32,7 @@ const LOOK_FIRST: &str =
 const MAY_RUN: &str = "the start may have gone out: look at the machine first\n";
 
 /// What is known of the words that a load is of.
-#[derive(Clone, Copy, Debug, PartialEq, Eq)]
+#[derive(Clone, Copy)]
 pub struct PlanSize {
     /// How many there are.
     pub words: u32,
@@ -65,38 +65,30 @@ pub fn advise_load<C: Clock, T: Print, L: Line>(
         return;
     };
     // Of a record that memory does not hold nothing counts.
-    if let LoadEnd::Stale(_) = outcome.end {
+    let (LoadEnd::Driven(stop) | LoadEnd::Unfinished(stop)) = outcome.end else {
         return;
-    }
+    };
     // A load that was over before it began has looked at nothing.
     let recorded = match outcome.line {
         Some(_) => progress.done_at_first(),
         None => size.words,
     };
-    let words = size.words;
-    if recorded > 0
-        && let Ok(text) = format!(in alloc; "{recorded} of {words} by the record\n")
-    {
-        progress.say(text.as_str());
+    say_recorded(alloc, progress, recorded, size.words);
+    if let Some(stubs) = outcome.stubs {
+        say_no_stub(alloc, progress, recorded, stubs);
     }
-    if let Some(Stubs { tally, stop }) = outcome.stubs
-        && tally.verified <= recorded
-        && hinders_stubs_alone(stop)
-        && let Ok(text) = format!(in alloc; "--fast did not serve: {}\n", NoStub(stop))
-    {
-        progress.say(text.as_str());
-    }
-    if let Some(text) = advice(load, outcome, progress.done()) {
+    let goes_on = load.record.is_some() && !outcome.marked;
+    if let Some(text) = advice(stop, goes_on, progress.done()) {
         progress.say(text);
     }
-    match outcome.end {
-        LoadEnd::Driven(Stop::Ended(End::WontHold(address))) => {
-            say_unheld(alloc, progress, address, load.options.careful)
+    match stop {
+        Stop::Ended(End::WontHold(address)) => {
+            say_unheld(alloc, progress, address);
+            if !load.options.careful {
+                progress.say(MAY_BE_CHANGED);
+            }
         }
-        LoadEnd::Driven(Stop::Ended(End::NoWord(address)))
-        | LoadEnd::Unfinished(Stop::Ended(End::NoWord(address))) => {
-            say_unfit(alloc, progress, address, size)
-        }
+        Stop::Ended(End::NoWord(address)) => say_unfit(alloc, progress, address, size.last),
         _ => {}
     }
 }
@@ -111,132 +103,123 @@ pub fn advise_unreported<C: Clock, T: Print>(
     }
 }
 
-// Whether what stopped the stubs left the rest to the load: else it is the load's own end.
-fn hinders_stubs_alone(stop: StubStop) -> bool {
-    match stop {
-        StubStop::Ended(StubsEnd::NotStarted(End::NoWord(_))) => false,
-        StubStop::Ended(_) => true,
-        StubStop::KeepFailed(_) | StubStop::CutOff(_) => false,
+// Tells a text, where there was memory for it.
+fn say<C: Clock, T: Print>(progress: &ProgressLine<'_, C, T>, text: Result<String, AllocError>) {
+    if let Ok(text) = text {
+        progress.say(text.as_str());
     }
 }
 
-// Tells that the tape goes further than memory, which has no word at this address.
+// Tells how many words are verified by the record alone, where any are.
+fn say_recorded<C: Clock, T: Print>(
+    alloc: Global,
+    progress: &ProgressLine<'_, C, T>,
+    recorded: u32,
+    words: u32,
+) {
+    if recorded > 0 {
+        say(
+            progress,
+            format!(in alloc; "{recorded} of {words} by the record\n"),
+        );
+    }
+}
+
+// Tells why stubs verified no word beside those of the record, where that left the rest to the load.
+fn say_no_stub<C: Clock, T: Print>(
+    alloc: Global,
+    progress: &ProgressLine<'_, C, T>,
+    recorded: u32,
+    stubs: Stubs,
+) {
+    if stubs.tally.verified > recorded {
+        return;
+    }
+    if let Some(why) = why_no_stub(stubs.stop) {
+        say(progress, format!(in alloc; "--fast did not serve: {why}\n"));
+    }
+}
+
+// Why no stub took words; none where what stopped them is the load's own end.
+fn why_no_stub(stop: StubStop) -> Option<&'static str> {
+    let StubStop::Ended(end) = stop else {
+        return None;
+    };
+    match end {
+        StubsEnd::TooFewWords => Some("too few words"),
+        StubsEnd::NoRoom => Some("no room for the stub in this tape"),
+        StubsEnd::InVain => Some("three stubs took no word: is the HALT switch at ENABLE?"),
+        StubsEnd::NotStarted(End::NoWord(_)) => None,
+        StubsEnd::NotStarted(_) => Some("the stub did not start"),
+        StubsEnd::Memory => Some("no memory left"),
+    }
+}
+
+// Tells that the tape goes further than memory, which has no word at this address, and what shows more.
 fn say_unfit<C: Clock, T: Print>(
     alloc: Global,
     progress: &ProgressLine<'_, C, T>,
     address: u16,
-    size: PlanSize,
+    last: Option<u16>,
 ) {
-    let Some(last) = size.last else {
+    let Some(last) = last else {
         return;
     };
-    let unfit = Unfit { address, last };
-    if let Ok(text) = format!(in alloc; "{unfit}\n") {
-        progress.say(text.as_str());
-    }
+    let (address, last) = (Octal(address), Octal(last));
+    say(
+        progress,
+        format!(in alloc;
+            "no word at {address}, and the tape goes up to {last}: 'ldaodt probe LINE' says where memory ends\n"
+        ),
+    );
 }
 
-// A tape that does not fit, as it is told: `no word at 010000, and the tape goes up to 017776`, and what shows more.
-#[derive(Clone, Copy)]
-struct Unfit {
-    address: u16,
-    last: u16,
-}
-
-impl fmt::Display for Unfit {
-    fn fmt<W: fmt::Write>(&self, f: &mut fmt::Formatter<W>) -> fmt::Result {
-        let (address, last) = (Octal(self.address), Octal(self.last));
-        write!(f, "no word at {address}, and the tape goes up to {last}: ")?;
-        f.write_str("'ldaodt probe LINE' says where memory ends")
-    }
-}
-
-// Tells which bits of the word at this address do not hold, by what was typed and read there last; and of a load that
-// is not careful, that the line may have made it seem so.
-fn say_unheld<C: Clock, T: Print>(
-    alloc: Global,
-    progress: &ProgressLine<'_, C, T>,
-    address: u16,
-    careful: bool,
-) {
+// Tells which bits of the word at this address do not hold, by what was typed and read there last, and what shows more.
+fn say_unheld<C: Clock, T: Print>(alloc: Global, progress: &ProgressLine<'_, C, T>, address: u16) {
     let word = progress.last_word();
-    let unheld = Unheld { address, word };
-    if let Ok(text) = format!(in alloc; "{unheld}\n") {
-        progress.say(text.as_str());
-    }
-    if !careful {
-        progress.say(MAY_BE_CHANGED);
-    }
+    let unheld = Unheld {
+        address: Octal(address),
+        given: word.given,
+        read: word.read,
+    };
+    say(progress, format!(in alloc; "{unheld}\n"));
 }
 
 // A word that does not hold what was deposited, as it is told: `001000 was given 123456 and reads 123452: bit 2`, and
 // what shows more.
 #[derive(Clone, Copy)]
 struct Unheld {
-    address: u16,
-    word: LastWord,
+    address: Octal,
+    given: u16,
+    read: u16,
 }
 
 impl fmt::Display for Unheld {
     fn fmt<W: fmt::Write>(&self, f: &mut fmt::Formatter<W>) -> fmt::Result {
-        let (address, given, read) = (
-            Octal(self.address),
-            Octal(self.word.given),
-            Octal(self.word.read),
-        );
-        let bits = Bits(self.word.given ^ self.word.read);
-        write!(f, "{address} was given {given} and reads {read}: {bits}")?;
+        let (address, given, read) = (self.address, Octal(self.given), Octal(self.read));
+        write!(f, "{address} was given {given} and reads {read}: bit")?;
+        put_bits(f, self.given ^ self.read)?;
         write!(f, "; 'ldaodt memory LINE {address} {address}' shows more")
     }
 }
 
 // The bits that a number has, from the highest on.
-#[derive(Clone, Copy)]
-struct Bits(u16);
-
-impl fmt::Display for Bits {
-    fn fmt<W: fmt::Write>(&self, f: &mut fmt::Formatter<W>) -> fmt::Result {
-        f.write_str("bit")?;
-        for bit in (0..16u16).rev() {
-            if self.0 >> bit & 1 == 1 {
-                write!(f, " {bit}")?;
-            }
-        }
-        Ok(())
-    }
-}
-
-// Why no stub took words, as it is told.
-#[derive(Clone, Copy)]
-struct NoStub(StubStop);
-
-impl fmt::Display for NoStub {
-    fn fmt<W: fmt::Write>(&self, f: &mut fmt::Formatter<W>) -> fmt::Result {
-        match self.0 {
-            StubStop::Ended(StubsEnd::TooFewWords) => f.write_str("too few words"),
-            StubStop::Ended(StubsEnd::NoRoom) => f.write_str("no room for the stub in this tape"),
-            StubStop::Ended(StubsEnd::InVain) => f.write_str(
-                "three stubs took no word: is the HALT switch at ENABLE?",
-            ),
-            StubStop::Ended(StubsEnd::NotStarted(_)) => f.write_str("the stub did not start"),
-            StubStop::KeepFailed(_) => f.write_str("the record failed"),
-            StubStop::CutOff(Cut::LineFailed(_)) => f.write_str("the line failed"),
-            StubStop::CutOff(Cut::TurnsOver) => f.write_str("the line was never silent"),
-            StubStop::Ended(StubsEnd::Memory) => f.write_str("no memory left"),
+fn put_bits<W: fmt::Write>(f: &mut fmt::Formatter<W>, number: u16) -> fmt::Result {
+    for bit in (0..16u16).rev() {
+        if number >> bit & 1 == 1 {
+            write!(f, " {bit}")?;
         }
     }
+    Ok(())
 }
 
-// What helps where a load with so many verified words did not come to its end.
-fn advice<L: Line>(load: Load<'_>, outcome: &Outcome<L>, verified: u32) -> Option<&'static str> {
-    let (LoadEnd::Driven(stop) | LoadEnd::Unfinished(stop)) = outcome.end else {
-        return None;
-    };
+// What helps where a load with so many verified words stopped so; where it has a record and did not come to the start, it
+// goes on.
+fn advice(stop: Stop, goes_on: bool, verified: u32) -> Option<&'static str> {
     match stop {
         Stop::Ended(End::MaybeStarted) => Some(LOOK_FIRST),
         Stop::Ended(End::GaveUp) if verified == 0 => Some(ASK_PROBE),
-        Stop::Ended(End::GaveUp) | Stop::CutOff(Cut::LineFailed(_))
-            if load.record.is_some() && !outcome.marked => { Some(GOES_ON) }
+        Stop::Ended(End::GaveUp) | Stop::CutOff(Cut::LineFailed(_)) if goes_on => Some(GOES_ON),
         _ => None,
     }
 }

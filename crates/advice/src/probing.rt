@@ -2,7 +2,6 @@
 
 use request_values::Look;
 use std::alloc::Global;
-use std::fmt;
 use std::io::Print;
 
 // How often a probe waits for the quiet time, mostly: before two looks and the trial, and before the first pass of the
@@ -18,11 +17,12 @@ pub fn say_probing<T: Print>(alloc: Global, terminal: Option<&T>, look: Look<'_>
         return;
     };
     let quiet_ms = u64::from(look.quiet_ms);
-    let mostly = Seconds(rounded_up(WAITS * quiet_ms));
+    let mostly = rounded_up(WAITS * quiet_ms);
+    let unit = if mostly == 1 { "second" } else { "seconds" };
     let waits = WAITS_BESIDE + u64::from(look.patience);
     let at_worst = rounded_up(waits.saturating_mul(quiet_ms));
     if let Ok(text) = format!(in alloc;
-        "probing: mostly {mostly}; {at_worst} where nothing answers\n"
+        "probing: mostly {mostly} {unit}; {at_worst} where nothing answers\n"
     ) {
         let _ = terminal.write_all(text.as_bytes());
     }
@@ -31,19 +31,4 @@ pub fn say_probing<T: Print>(alloc: Global, terminal: Option<&T>, look: Look<'_>
 // So many milliseconds, in seconds.
 fn rounded_up(millis: u64) -> u64 {
     millis.div_ceil(1000)
-}
-
-// So many seconds, as they are told.
-#[derive(Clone, Copy)]
-struct Seconds(u64);
-
-impl fmt::Display for Seconds {
-    fn fmt<W: fmt::Write>(&self, f: &mut fmt::Formatter<W>) -> fmt::Result {
-        let seconds = self.0;
-        if seconds == 1 {
-            f.write_str("1 second")
-        } else {
-            write!(f, "{seconds} seconds")
-        }
-    }
 }

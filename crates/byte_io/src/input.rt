@@ -7,7 +7,7 @@ use std::io;
 use std::io::Read;
 
 /// Why an input was not taken.
-#[derive(Clone, Copy, Debug, PartialEq, Eq)]
+#[derive(Clone, Copy)]
 pub enum InputFault {
     /// A read failed. It is not tried again, whatever its error says.
     Read,

@@ -6,7 +6,7 @@ ghost use Rattle.byte_io.specs.Output.{WritesPrefix, WritesProperPrefix};
 use std::io::Write;
 
 /// A write failed, or took nothing. It was not tried again, whatever its error says.
-#[derive(Clone, Copy, Debug, PartialEq, Eq)]
+#[derive(Clone, Copy)]
 pub struct WriteFault;
 
 /// Writes a text. At the first write that fails it stops, with what was written before.

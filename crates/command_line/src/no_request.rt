@@ -9,7 +9,7 @@ use clap::error::ErrorKind;
 use std::alloc::{AllocError, Global};
 
 /// Why words ask for nothing that could be done.
-#[derive(Debug, Drop)]
+#[derive(Drop)]
 pub enum NoRequest {
     /// Help or the version was asked for: this text.
     Help(String),

@@ -5,13 +5,13 @@ ghost use Rattle.requests.specs.Attempt.{IsAttempted};
 ghost use Rattle.request_values.specs.Change.{◌⇒◌};
 ghost use Rattle.command_tests.specs.ToldSystem.{held_told, moment_told};
 
-use crate::attempts::{Ended, NOBODY};
 use crate::told_consoles::ToldConsoles;
 use crate::told_inputs::ToldInputs;
-use endings::Streams;
+use endings::{Status, Streams};
 use request_values::Request;
 use requests::{Kinds, System, attempt};
 use std::alloc::Global;
+use std::io::Stderr;
 use std::marker::Model;
 use std::process::Abort;
 use std::rt::Files;
@@ -50,6 +50,18 @@ impl<'a, R: Abort + Files> Model for ToldSystem<'a, R> {
     ghost Value = { SystemAsked };
 
     ghost view = { λ s. asked_told s.inputs.opened.items (steps_of s.disk.asked) s.consoles.asked.items s.consoles.given_back.items };
+}
+
+// No terminal looks on.
+const NOBODY: Option<&Stderr> = None;
+
+/// What a request left.
+#[derive(Drop)]
+pub(crate) struct Ended {
+    pub(crate) status: Status,
+    pub(crate) changed: u32,
+    pub(crate) out: Vec<u8>,
+    pub(crate) err: Vec<u8>,
 }
 
 /// Does a request in it, with this input. What `attempt` promises of a system that tells is so of this one.

@@ -1,7 +1,7 @@
 //! Which console is asked for.
 
 /// Which console a line is to lead to, and the line's quiet time.
-#[derive(Clone, Copy, Debug)]
+#[derive(Clone, Copy)]
 pub struct Dial<'a> {
     /// The path of a serial device, which has a slash, or HOST:PORT.
     pub name: &'a str,

@@ -9,7 +9,7 @@ use std::io;
 use std::io::{ErrorKind, IsTerminal, Read, Write};
 
 /// What one look at a terminal finds.
-#[derive(Clone, Copy, Debug, PartialEq, Eq)]
+#[derive(Clone, Copy)]
 pub enum Glance {
     /// A byte, which is taken.
     Byte(u8),

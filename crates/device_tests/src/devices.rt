@@ -1,134 +1,89 @@
-//! Lines over serial devices: how many looks and pauses make a silence, whatever the clock does, and what a
-//! hang-up, a failure and a stopped output are heard as.
+//! A line over a serial device: how many looks and pauses make a silence, whatever the clock does, and what each kind of read
+//! and write means.
 
-use crate::terminals::{Bench, DAWN, HOUR, PATH, Pace, Scripted, Turn};
-use console_lines::{Device, DeviceLine, Devices, open_line, open_terminal};
+use crate::terminals::{Bench, HOUR, PATH, Pace, Turn};
+use console_lines::{DeviceLine, Devices, open_line};
 use host_core::Heard;
 use host_devices::{Line, LineFault};
 use std::io::ErrorKind;
-use std::net::{Net, OpenStream};
-use std::time::{Clock, Duration};
+use std::net::Net;
+use std::time::Clock;
 
-// Nothing has come.
+// Nothing has come, or nothing is taken.
 const NOTHING: Turn = Turn::Fails(ErrorKind::WouldBlock);
 
-// A line to a device of a system, by its clock.
-fn line_to<'a, D: Devices + Net + Clock>(
-    system: &'a D,
-    path: &str,
-    quiet_ms: u32,
-) -> Result<DeviceLine<'a, D::Terminal, D>, LineFault> {
-    let mut devices = system;
-    open_line(&mut devices, system, path, quiet_ms)
+// What comes of a line on which something is to be heard, or a key is sent.
+#[derive(Clone, Copy)]
+enum Outcome {
+    /// This character is heard.
+    Heard(u8),
+
+    /// Nothing is, for the quiet time.
+    Silence,
+
+    /// The other end has hung up.
+    HungUp,
+
+    /// The read fails.
+    NotRead,
+
+    /// The key is sent.
+    Sent,
+
+    /// It is not.
+    NotSent,
 }
 
-// A silence: the quiet time in milliseconds, what the clock does, and then how many pauses are made (there is
-// one look more), and how many microseconds the clock goes on.
-struct Silence {
-    quiet_ms: u32,
-    pace: Pace,
-    pauses: u32,
-    passed: u64,
-}
-
-// Reckoned by hand: a pause is a thirty-second of what was counted before it, from 10 to 5,000
-// microseconds, and counts for what passed, but not for less than was asked for nor for more than 10,000.
-const SILENCES: [Silence; 10] = [
-    // Without a delay a silence is as long as it shall be, and never shorter.
-    Silence {
-        quiet_ms: 1,
-        pace: Pace::Late(0),
-        pauses: 71,
-        passed: 1_030,
-    },
-    Silence {
-        quiet_ms: 50,
-        pace: Pace::Late(0),
-        pauses: 198,
-        passed: 50_571,
-    },
-    Silence {
-        quiet_ms: 2000,
-        pace: Pace::Late(0),
-        pauses: 604,
-        passed: 2_002_798,
-    },
-    // Nor is it longer on a computer that comes back late, since what passed counts.
-    Silence {
-        quiet_ms: 50,
-        pace: Pace::Late(1_000),
-        pauses: 31,
-        passed: 51_072,
-    },
-    Silence {
-        quiet_ms: 2000,
-        pace: Pace::Late(1_000),
-        pauses: 365,
-        passed: 2_000_608,
-    },
-    // A process that was held for an hour has heard 10 milliseconds of silence meanwhile.
-    Silence {
-        quiet_ms: 2000,
-        pace: Pace::Held,
-        pauses: 460,
-        passed: HOUR + 1_994_209,
-    },
-    // One that is held for a second at each pause has heard five times 10 milliseconds, which are the quiet time: more
-    // is not waited for.
-    Silence {
-        quiet_ms: 50,
-        pace: Pace::Late(999_990),
-        pauses: 5,
-        passed: 5_003_084,
-    },
-    // A clock that tells nothing is replaced by what was asked for.
-    Silence {
-        quiet_ms: 2000,
-        pace: Pace::Still,
-        pauses: 604,
-        passed: 0,
-    },
-    Silence {
-        quiet_ms: 2000,
-        pace: Pace::Failing,
-        pauses: 604,
-        passed: 0,
-    },
-    Silence {
-        quiet_ms: 50,
-        pace: Pace::Backward,
-        pauses: 198,
-        passed: 0,
-    },
-];
-
-// Whether nothing is heard in a silence, by so many looks and pauses and in that time.
-fn is_silence(row: &Silence) -> bool {
-    let bench = Bench::new(&[NOTHING], &[], row.pace);
-    let system = &bench;
-    let Ok(mut line) = line_to(&system, PATH, row.quiet_ms) else {
-        return false;
-    };
-    line.hear() == Ok(Heard::Quiet)
-        && bench.pauses.get() == row.pauses
-        && bench.read.get() == row.pauses as usize + 1
-        && bench.passed() == row.passed
-}
-
-#[test]
-fn a_silence_lasts_the_quiet_time(rt: HostRuntime) {
-    for (number, row) in SILENCES.iter().enumerate() {
-        assert!(rt; is_silence(row), "silence {number}");
+impl Outcome {
+    // Whether this comes of a line.
+    fn is_of<L: Line>(self, line: &mut L) -> bool {
+        match self {
+            Outcome::Heard(wanted) => {
+                matches!(line.hear(), Ok(Heard::Got(character)) if character == wanted)
+            }
+            Outcome::Silence => matches!(line.hear(), Ok(Heard::Quiet)),
+            Outcome::HungUp => matches!(line.hear(), Err(LineFault::Closed)),
+            Outcome::NotRead => matches!(line.hear(), Err(LineFault::Receive)),
+            Outcome::Sent => line.send(b'Z').is_ok(),
+            Outcome::NotSent => matches!(line.send(b'Z'), Err(LineFault::Send)),
+        }
     }
 }
 
-// What the terminal's reads meet, what is then heard in a quiet time of 50 ms, how many reads there were, and
-// how many pauses.
-const HEARINGS: [(&[Turn], Result<Heard, LineFault>, usize, u32); 9] = [
-    // What has come is found at once, and what comes later at the next look.
-    (&[Turn::Passes(0xC1)], Ok(Heard::Got(0x41)), 1, 0),
-    (&[NOTHING, Turn::Passes(0x41)], Ok(Heard::Got(0x41)), 2, 1),
-    // In every way in which a terminal says that nothing has come.
+// What comes of a line where nothing comes or is taken: its quiet time in milliseconds, what the clock does, how many pauses are
+// made (there is a look more), and how many microseconds pass on the clock.
+type Vain = (Outcome, u32, Pace, u32, u64);
+
+// Reckoned by hand: a pause is a thirty-second of what was counted before it, from 10 to 5,000 microseconds, and counts for
+// what passed, but not for less than was asked for nor for more than 10,000.
+const IN_VAIN: [Vain; 12] = [
+    // Without a delay a silence is as long as it shall be, and never shorter.
+    (Outcome::Silence, 1, Pace::Late(0), 71, 1_030),
+    (Outcome::Silence, 50, Pace::Late(0), 198, 50_571),
+    (Outcome::Silence, 2000, Pace::Late(0), 604, 2_002_798),
+    // Nor is it longer on a computer that comes back late, since what passed counts.
+    (Outcome::Silence, 50, Pace::Late(1_000), 31, 51_072),
+    (Outcome::Silence, 2000, Pace::Late(1_000), 365, 2_000_608),
+    // A process that was held for an hour, or for a second at each pause, has heard 10 milliseconds of silence each time.
+    (Outcome::Silence, 2000, Pace::Held, 460, HOUR + 1_994_209),
+    (Outcome::Silence, 50, Pace::Late(999_990), 5, 5_003_084),
+    // A clock that tells nothing is replaced by what was asked for.
+    (Outcome::Silence, 2000, Pace::Still, 604, 0),
+    (Outcome::Silence, 2000, Pace::Failing, 604, 0),
+    (Outcome::Silence, 50, Pace::Backward, 198, 0),
+    // An output that stays stopped ends after the quiet time, by the clock.
+    (Outcome::NotSent, 50, Pace::Late(0), 198, 50_571),
+    (Outcome::NotSent, 2000, Pace::Held, 460, HOUR + 1_994_209),
+];
+
+// What reads or writes of the terminal meet, what comes of that in 50 ms, by how many reads or writes, and with how many
+// pauses, each of 10 microseconds.
+type Met = (&'static [Turn], Outcome, usize, u32);
+
+const MET: [Met; 9] = [
+    // What has come is found at once, without its bit 7.
+    (&[Turn::Passes(0xC1)], Outcome::Heard(0x41), 1, 0),
+    // What comes later is found at the next look, in whatever way a terminal says that nothing has come.
     (
         &[
             Turn::Empty,
@@ -137,179 +92,98 @@ const HEARINGS: [(&[Turn], Result<Heard, LineFault>, usize, u32); 9] = [
             NOTHING,
             Turn::Passes(0x42),
         ],
-        Ok(Heard::Got(0x42)),
+        Outcome::Heard(0x42),
         5,
         4,
     ),
-    (&[Turn::Empty], Ok(Heard::Quiet), 199, 198),
-    (
-        &[Turn::Fails(ErrorKind::Interrupted)],
-        Ok(Heard::Quiet),
-        199,
-        198,
-    ),
     // A hang-up is the line's end, and no silence.
-    (&[Turn::HungUp], Err(LineFault::Closed), 1, 0),
-    (&[NOTHING, Turn::HungUp], Err(LineFault::Closed), 2, 1),
-    // A failure is told at once, and nothing is read again.
-    (
-        &[Turn::Fails(ErrorKind::Other)],
-        Err(LineFault::Receive),
-        1,
-        0,
-    ),
+    (&[NOTHING, Turn::HungUp], Outcome::HungUp, 2, 1),
+    // A failure is told at once, also behind a byte of zeros, which is none.
     (
         &[Turn::Passes(0), Turn::Fails(ErrorKind::Other)],
-        Err(LineFault::Receive),
+        Outcome::NotRead,
         2,
         0,
     ),
-];
-
-// Whether this is heard of a terminal, by so many reads and pauses.
-fn is_heard(
-    reads: &'static [Turn],
-    heard: Result<Heard, LineFault>,
-    count: usize,
-    pauses: u32,
-) -> bool {
-    let bench = Bench::new(reads, &[], Pace::Late(0));
-    let system = &bench;
-    let Ok(mut line) = line_to(&system, PATH, 50) else {
-        return false;
-    };
-    line.hear() == heard
-        && line.failed() == heard.is_err()
-        && bench.read.get() == count
-        && bench.pauses.get() == pauses
-}
-
-#[test]
-fn each_look_is_heard_as_what_it_finds(rt: HostRuntime) {
-    for (number, row) in HEARINGS.iter().enumerate() {
-        let (reads, heard, count, pauses) = *row;
-        assert!(rt; is_heard(reads, heard, count, pauses), "hearing {number}");
-    }
-}
-
-// What the terminal's writes meet, how a key is sent in a quiet time of 50 ms, how many writes there were, and
-// how many pauses.
-const SENDINGS: [(&[Turn], Result<(), LineFault>, usize, u32); 6] = [
-    (&[Turn::Passes(0)], Ok(()), 1, 0),
-    // An output that is stopped for a while.
-    (&[NOTHING, NOTHING, Turn::Passes(0)], Ok(()), 3, 2),
+    (&[Turn::Passes(0)], Outcome::Sent, 1, 0),
+    // An output that is stopped for a while is waited for.
+    (&[NOTHING, NOTHING, Turn::Passes(0)], Outcome::Sent, 3, 2),
     (
         &[Turn::Fails(ErrorKind::Interrupted), Turn::Passes(0)],
-        Ok(()),
+        Outcome::Sent,
         2,
         1,
     ),
-    // One that stays stopped ends after the quiet time.
-    (&[NOTHING], Err(LineFault::Send), 199, 198),
     // A failure and a key that is not taken are told at once.
-    (&[Turn::Fails(ErrorKind::Other)], Err(LineFault::Send), 1, 0),
-    (&[Turn::Empty], Err(LineFault::Send), 1, 0),
+    (&[Turn::Fails(ErrorKind::Other)], Outcome::NotSent, 1, 0),
+    (&[Turn::Empty], Outcome::NotSent, 1, 0),
 ];
 
-// Whether a key is sent in this way, by so many writes and pauses.
-fn is_sent(
-    writes: &'static [Turn],
-    sent: Result<(), LineFault>,
-    count: usize,
+// A line to a device of a system, by its clock.
+fn line_to<'a, D: Devices + Net + Clock>(
+    system: &'a D,
+    quiet_ms: u32,
+) -> Result<DeviceLine<'a, D::Terminal, D>, LineFault> {
+    let mut devices = system;
+    open_line(&mut devices, system, PATH, quiet_ms)
+}
+
+// A row of either table: what is met, in which quiet time and by which clock, what comes of it, by how many reads or writes,
+// with how many pauses and in how many microseconds.
+#[derive(Clone, Copy)]
+struct Row {
+    turns: &'static [Turn],
+    quiet_ms: u32,
+    pace: Pace,
+    outcome: Outcome,
+    looks: usize,
     pauses: u32,
-) -> bool {
-    let bench = Bench::new(&[], writes, Pace::Late(0));
+    passed: u64,
+}
+
+// Whether it comes to that.
+fn is_so(row: &Row) -> bool {
+    let bench = Bench::new(row.turns, row.pace);
     let system = &bench;
-    let Ok(mut line) = line_to(&system, PATH, 50) else {
+    let Ok(mut line) = line_to(&system, row.quiet_ms) else {
         return false;
     };
-    line.send(b'Z') == sent && bench.written.get() == count && bench.pauses.get() == pauses
+    row.outcome.is_of(&mut line)
+        && bench.taken.get() == row.looks
+        && bench.pauses.get() == row.pauses
+        && bench.passed() == row.passed
 }
 
 #[test]
-fn a_key_waits_for_room_for_the_quiet_time(rt: HostRuntime) {
-    for (number, row) in SENDINGS.iter().enumerate() {
-        let (writes, sent, count, pauses) = *row;
-        assert!(rt; is_sent(writes, sent, count, pauses), "sending {number}");
-    }
-}
-
-// Whether a stopped output ends by the clock, also where the process was held for an hour.
-fn is_stopped_output_ended() -> bool {
-    let bench = Bench::new(&[], &[NOTHING], Pace::Held);
-    let system = &bench;
-    let Ok(mut line) = line_to(&system, PATH, 2000) else {
-        return false;
-    };
-    line.send(b'Z') == Err(LineFault::Send) && bench.pauses.get() == 460
-}
-
-// How no line is made to a device.
-fn fault_of(line: Result<DeviceLine<'_, Scripted<'_>, &Bench>, LineFault>) -> Option<LineFault> {
-    line.err()
-}
-
-// Whether a device of another name and a quiet time of nothing are refused, and nothing is asked of either.
-fn is_refused() -> bool {
-    let bench = Bench::new(&[], &[], Pace::Still);
-    let system = &bench;
-    fault_of(line_to(&system, "/dev/ttyUSB1", 50)) == Some(LineFault::Connect)
-        && fault_of(line_to(&system, PATH, 0)) == Some(LineFault::Receive)
-        && bench.now.get() == DAWN
-        && bench.read.get() == 0
-}
-
-#[test]
-fn a_stopped_output_ends_and_no_line_without_a_time(rt: HostRuntime) {
-    assert!(rt; is_stopped_output_ended());
-    assert!(rt; is_refused());
-}
-
-// Time limits in milliseconds, and whether a device with a quiet time of 50 ms takes them: its own time, and no other.
-const LIMITS: [(u64, bool); 4] = [(50, true), (49, false), (51, false), (0, false)];
-
-// Whether a device with a quiet time of 50 ms takes this time limit.
-fn takes(limit: Option<Duration>) -> bool {
-    let bench = Bench::new(&[], &[], Pace::Still);
-    let system = &bench;
-    match open_terminal(&system, PATH) {
-        Ok(terminal) => Device::new(terminal, system, 50)
-            .set_read_timeout(limit)
-            .is_ok(),
-        Err(_) => false,
-    }
-}
-
-#[test]
-fn the_time_of_a_device_is_its_own(rt: HostRuntime) {
-    for (limit, is_taken) in &LIMITS {
-        assert!(rt;
-            takes(Some(Duration::from_millis(*limit))) == *is_taken,
-            "{limit} ms"
-        );
-    }
-    assert!(rt; !takes(None));
-}
-
-// Names of the test's own system that are no terminals: one that is not there, folders, devices that are none,
-// and no name at all.
-const NO_TERMINALS: [&str; 7] = [
-    "./nothing",
-    ".",
-    "/",
-    "/dev/null",
-    "/dev/zero",
-    "/dev/full",
-    "",
-];
-
-#[test]
-fn no_terminal_is_no_line(rt: HostRuntime) {
-    for path in &NO_TERMINALS {
-        let fault = match line_to(&rt, path, 50) {
-            Ok(_) => None,
-            Err(fault) => Some(fault),
+fn a_device_is_waited_for_in_vain(rt: HostRuntime) {
+    for (number, row) in IN_VAIN.iter().enumerate() {
+        let (outcome, quiet_ms, pace, pauses, passed) = *row;
+        let row = Row {
+            turns: &[NOTHING],
+            quiet_ms,
+            pace,
+            outcome,
+            looks: pauses as usize + 1,
+            pauses,
+            passed,
         };
-        assert!(rt; fault == Some(LineFault::Connect), "{path}");
+        assert!(rt; is_so(&row), "row {number}");
+    }
+}
+
+#[test]
+fn what_a_device_answers_is_met_in_time(rt: HostRuntime) {
+    for (number, row) in MET.iter().enumerate() {
+        let (turns, outcome, looks, pauses) = *row;
+        let row = Row {
+            turns,
+            quiet_ms: 50,
+            pace: Pace::Late(0),
+            outcome,
+            looks,
+            pauses,
+            passed: u64::from(pauses) * 10,
+        };
+        assert!(rt; is_so(&row), "row {number}");
     }
 }

@@ -3,7 +3,7 @@ use std::alloc::AllocError;
 use tape_blocks::Fault;
 
 /// Why a command did not do what it was asked.
-#[derive(Clone, Copy, Debug, PartialEq, Eq)]
+#[derive(Clone, Copy)]
 pub enum CommandFault {
     /// An input for a tape is no tape: its number, from 1, what is wrong with it, and at which byte.
     Tape(usize, Fault),

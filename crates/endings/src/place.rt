@@ -2,7 +2,7 @@
 ///
 /// A line to the console is a serial device; a tape, a script, octal words and a record are no terminal, which would have to be
 /// typed. The first four are the line of a command, whose order of words is told.
-#[derive(Clone, Copy, Debug, PartialEq, Eq)]
+#[derive(Clone, Copy)]
 pub enum Place {
     /// The line of `load`.
     LineOfLoad,

@@ -1,7 +1,7 @@
 use host_core::End;
 
 /// How the program ended, as its exit status says.
-#[derive(Clone, Copy, Debug, PartialEq, Eq)]
+#[derive(Clone, Copy)]
 pub enum Status {
     /// The command was done, or help was asked for.
     Done,

@@ -6,7 +6,7 @@ use arrayvec::ArrayVec;
 use tape_image::Plan;
 
 /// Consecutive bytes of an image, which are verified together.
-#[derive(Clone, Copy, Debug, PartialEq, Eq)]
+#[derive(Clone, Copy)]
 pub struct Chunk {
     /// The address of the first.
     pub address: u16,

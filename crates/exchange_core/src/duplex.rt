@@ -1,5 +1,5 @@
 /// Whether the host sends while answers come. It holds for a whole exchange.
-#[derive(Clone, Copy, Debug, PartialEq, Eq)]
+#[derive(Clone, Copy)]
 pub enum Duplex {
     /// Both ways at once: the host sends up to 32 characters beyond the answers that it heard.
     Full,

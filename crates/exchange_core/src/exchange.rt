@@ -14,7 +14,7 @@ use host_core::console::RESYNCHRONISE;
 use tape_image::Plan;
 
 /// A host that exchanges chunks with a stub: how far it is. The plan and the chunks are not part of it.
-#[derive(Clone, Copy, Debug, PartialEq, Eq)]
+#[derive(Clone, Copy)]
 pub struct Exchange {
     /// How many of the plan's words were verified when it began.
     pub from: u32,

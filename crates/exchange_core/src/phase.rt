@@ -1,5 +1,5 @@
 /// How an exchange ended.
-#[derive(Clone, Copy, Debug, PartialEq, Eq)]
+#[derive(Clone, Copy)]
 pub enum End {
     /// Every chunk was answered as it should be: the stub has halted.
     Complete,
@@ -9,7 +9,7 @@ pub enum End {
 }
 
 /// What the host waits for.
-#[derive(Clone, Copy, Debug, PartialEq, Eq)]
+#[derive(Clone, Copy)]
 pub enum Phase {
     /// The line stays quiet: nothing was sent yet.
     Settle,

@@ -1,5 +1,5 @@
 /// Consecutive bytes of an image, any number of them: an entry of a stub's table.
-#[derive(Clone, Copy, Debug, PartialEq, Eq)]
+#[derive(Clone, Copy)]
 pub struct Stretch {
     /// The address of the first.
     pub from: u16,

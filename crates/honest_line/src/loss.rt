@@ -1,6 +1,6 @@
 /// A character that a line loses. Keys, and the characters that the machine answers, are each counted
 /// from 1 over the whole life of the line, the lost ones too.
-#[derive(Clone, Copy, Debug, PartialEq, Eq)]
+#[derive(Clone, Copy)]
 pub enum Loss {
     /// The key with this number.
     Down(u64),

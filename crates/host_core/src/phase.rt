@@ -45,7 +45,7 @@ pub enum Reason {
 }
 
 /// How a life ended.
-#[derive(Clone, Copy, Debug, PartialEq, Eq)]
+#[derive(Clone, Copy)]
 pub enum End {
     /// Every word is verified and the tape has no start.
     Loaded,

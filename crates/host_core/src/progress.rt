@@ -2,12 +2,10 @@ ghost use Rattle.std.specs.Prelude.{◌≡◌};
 ghost use Rattle.tape_image.specs.Plan.{IsPlan};
 ghost use Rattle.host_core.specs.Opening.{refusal_of};
 
-use std::error::Error;
-use std::fmt;
 use tape_image::Plan;
 
 /// How far a load has come.
-#[derive(Clone, Copy, Debug, PartialEq, Eq)]
+#[derive(Clone, Copy)]
 pub struct Progress {
     /// So many words from the beginning of the plan are verified.
     pub verified: u32,
@@ -17,7 +15,7 @@ pub struct Progress {
 }
 
 /// Why a load can't go on from a progress.
-#[derive(Clone, Copy, Debug, PartialEq, Eq)]
+#[derive(Clone, Copy)]
 pub enum BadProgress {
     /// More words are verified than the plan has.
     TooMany,
@@ -25,22 +23,6 @@ pub enum BadProgress {
     /// The mark is set with words missing, or with no start.
     EarlyMark,
 }
-
-impl fmt::Display for BadProgress {
-    ghost use Rattle.std.specs.Prelude.{Some};
-    ghost use Rattle.host_core.specs.Opening.{bad_progress_text};
-
-    ghost output = { λ bad. Some (bad_progress_text bad) };
-
-    fn fmt<W: fmt::Write>(&self, f: &mut fmt::Formatter<W>) -> fmt::Result {
-        f.write_str(match self {
-            BadProgress::TooMany => "more words are verified than the plan has",
-            BadProgress::EarlyMark => "the start is marked with a word missing or without a start",
-        })
-    }
-}
-
-impl Error for BadProgress {}
 
 impl Progress {
     /// What is wrong with this progress in a load of the plan, if anything.

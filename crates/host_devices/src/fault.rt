@@ -1,7 +1,7 @@
 use thiserror::Error;
 
 /// How a line failed.
-#[derive(Clone, Copy, Debug, PartialEq, Eq, Error)]
+#[derive(Clone, Copy, Debug, PartialEq, Error)]
 pub enum LineFault {
     /// No connection could be made.
     #[error("cannot connect")]
@@ -29,7 +29,7 @@ pub enum LineFault {
 }
 
 /// How a keeper failed.
-#[derive(Clone, Copy, Debug, PartialEq, Eq, Error)]
+#[derive(Clone, Copy, Debug, Error)]
 pub enum KeepFault {
     /// The progress could not be written.
     #[error("cannot keep the progress")]

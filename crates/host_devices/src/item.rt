@@ -1,7 +1,7 @@
 use host_core::{Heard, Word};
 
 /// One thing that was said on a line.
-#[derive(Clone, Copy, Debug, PartialEq, Eq)]
+#[derive(Clone, Copy)]
 pub enum Item {
     /// This character was sent to the console.
     Sent(u8),
@@ -11,7 +11,7 @@ pub enum Item {
 }
 
 /// One thing that a keeper keeps.
-#[derive(Clone, Copy, Debug, PartialEq, Eq)]
+#[derive(Clone, Copy)]
 pub enum Kept {
     /// This word is verified.
     Word(Word),

@@ -3,7 +3,7 @@
 use host_core::Heard;
 
 /// What an onlooker is told of a turn of the engine.
-#[derive(Clone, Copy, Debug, PartialEq, Eq)]
+#[derive(Clone, Copy)]
 pub struct Sight {
     /// What was heard.
     pub heard: Heard,
@@ -38,7 +38,7 @@ pub trait Onlooker {
 }
 
 /// Nobody.
-#[derive(Clone, Copy, Debug)]
+#[derive(Clone, Copy)]
 pub struct Unwatched;
 
 impl Onlooker for Unwatched {

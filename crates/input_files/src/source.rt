@@ -19,7 +19,7 @@ use tape_values::TAPE_LIMIT;
 const INPUT_LIMIT: usize = TAPE_LIMIT + 1;
 
 /// What a file is read as, which says how much of it is asked for.
-#[derive(Clone, Copy, Debug, PartialEq, Eq)]
+#[derive(Clone, Copy)]
 pub enum Role {
     /// A tape: its own bytes, and none that follow them.
     Tape,

@@ -10,7 +10,6 @@ pub mod Invariant
 pub mod Safe
 pub mod CleanText
 pub mod Promises
-pub mod Setup
 pub mod Opening
 pub mod CleanLine
 pub mod Runs

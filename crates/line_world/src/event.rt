@@ -1,5 +1,5 @@
 /// What can happen in a world. Places in the queues are counted from 0, the oldest character first.
-#[derive(Clone, Copy, Debug, PartialEq, Eq)]
+#[derive(Clone, Copy)]
 pub enum Event {
     /// The machine takes the first key under way, and answers.
     Take,

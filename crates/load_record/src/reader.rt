@@ -27,7 +27,7 @@ const RUN_HEAD: usize = 6;
 const RUN_VALUE: usize = 7;
 
 /// Why a text is not read as a record of a load.
-#[derive(Clone, Copy, Debug, PartialEq, Eq, Error)]
+#[derive(Clone, Copy, Debug, Error)]
 pub enum RecordError {
     /// The first line is no header, or the text has more than 1,048,576 bytes.
     #[error("not a record")]

@@ -1,4 +1,4 @@
--- What a bench, a record and a tape tell of which the disk tells what it was asked.
+-- What a line in memory tells, and a record and a tape of which the disk tells what it was asked.
 use Rattle.std.specs.Prelude.{◌≡◌, ◌⊎◌, ℕ, List, [], ◌++◌, Option, Some, None, Vec, option_map}
 use Rattle.machine_load.specs.Driving.{IsDrivenOn, on_disk}
 use Rattle.machine_load.specs.declared.fault.LoadFault.{LoadFault}
@@ -20,10 +20,6 @@ use Rattle.record_file.specs.declared.held_file.HeldFile.{HeldFile}
 use Rattle.told_calls.specs.declared.told_file.ToldFile.{ToldFile}
 use Rattle.told_calls.specs.declared.told_step.ToldStep.{ToldStep}
 use Rattle.told_calls.specs.ToldSteps.{steps_of, written_to}
-
--- a bench with this record, and a report
-abbrev pub bench_told : Option (List ℕ) → List ℕ → Setting
-bench_told text report = record { around = record { steps = None; record_text = text; disk = None; left = None }; lines = None; out = Some report }
 
 -- what a line in memory tells
 abbrev pub memory_line : Line LineValue

@@ -1,40 +1,37 @@
-//! Tests of loads, of their record, of saves and of trials.
+//! Loads, saves and exchanges over surroundings that tell what they are and what they were asked: the witnesses that what
+//! is promised of such surroundings can be met, and that the laws of loads in a row speak of something.
 //!
-//! A `Bench` tells what the record is, what its keepers write and what is said on its lines: it is the witness that
-//! what `load` promises of its devices can be met, and that the laws of loads in a row speak of something; a
-//! `ToldBench` that of the order of its steps, `load_on_disk` and `save_on_disk` those of what is promised of a
-//! disk, `save_on_shelf` that of the shelf of a save. Loads are stopped at each call of their line and begun again, and what the disk was asked is compared
-//! with docs/RECORD.md and docs/DECISIONS.md. A trial is tried to the end over a console that forgets digits,
-//! also where the line loses characters.
+//! `load_once` and `load_in_order` are over a `ToldBench`, `load_on_disk` and `save_on_disk` over a disk, `save_on_shelf`
+//! over the shelf of a save, `resumed` over what an earlier one left, and exchanges with a stub over a `StationLine`. What a
+//! disk was asked is compared with docs/RECORD.md and docs/DECISIONS.md. Of a probe the pace is tried, of which no clause
+//! speaks.
 #![tactic(auto)]
 
-#[cfg(test)]
-mod bench;
 #[cfg(test)]
 mod disk_loads;
 #[cfg(test)]
 mod disk_saves;
 #[cfg(test)]
-mod disk_steps_of_loads;
-#[cfg(test)]
-mod disk_steps_of_records;
-#[cfg(test)]
-mod disk_steps_of_saves;
+mod disk_steps;
 #[cfg(test)]
 mod disk_text;
 #[cfg(test)]
-mod highest_word;
+mod exchanges;
 mod load_step;
 #[cfg(test)]
-mod loads_in_a_row;
+mod loads;
 #[cfg(test)]
 mod memory_consoles;
 #[cfg(test)]
-mod order_of_loads;
+mod probes;
+#[cfg(test)]
+mod resuming;
+#[cfg(test)]
+mod saves;
 mod shelf_note;
+#[cfg(test)]
+mod station;
 #[cfg(test)]
 mod told_bench;
 #[cfg(test)]
 mod told_shelf;
-#[cfg(test)]
-mod trials;

@@ -3,7 +3,7 @@
 use record_file::Writable;
 
 /// What a load asks of its surroundings, and what they answer.
-#[derive(Clone, Copy, Debug, PartialEq, Eq)]
+#[derive(Clone, Copy)]
 pub(crate) enum LoadStep {
     /// The record was read, which may be begun anew so.
     RecordRead(Writable),

@@ -1,13 +1,13 @@
 //! A machine in memory, at which every name leads to one console.
 
 use console_lines::{Consoles, Dial};
-use honest_line::MemoryLine;
+use honest_line::{Loss, MemoryLine};
 use host_devices::LineFault;
-use odt_machine::Odt;
+use odt_machine::{LARGEST_WORDS, Odt, PLAIN_STYLE};
 use std::alloc::Global;
 
 // How much may be said on a line.
-const ROOM: u32 = 1000;
+const ROOM: u32 = 20_000;
 
 /// One of the names.
 pub(crate) const CALLED: Dial<'static> = Dial {
@@ -20,31 +20,27 @@ pub(crate) const CALLED: Dial<'static> = Dial {
 pub(crate) struct MemoryConsoles {
     alloc: Global,
 
-    /// The machine, while no line to it is open.
+    /// The machine, until a line to it is open.
     odt: Option<Odt>,
 
-    /// The number of the call from which on a line fails, where there is one.
-    fail_at: Option<u64>,
+    /// What is lost on that line.
+    losses: Vec<Loss>,
 }
 
 impl MemoryConsoles {
-    /// This machine, whose lines do not fail.
+    /// This machine, whose line loses nothing.
     pub(crate) fn new(alloc: Global, odt: Option<Odt>) -> MemoryConsoles {
         MemoryConsoles {
             alloc,
             odt,
-            fail_at: None,
+            losses: Vec::new(alloc),
         }
     }
 
-    /// From now on there is another machine, or none.
-    pub(crate) fn put_machine(&mut self, odt: Option<Odt>) {
-        self.odt = odt;
-    }
-
-    /// From now on each line fails at the call of this number and at those behind it; or none does.
-    pub(crate) fn fail_lines_at(&mut self, call: Option<u64>) {
-        self.fail_at = call;
+    /// The same, whose line loses this.
+    pub(crate) fn losing(mut self, losses: Vec<Loss>) -> MemoryConsoles {
+        self.losses = losses;
+        self
     }
 }
 
@@ -55,7 +51,8 @@ impl Consoles for MemoryConsoles {
         let Some(odt) = self.odt.take() else {
             return Err(LineFault::Connect);
         };
-        match MemoryLine::new(self.alloc, odt, Vec::new(self.alloc), ROOM, self.fail_at) {
+        let losses = std::mem::replace(&mut self.losses, Vec::new(self.alloc));
+        match MemoryLine::new(self.alloc, odt, losses, ROOM, None) {
             Ok(line) => Ok(line),
             Err(_) => Err(LineFault::Connect),
         }
@@ -63,4 +60,9 @@ impl Consoles for MemoryConsoles {
 
     // Its machine goes with it.
     fn let_go(&mut self, _line: MemoryLine) {}
+}
+
+/// The largest machine, of zeros, into which nobody has typed; none for want of memory.
+pub(crate) fn new_machine(alloc: Global) -> Option<Odt> {
+    Odt::new(alloc, LARGEST_WORDS, PLAIN_STYLE).ok()
 }

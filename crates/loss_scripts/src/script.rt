@@ -64,7 +64,7 @@ pub struct Script {
 }
 
 /// Why a text was not read as a script.
-#[derive(Clone, Copy, Debug, PartialEq, Eq)]
+#[derive(Clone, Copy)]
 pub enum ScriptFault {
     /// It is refused at this line, counted from 1; 0 is a text that is too long.
     Refused(u32),

@@ -4,7 +4,7 @@ use record_file::RecordFault;
 use std::alloc::AllocError;
 
 /// Why a load came to nothing.
-#[derive(Clone, Copy, Debug, PartialEq, Eq)]
+#[derive(Clone, Copy)]
 pub enum LoadFault {
     /// The record can't be opened or read.
     ReadRecord,

@@ -1,7 +1,7 @@
 use load_engine::Stop;
 
 /// How a load ended that was reported.
-#[derive(Clone, Copy, Debug, PartialEq, Eq)]
+#[derive(Clone, Copy)]
 pub enum LoadEnd {
     /// Its host stopped so, or a device failed with its stubs, or it was over before it began.
     Driven(Stop),

@@ -20,7 +20,7 @@ use std::alloc::{AllocError, Global};
 use tape_image::{Plan, Word};
 
 /// What the looks of a load came to.
-#[derive(Clone, Copy, Debug, PartialEq, Eq)]
+#[derive(Clone, Copy)]
 pub struct Looks {
     /// The characters that they sent.
     pub sent: u64,

@@ -73,7 +73,7 @@ impl<D: Disk + Drop> Records for RecordFile<'_, D> {
 }
 
 /// A record in memory alone, so that a later life begins at the first word.
-#[derive(Clone, Copy, Debug)]
+#[derive(Clone, Copy)]
 pub struct InMemory;
 
 impl Records for InMemory {

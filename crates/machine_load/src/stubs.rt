@@ -14,7 +14,7 @@ use std::alloc::Global;
 use stub_engine::{Stop as StubStop, StubsEnd, Tally, bring_in};
 
 /// How far the stubs of a load came, and why no more were brought in.
-#[derive(Clone, Copy, Debug, PartialEq, Eq)]
+#[derive(Clone, Copy)]
 pub struct Stubs {
     /// How far they came.
     pub tally: Tally,

@@ -12,7 +12,7 @@ use std::io::Write;
 use tape_image::{Word, stands};
 
 /// A word that memory does not have.
-#[derive(Clone, Copy, Debug)]
+#[derive(Clone, Copy)]
 pub(crate) struct Difference {
     /// The word of the plan.
     pub(crate) word: Word,

@@ -4,7 +4,7 @@ use std::alloc::AllocError;
 use tape_shelf::ShelfFault;
 
 /// Why a look came to nothing.
-#[derive(Clone, Copy, Debug, PartialEq, Eq)]
+#[derive(Clone, Copy)]
 pub enum LookFault {
     /// There is a file of that name already. It is as it was.
     IsThere,

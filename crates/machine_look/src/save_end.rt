@@ -1,7 +1,7 @@
 use engine::Cut;
 
 /// How a `save` ended.
-#[derive(Clone, Copy, Debug, PartialEq, Eq)]
+#[derive(Clone, Copy)]
 pub enum SaveEnd {
     /// Every word was read.
     Saved,

@@ -13,7 +13,7 @@ use reading_core::End;
 use sample_looks::Finding;
 
 /// What a save counts.
-#[derive(Clone, Copy, Debug, PartialEq, Eq)]
+#[derive(Clone, Copy)]
 pub struct SaveCounts {
     /// The characters that were sent.
     pub sent: u64,

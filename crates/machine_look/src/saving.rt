@@ -30,7 +30,7 @@ use std::io::Write;
 use tape_shelf::{Shelf, ShelfFault, last_text, tape_room, words_of};
 
 /// What is to be saved, and how.
-#[derive(Clone, Copy, Debug, PartialEq, Eq)]
+#[derive(Clone, Copy)]
 pub struct SaveOptions {
     /// The words that are read.
     pub range: AddressRange,

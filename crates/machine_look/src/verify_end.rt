@@ -1,7 +1,7 @@
 use engine::Cut;
 
 /// How a `verify` ended.
-#[derive(Clone, Copy, Debug, PartialEq, Eq)]
+#[derive(Clone, Copy)]
 pub enum VerifyEnd {
     /// Every word was looked at, and each stands.
     Same,

@@ -21,7 +21,7 @@ use std::io::Write;
 use tape_image::Plan;
 
 /// How a plan is verified.
-#[derive(Clone, Copy, Debug, PartialEq, Eq)]
+#[derive(Clone, Copy)]
 pub struct VerifyOptions {
     /// How often each word is looked at, where what the plan says is expected.
     pub care: Care,

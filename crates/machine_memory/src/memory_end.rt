@@ -5,7 +5,7 @@ ghost use Rattle.memory_report.specs.Report.{found_of};
 use memory_report::{Findings, TestEnd};
 
 /// What a test of memory came to.
-#[derive(Clone, Copy, Debug, PartialEq, Eq)]
+#[derive(Clone, Copy)]
 pub struct MemoryEnd {
     /// How it ended.
     pub end: TestEnd,

@@ -2,7 +2,7 @@ ghost use Rattle.std.specs.Prelude.{◌≡◌, ◌≤◌};
 ghost use Rattle.machine_memory.specs.Options.{words_asked};
 
 /// Which words are tested, and how patient the test is.
-#[derive(Clone, Copy, Debug, PartialEq, Eq)]
+#[derive(Clone, Copy)]
 pub struct MemoryOptions {
     /// The address of the first word: even, and below 160000 (octal).
     pub from: u16,

@@ -3,7 +3,7 @@ use host_devices::LineFault;
 use std::alloc::AllocError;
 
 /// Why a probe, or a test of memory, came to nothing.
-#[derive(Clone, Copy, Debug, PartialEq, Eq)]
+#[derive(Clone, Copy)]
 pub enum ProbeFault {
     /// The console can't be reached. Nothing was sent.
     Connect,

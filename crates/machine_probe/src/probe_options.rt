@@ -2,7 +2,7 @@ ghost use Rattle.std.specs.Prelude.{◌≡◌};
 ghost use Rattle.machine_probe.specs.Turns.{turns_of};
 
 /// Which word a probe tries, and how patient it is.
-#[derive(Clone, Copy, Debug, PartialEq, Eq)]
+#[derive(Clone, Copy)]
 pub struct ProbeOptions {
     /// The word's address: even, and below 160000 (octal).
     pub address: u16,

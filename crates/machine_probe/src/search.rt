@@ -2,7 +2,7 @@ use engine::Cut;
 use reading_core::End;
 
 /// How a search for the end of memory came out.
-#[derive(Clone, Copy, Debug, PartialEq, Eq)]
+#[derive(Clone, Copy)]
 pub enum Search {
     /// Memory goes from 000000 to here: the first byte's address at which there is none, at most 160000
     /// (octal), where the I/O page begins.
@@ -13,7 +13,7 @@ pub enum Search {
 }
 
 /// What a search for the end of memory came to.
-#[derive(Clone, Copy, Debug, PartialEq, Eq)]
+#[derive(Clone, Copy)]
 pub struct Searched {
     /// How it came out.
     pub search: Search,

@@ -2,7 +2,7 @@ ghost use Rattle.std.specs.Prelude.{◌≡◌};
 ghost use Rattle.memory_core.specs.Stage.{number_of, old_of};
 
 /// What is known of the word under way.
-#[derive(Clone, Copy, Debug, PartialEq, Eq)]
+#[derive(Clone, Copy)]
 pub enum Stage {
     /// Nothing: no digit was typed into it.
     Unseen,
@@ -19,7 +19,7 @@ pub enum Stage {
 }
 
 /// A word that may hold another number than it did before.
-#[derive(Clone, Copy, Debug, PartialEq, Eq)]
+#[derive(Clone, Copy)]
 pub struct Borrowed {
     /// Its address.
     pub address: u16,

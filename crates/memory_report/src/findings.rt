@@ -9,7 +9,7 @@ use crate::test_end::TestEnd;
 use memory_core::{Borrowed, Readings, Seen};
 
 /// A word that was tested, or that read differently with nothing deposited.
-#[derive(Clone, Copy, Debug, PartialEq, Eq)]
+#[derive(Clone, Copy)]
 pub struct Word {
     /// Its address.
     pub address: u16,

@@ -1,7 +1,7 @@
 use engine::Cut;
 
 /// How a test of memory ended.
-#[derive(Clone, Copy, Debug, PartialEq, Eq)]
+#[derive(Clone, Copy, PartialEq)]
 pub enum TestEnd {
     /// Every word that was asked for was tested, or its bank does not answer. One whose first two looks differ counts as tested.
     Tested,

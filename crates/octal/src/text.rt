@@ -5,7 +5,7 @@ use crate::digit::with_digit;
 use std::fmt;
 
 /// A word that is shown as its six octal digits.
-#[derive(Clone, Copy, Debug, PartialEq, Eq)]
+#[derive(Clone, Copy)]
 pub struct Octal(pub u16);
 
 impl fmt::Display for Octal {

@@ -1,7 +1,6 @@
 pub mod Style
 pub mod Character
 pub mod Key
-pub mod Error
 pub mod Machine
 pub mod Answer
 pub mod KeyTable

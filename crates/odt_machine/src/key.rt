@@ -4,7 +4,7 @@ ghost use Rattle.odt_machine.specs.Key.{key_of};
 use crate::character::{CARRIAGE_RETURN, GO, SLASH};
 
 /// What a typed character is to the console.
-#[derive(Clone, Copy, Debug, PartialEq, Eq)]
+#[derive(Clone, Copy)]
 pub enum Key {
     /// An octal digit, `0` to `7`.
     Digit,

@@ -1,5 +1,4 @@
-ghost use Rattle.std.specs.Prelude.{◌≡◌, ◌<◌, ◌↔◌, replicate, IsTrue, IsOk, IfOk, IfErr, Some};
-ghost use Rattle.odt_machine.specs.Error.{error_text};
+ghost use Rattle.std.specs.Prelude.{◌≡◌, ◌<◌, ◌↔◌, replicate, IsTrue, IsOk, IfOk, IfErr};
 ghost use Rattle.odt_machine.specs.Machine.{ModeFits, IsMachine, largest_words};
 
 mod memory;
@@ -8,8 +7,6 @@ mod typing;
 use crate::mode::Mode;
 use crate::style::Style;
 use std::alloc::Global;
-use std::error::Error;
-use std::fmt;
 use std::marker::Model;
 
 /// The most words that a machine's memory has: the addresses below the I/O page, which begins at
@@ -20,7 +17,7 @@ pub const LARGEST_WORDS: u16 = 28672;
 pub(crate) const MANY_DIGITS: u8 = 7;
 
 /// Why no machine was made.
-#[derive(Clone, Copy, Debug, PartialEq, Eq)]
+#[derive(Clone, Copy)]
 pub enum OdtError {
     /// More than 28,672 words were asked for.
     TooLarge,
@@ -29,24 +26,11 @@ pub enum OdtError {
     Memory,
 }
 
-impl fmt::Display for OdtError {
-    ghost output = { λ error. Some (error_text error) };
-
-    fn fmt<W: fmt::Write>(&self, f: &mut fmt::Formatter<W>) -> fmt::Result {
-        f.write_str(match self {
-            OdtError::TooLarge => "a machine has at most 28672 words",
-            OdtError::Memory => "no memory is left for the machine's words",
-        })
-    }
-}
-
-impl Error for OdtError {}
-
 /// A machine under its console ODT: its memory, the console's mode, and its style.
 ///
 /// Contracts see it as these three. Of every machine it holds that there are at most 28,672 words,
 /// that a digit count is 1 to 7, and that an open word lies in memory.
-#[derive(Debug, Drop)]
+#[derive(Drop)]
 pub struct Odt {
     style: Style,
     memory: Vec<u16>,

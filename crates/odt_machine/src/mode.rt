@@ -1,7 +1,7 @@
 /// What the console is in the middle of.
 ///
 /// Digits are counted from 1, and the count stays at 7 however many more are typed.
-#[derive(Clone, Copy, Debug, PartialEq, Eq)]
+#[derive(Clone, Copy)]
 pub enum Mode {
     /// At the prompt, with nothing typed.
     Prompt,

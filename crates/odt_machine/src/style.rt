@@ -2,7 +2,7 @@ ghost use Rattle.std.specs.Prelude.{◌≡◌, ◌≤◌, MatchOption};
 ghost use Rattle.odt_machine.specs.Style.{style_number};
 
 /// What the console's answers leave open: three choices, each a machine's own.
-#[derive(Clone, Copy, Debug, PartialEq, Eq)]
+#[derive(Clone, Copy)]
 pub struct Style {
     /// One space stands before the digits of an opened word.
     pub space_before: bool,

@@ -2,7 +2,7 @@ use engine::Cut;
 use trial_core::Seen;
 
 /// What a look at the word gave.
-#[derive(Clone, Copy, Debug, PartialEq, Eq)]
+#[derive(Clone, Copy)]
 pub enum Sighting {
     /// The word holds this number.
     Number(u16),
@@ -18,7 +18,7 @@ pub enum Sighting {
 }
 
 /// How the trial ended.
-#[derive(Clone, Copy, Debug, PartialEq, Eq)]
+#[derive(Clone, Copy)]
 pub enum TrialEnd {
     /// The digits and the illegal key were typed, and the prompt came back.
     Tried,
@@ -34,7 +34,7 @@ pub enum TrialEnd {
 }
 
 /// What the trial gave.
-#[derive(Clone, Copy, Debug, PartialEq, Eq)]
+#[derive(Clone, Copy)]
 pub struct TrialFindings {
     /// How it ended.
     pub end: TrialEnd,
@@ -47,7 +47,7 @@ pub struct TrialFindings {
 }
 
 /// What the search of memory's end gave.
-#[derive(Clone, Copy, Debug, PartialEq, Eq)]
+#[derive(Clone, Copy)]
 pub enum Extent {
     /// Memory ends below this address.
     Top(u16),
@@ -61,7 +61,7 @@ pub enum Extent {
 
 /// How many characters the looks of a probe heard that no loss explains: the line changed them, or made them up. Of a look
 /// that was not made there are none. In a trial, which types an illegal key into a console of any style, none is counted.
-#[derive(Clone, Copy, Debug, PartialEq, Eq)]
+#[derive(Clone, Copy)]
 pub struct Changes {
     /// In the first look at the word.
     pub first: u32,
@@ -74,7 +74,7 @@ pub struct Changes {
 }
 
 /// What the runs of a probe gave, each where it was made.
-#[derive(Clone, Copy, Debug, PartialEq, Eq)]
+#[derive(Clone, Copy)]
 pub struct Findings {
     /// The address of the word.
     pub address: u16,

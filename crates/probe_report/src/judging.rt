@@ -6,7 +6,7 @@ use crate::findings::{Findings, Sighting, TrialEnd};
 use trial_core::digits_for;
 
 /// What the findings say of a console.
-#[derive(Clone, Copy, Debug, PartialEq, Eq)]
+#[derive(Clone, Copy)]
 pub enum Verdict {
     /// It forgot the digits at the illegal key.
     Forgets,

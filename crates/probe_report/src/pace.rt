@@ -7,7 +7,7 @@ use crate::report::Report;
 use byte_io::{push_bytes, push_decimal};
 
 /// How fast the looks of a probe went, where a clock had the time.
-#[derive(Clone, Copy, Debug, PartialEq, Eq)]
+#[derive(Clone, Copy)]
 pub struct Pace {
     /// The mean time from a key to the first character that answers it, in microseconds.
     pub key: Option<u32>,

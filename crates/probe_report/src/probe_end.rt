@@ -1,7 +1,7 @@
 use engine::Cut;
 
 /// How a probe ended.
-#[derive(Clone, Copy, Debug, PartialEq, Eq)]
+#[derive(Clone, Copy)]
 pub enum ProbeEnd {
     /// The word was the same behind digits and an illegal key, and the end of memory was found.
     Probed,

@@ -1,5 +1,6 @@
 //! What is heard of a line that does not fall silent.
 
+use crate::pace::time_between;
 use host_core::Heard;
 use std::fmt;
 
@@ -33,41 +34,35 @@ impl Overheard {
         last: [0; SHOWN],
     };
 
-    /// What it is once one thing more was heard, at a time in milliseconds of the clock. A silence is the end of it.
-    pub(crate) fn hearing(self, heard: Heard, now: Option<u64>) -> Overheard {
-        let Heard::Got(character) = heard else {
-            return Overheard::NOTHING;
-        };
-        let since = self.since.or(now);
-        let lasting = match (since, now) {
-            (Some(since), Some(now)) => now.saturating_sub(since),
-            _ => 0,
-        };
-        let mut last = self.last;
-        last[self.count % SHOWN] = shown(character);
-        Overheard {
-            since,
-            lasting,
-            count: self.count.wrapping_add(1),
-            last,
+    /// One thing more was heard, at a time in milliseconds of the clock. A silence is the end of it.
+    pub(crate) fn hear(&mut self, heard: Heard, now: Option<u64>) {
+        match heard {
+            Heard::Got(character) => self.hear_character(character, now),
+            Heard::Quiet => *self = Overheard::NOTHING,
         }
     }
 
+    // A character more was heard.
+    fn hear_character(&mut self, character: u8, now: Option<u64>) {
+        self.since = self.since.or(now);
+        self.lasting = time_between(self.since, now);
+        self.last[self.count % SHOWN] = shown(character);
+        self.count = self.count.wrapping_add(1);
+    }
+
     /// Whether it has lasted so long that a person wants to know what it is.
-    pub(crate) fn is_long(self) -> bool {
+    pub(crate) fn is_long(&self) -> bool {
         self.lasting >= LONG
     }
 }
 
+// The last characters, in their order.
 impl fmt::Display for Overheard {
     fn fmt<W: fmt::Write>(&self, f: &mut fmt::Formatter<W>) -> fmt::Result {
-        f.write_str("the line is never silent, and says: ")?;
         for place in self.count.saturating_sub(SHOWN)..self.count {
             f.write_char(char::from(self.last[place % SHOWN]))?;
         }
-        f.write_str(
-            "\na program that runs does so, and a system that echoes (stty -echo); 'ldaodt probe LINE' says more",
-        )
+        Ok(())
     }
 }
 

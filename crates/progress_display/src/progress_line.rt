@@ -1,12 +1,10 @@
 //! One line on a terminal that says how far it is, rewritten in place.
-ghost use Rattle.std.specs.Prelude.{◌≡◌, IfSome};
-ghost use Rattle.progress_display.specs.ProgressText.{above_line, forecast_text, going_on_text, on_line, showing_text};
 
 use crate::headway::Headway;
 use crate::last_word::{LastWord, NOTHING_SAID};
 use crate::overheard::Overheard;
 use crate::pace::is_due;
-use crate::showing::{Forecast, GoingOn, KeptIn, Showing, TestedWord};
+use crate::showing::{KeptIn, Showing, TestedWord};
 use arrayvec::ArrayString;
 use host_devices::{Onlooker, Sight};
 use std::cell::Cell;
@@ -79,10 +77,9 @@ impl<'a, C: Clock, E: Print> ProgressLine<'a, C, E> {
     /// Shows which word is tested, and what it held, however lately something was shown: whoever breaks the test
     /// off while that word holds another number needs both.
     pub fn tests(&self, word: TestedWord) {
-        let now = self.now();
-        let headway = self.headway.get().testing(word);
-        self.headway.set(headway);
-        self.put(showing_line(headway.showing(now)), now);
+        let mut headway = self.headway.get();
+        headway.test(word);
+        self.show(headway, self.now());
     }
 
     /// What was typed into a word last, and what was read of one.
@@ -107,40 +104,52 @@ impl<'a, C: Clock, E: Print> ProgressLine<'a, C, E> {
 
     // The clock's time in milliseconds, where it has one.
     fn now(&self) -> Option<u64> {
-        let time = self.clock.monotonic().ok()?;
-        u64::try_from(time.as_millis()).ok()
+        match self.clock.monotonic() {
+            Ok(time) => u64::try_from(time.as_millis()).ok(),
+            Err(_) => None,
+        }
     }
 
     // Keeps what is known, and shows it where that is due. A clock with no time makes nothing due.
-    fn keep(&self, headway: Headway) {
+    fn keep(&self, mut headway: Headway) {
         let now = self.now();
-        let headway = headway.measured_anew(now);
-        self.headway.set(headway);
-        let due = match (self.shown.get(), now) {
-            (Some(shown), Some(now)) => is_due(shown, now),
-            (None, Some(_)) => true,
-            (_, None) => false,
-        };
-        if due {
-            let showing = headway.showing(now);
-            self.forecast(headway, now, showing.seconds_left);
-            self.put(showing_line(showing), now);
+        headway.measure(now);
+        if self.is_due(now) {
+            self.forecast(&headway, now);
+            self.show(headway, now);
+        } else {
+            self.headway.set(headway);
         }
     }
 
+    // Whether a showing is due.
+    fn is_due(&self, now: Option<u64>) -> bool {
+        match (self.shown.get(), now) {
+            (Some(shown), Some(now)) => is_due(shown, now),
+            (None, Some(_)) => true,
+            (_, None) => false,
+        }
+    }
+
+    // Keeps what is known, and shows it.
+    fn show(&self, headway: Headway, now: Option<u64>) {
+        self.headway.set(headway);
+        self.put(showing_line(headway.showing(now)), now);
+    }
+
     // Says once how long it takes, as soon as the pace is known, where that is long.
-    fn forecast(&self, headway: Headway, now: Option<u64>, seconds_left: Option<u64>) {
-        if !self.is_forecast_due.get() || !headway.has_pace(now) {
-            return;
+    fn forecast(&self, headway: &Headway, now: Option<u64>) {
+        if self.is_forecast_due.get() && headway.has_pace(now) {
+            self.is_forecast_due.set(false);
+            self.say_minutes(headway.seconds_left(now).unwrap_or(0) / 60);
         }
-        self.is_forecast_due.set(false);
-        let minutes = seconds_left.unwrap_or(0) / 60;
-        if minutes < LONG {
-            return;
-        }
-        let goes_on = self.kept_in != KeptIn::Nothing && !self.has_hinted.get();
-        if let Some(line) = forecast_line(Forecast { minutes, goes_on }) {
-            self.say(line.as_str());
+    }
+
+    // Says that it takes so many minutes, where they are many.
+    fn say_minutes(&self, minutes: u64) {
+        if minutes >= LONG {
+            let goes_on = self.kept_in != KeptIn::Nothing && !self.has_hinted.get();
+            self.say_line(forecast_line(minutes, goes_on));
         }
     }
 
@@ -154,12 +163,12 @@ impl<'a, C: Clock, E: Print> ProgressLine<'a, C, E> {
     }
 
     // Keeps what is heard while the line is listened to, and says it once, where it does not fall silent.
-    fn overhear(&self, headway: Headway, sight: Sight) {
-        if !headway.is_listening() {
-            self.overheard.set(Overheard::NOTHING);
-            return;
+    fn overhear(&self, headway: &Headway, sight: Sight) {
+        let mut overheard = Overheard::NOTHING;
+        if headway.is_listening() {
+            overheard = self.overheard.get();
+            overheard.hear(sight.heard, self.now());
         }
-        let overheard = self.overheard.get().hearing(sight.heard, self.now());
         self.overheard.set(overheard);
         if overheard.is_long() && !self.is_overheard_told.get() {
             self.is_overheard_told.set(true);
@@ -172,6 +181,11 @@ impl<'a, C: Clock, E: Print> ProgressLine<'a, C, E> {
     // Puts the line.
     fn put(&self, line: Option<LineText>, now: Option<u64>) {
         self.shown.set(now);
+        self.say_line(line);
+    }
+
+    // Writes a line, where it had room.
+    fn say_line(&self, line: Option<LineText>) {
         if let Some(line) = line {
             self.say(line.as_str());
         }
@@ -182,27 +196,24 @@ impl<C: Clock, E: Print> Onlooker for ProgressLine<'_, C, E> {
     fn begins(&self, done: u32, words: u32) {
         let now = self.now();
         let headway = Headway::new(done, words, now);
-        self.headway.set(headway);
         if done == 0 {
             self.hint(words);
-            self.put(showing_line(headway.showing(now)), now);
+            self.show(headway, now);
         } else {
-            let kept_in = self.kept_in;
-            let going_on = GoingOn {
-                done,
-                words,
-                kept_in,
-            };
-            self.put(going_on_line(going_on), now);
+            self.headway.set(headway);
+            self.put(going_on_line(done, words, self.kept_in), now);
         }
     }
 
     fn sees(&self, sight: Sight) {
-        self.last_word.set(self.last_word.get().seeing(sight));
+        let mut last_word = self.last_word.get();
+        last_word.see(sight);
+        self.last_word.set(last_word);
         let earlier = self.headway.get();
-        let headway = earlier.seeing(sight);
-        self.overhear(headway, sight);
-        if headway.is_news(earlier) {
+        let mut headway = earlier;
+        headway.see(sight);
+        self.overhear(&headway, sight);
+        if headway.is_news(&earlier) {
             self.keep(headway);
         } else {
             self.headway.set(headway);
@@ -211,9 +222,10 @@ impl<C: Clock, E: Print> Onlooker for ProgressLine<'_, C, E> {
 
     fn stub_begins(&self) {
         let now = self.now();
-        let headway = self.headway.get().typing_stub().measured_anew(now);
-        self.headway.set(headway);
-        self.put(showing_line(headway.showing(now)), now);
+        let mut headway = self.headway.get();
+        headway.type_stub();
+        headway.measure(now);
+        self.show(headway, now);
     }
 
     fn ends(&self) {
@@ -222,9 +234,7 @@ impl<C: Clock, E: Print> Onlooker for ProgressLine<'_, C, E> {
 }
 
 // What is written to show how far it is; none where that has no room.
-fn showing_line(showing: Showing) -> Option<LineText>
-    ensures { IfSome result (λ line. line.bytes ≡ on_line (showing_text showing)) }
-{
+fn showing_line(showing: Showing) -> Option<LineText> {
     let mut line = LineText::new();
     match write!(line, "\r\x1b[?7l{showing}\x1b[K\x1b[?7h") {
         Ok(()) => Some(line),
@@ -232,12 +242,15 @@ fn showing_line(showing: Showing) -> Option<LineText>
     }
 }
 
-// What is written to show that it goes on; none where that has no room.
-fn going_on_line(going_on: GoingOn) -> Option<LineText>
-    ensures { IfSome result (λ line. line.bytes ≡ on_line (going_on_text going_on)) }
-{
+// What is written until the first key to show that it goes on behind words that were done before; none where that has no
+// room.
+fn going_on_line(done: u32, words: u32, kept_in: KeptIn) -> Option<LineText> {
     let mut line = LineText::new();
-    match write!(line, "\r\x1b[?7l{going_on}\x1b[K\x1b[?7h") {
+    let remedy = kept_in.remedy();
+    match write!(
+        line,
+        "\r\x1b[?7lgoing on behind {done} of {words} words, listening{remedy}\x1b[K\x1b[?7h"
+    ) {
         Ok(()) => Some(line),
         Err(_) => None,
     }
@@ -246,18 +259,26 @@ fn going_on_line(going_on: GoingOn) -> Option<LineText>
 // What is written to say what was overheard; none where that has no room.
 fn overheard_text(overheard: Overheard) -> Option<ArrayString<256>> {
     let mut text = ArrayString::new();
-    match write!(text, "\r{overheard}\x1b[K\n") {
+    match write!(
+        text,
+        "\rthe line is never silent, and says: {overheard}\n\
+         a program that runs does so, and a system that echoes (stty -echo); 'ldaodt probe LINE' says more\x1b[K\n"
+    ) {
         Ok(()) => Some(text),
         Err(_) => None,
     }
 }
 
-// What is written to say how long it takes; none where that has no room.
-fn forecast_line(forecast: Forecast) -> Option<LineText>
-    ensures { IfSome result (λ line. line.bytes ≡ above_line (forecast_text forecast)) }
-{
+// What is written to say how many minutes it takes, and that a break costs nothing where that is so; none where that
+// has no room.
+fn forecast_line(minutes: u64, goes_on: bool) -> Option<LineText> {
     let mut line = LineText::new();
-    match write!(line, "\r{forecast}\x1b[K\n") {
+    let hint = if goes_on {
+        "; after Ctrl-C the same line goes on"
+    } else {
+        ""
+    };
+    match write!(line, "\rsome {minutes} minutes at this pace{hint}\x1b[K\n") {
         Ok(()) => Some(line),
         Err(_) => None,
     }

@@ -1,6 +1,6 @@
 /// How often a host looks at a word before it takes the number that it read there. A line that changes
 /// characters can make another number of one look.
-#[derive(Clone, Copy, Debug, PartialEq, Eq)]
+#[derive(Clone, Copy)]
 pub enum Care {
     /// Once.
     Once,

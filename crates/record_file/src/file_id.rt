@@ -8,7 +8,7 @@ use std::io;
 use std::os::unix::fs::MetadataExt;
 
 /// Which file it is, whatever its names: no two files that are there have the same device and inode.
-#[derive(Clone, Copy, PartialEq, Eq)]
+#[derive(Clone, Copy, PartialEq)]
 pub(crate) struct FileId {
     device: u64,
     inode: u64,

@@ -1,5 +1,5 @@
 /// Whether a load made the file of its record.
-#[derive(Clone, Copy, PartialEq, Eq)]
+#[derive(Clone, Copy)]
 pub(crate) enum Made {
     /// It was there before.
     Before,

@@ -11,7 +11,7 @@ use std::alloc::{AllocError, Global};
 use tape_image::Plan;
 
 /// How a record may be begun anew over the one that was read.
-#[derive(Clone, Copy, Debug, PartialEq, Eq)]
+#[derive(Clone, Copy)]
 pub enum Writable {
     /// Not at all: its file may not be written, or is not there and can't be made.
     No,

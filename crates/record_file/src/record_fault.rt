@@ -3,7 +3,7 @@ use host_devices::KeepFault;
 use std::alloc::AllocError;
 
 /// Why a record can't be read, or not be begun anew.
-#[derive(Clone, Copy, Debug, PartialEq, Eq)]
+#[derive(Clone, Copy)]
 pub enum RecordFault {
     /// Its file can't be opened or read, or is no file that could hold a record.
     Read,

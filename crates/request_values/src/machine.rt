@@ -8,7 +8,7 @@ use reading_core::Care;
 use tape_image::Start;
 
 /// A load into a real machine.
-#[derive(Clone, Copy, Debug, PartialEq, Eq)]
+#[derive(Clone, Copy)]
 pub struct Load<'a> {
     /// The line to the console: the path of a device, which has a slash, or HOST:PORT.
     pub line: &'a str,
@@ -30,7 +30,7 @@ pub struct Load<'a> {
 }
 
 /// A look at a real machine.
-#[derive(Clone, Copy, Debug, PartialEq, Eq)]
+#[derive(Clone, Copy)]
 pub struct Look<'a> {
     /// The line to the console: the path of a device, which has a slash, or HOST:PORT.
     pub line: &'a str,
@@ -46,7 +46,7 @@ pub struct Look<'a> {
 }
 
 /// A save of what a real machine holds.
-#[derive(Clone, Copy, Debug, PartialEq, Eq)]
+#[derive(Clone, Copy)]
 pub struct Save<'a> {
     /// The new tape's file, which is not there yet.
     pub file: &'a str,
@@ -62,7 +62,7 @@ pub struct Save<'a> {
 }
 
 /// A probe of a real machine's console.
-#[derive(Clone, Copy, Debug, PartialEq, Eq)]
+#[derive(Clone, Copy)]
 pub struct Probe<'a> {
     /// The address of the word that is tried: even, and below 160000 (octal).
     pub address: u16,
@@ -73,7 +73,7 @@ pub struct Probe<'a> {
 }
 
 /// A test of a real machine's memory.
-#[derive(Clone, Copy, Debug, PartialEq, Eq)]
+#[derive(Clone, Copy)]
 pub struct MemoryTest<'a> {
     /// The words of which some are tested.
     pub range: AddressRange,

@@ -1,12 +1,12 @@
 /// What is printed of checked tapes beside their usual text.
-#[derive(Clone, Copy, Debug, PartialEq, Eq)]
+#[derive(Clone, Copy)]
 pub struct CheckOptions {
     /// Whether each block is listed.
     pub blocks: bool,
 }
 
 /// How a load is to go about it.
-#[derive(Clone, Copy, Debug, PartialEq, Eq)]
+#[derive(Clone, Copy)]
 pub struct LoadOptions {
     /// How many mishaps the host survives.
     pub patience: u32,

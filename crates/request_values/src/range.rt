@@ -4,7 +4,7 @@ ghost use Rattle.reading_core.specs.Addresses.{IsRange};
 use tape_values::TOP;
 
 /// A first and a last address of words, both of them meant: even, below 160000 (octal), and in this order.
-#[derive(Clone, Copy, Debug, PartialEq, Eq)]
+#[derive(Clone, Copy)]
 pub struct AddressRange {
     from: u16,
     to: u16,

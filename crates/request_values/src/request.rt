@@ -80,7 +80,7 @@ pub enum MachineRequest<'a> {
 }
 
 /// A tape that is made of octal words.
-#[derive(Clone, Copy, Debug, PartialEq, Eq)]
+#[derive(Clone, Copy)]
 pub struct Make<'a> {
     /// The new tape's file, which is not there yet.
     pub file: &'a str,
@@ -93,7 +93,7 @@ pub struct Make<'a> {
 }
 
 /// A simulated console: how many words its machine has, and how it answers.
-#[derive(Clone, Copy, Debug, PartialEq, Eq)]
+#[derive(Clone, Copy)]
 pub struct Console {
     /// The words of the machine, 0 to 28,672.
     pub words: u16,
@@ -103,7 +103,7 @@ pub struct Console {
 }
 
 /// What a load is shown on.
-#[derive(Clone, Copy, Debug, PartialEq, Eq)]
+#[derive(Clone, Copy)]
 pub struct Stage {
     /// The simulated console.
     pub console: Console,

@@ -1,6 +1,8 @@
 -- What is known at a moment, before something is done or behind it, and what was not asked meanwhile.
 use Rattle.std.specs.Prelude.{◌≡◌, ℕ, List, Option}
 use Rattle.console_lines.specs.Console.{ConsoleTold}
+use Rattle.console_lines.specs.Dialling.{Call}
+use Rattle.console_lines.specs.Path.{call_to}
 use Rattle.endings.specs.Held.{Held}
 use Rattle.input_files.specs.Intake.{Intake, intake}
 use Rattle.record_file.specs.DiskStep.{DiskStep}
@@ -22,7 +24,11 @@ moment holds system held = record { asked = system.asked; holds = holds system.d
 abbrev pub intake_at : Moment → Intake
 intake_at known = intake known.asked.inputs known.held
 
--- what is told of the console that a look is meant for, and of standard output
+-- where the line to the console leads that a look is meant for
+abbrev pub call_for : Look → Call
+call_for look = call_to look.line.now look.quiet_ms
+
+-- what is told of that console, and of standard output
 abbrev pub console_at : Look → Moment → ConsoleTold
 console_at look known = console_of look.line.now look.quiet_ms known.asked.outside known.held.out
 

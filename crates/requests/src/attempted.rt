@@ -1,7 +1,7 @@
 use endings::Status;
 
 /// What a request came to that was attempted.
-#[derive(Clone, Copy, Debug, PartialEq, Eq)]
+#[derive(Clone, Copy)]
 pub struct Attempted {
     /// How the program ends.
     pub status: Status,

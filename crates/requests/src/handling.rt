@@ -60,17 +60,28 @@ pub fn attempt<K: Kinds, R: Read, W: Output, E: FaultOutput, T: Print>(
             load_tapes(system, alloc, names, *load, streams, terminal, witness)
         }
         Request::Machine(MachineRequest::Verify(names, look)) => {
-            verify_tapes(system, alloc, names, *look, streams, terminal, witness)
+            let outcome = verify_tapes(
+                &mut system,
+                alloc,
+                names,
+                *look,
+                streams,
+                terminal,
+                witness,
+            );
+            (system, outcome)
         }
         Request::Machine(MachineRequest::Save(save)) => {
             save_words(system, alloc, *save, streams, terminal, witness)
         }
         Request::Machine(MachineRequest::Probe(probe)) => {
             say_probing(alloc, terminal, probe.look);
-            probe_console(system, alloc, *probe, streams, witness)
+            let outcome = probe_console(&mut system, alloc, *probe, streams, witness);
+            (system, outcome)
         }
         Request::Machine(MachineRequest::Memory(test)) => {
-            test_words(system, alloc, *test, streams, terminal, witness)
+            let outcome = test_words(&mut system, alloc, *test, streams, terminal, witness);
+            (system, outcome)
         }
     };
     let status = end(alloc, only_prints, outcome, streams, terminal, witness);

@@ -1,22 +1,25 @@
 //! Saving what a real machine holds.
 ghost use Rattle.std.specs.Prelude.{◌≡◌, IfOk, IfErr};
+ghost use Rattle.console_lines.specs.Console.{console_told};
+ghost use Rattle.machine_look.specs.Save.{save_told};
 ghost use Rattle.request_values.specs.Change.{◌⇒◌};
-ghost use Rattle.requests.specs.Moment.{moment};
-ghost use Rattle.requests.specs.Saving.{AreWordsSaved, AreWordsUnsaved};
+ghost use Rattle.requests.specs.Moment.{call_for, moment};
+ghost use Rattle.requests.specs.Saving.{AreWordsSaved, AreWordsUnsaved, IsSaveFailure, IsSaveOver};
 
 use crate::ending::after_save;
 use crate::request_fault::RequestFault;
 use crate::system::{Kinds, System};
 use crate::watch::Watch;
 use advice::advise_save;
-use console_lines::Dial;
+use console_lines::{Consoles, Dial};
 use endings::{Failure, FaultOutput, Output, Status, Streams};
 use machine_look::{SaveOptions, save};
 use progress_display::KeptIn;
 use request_values::Save;
 use std::alloc::Global;
-use std::io::{Print, Read};
-use tape_shelf::NewFile;
+use std::io::{Print, Read, Write};
+use std::time::Clock;
+use tape_shelf::{NewFile, Shelf};
 use witness::Witness;
 
 /// Saves words of a real machine as a tape in a new file, in a system that comes back, and answers the exit
@@ -49,6 +52,30 @@ pub(crate) fn save_words<'a, K: Kinds, R: Read, W: Output, E: FaultOutput, T: Pr
         mut consoles,
         clock,
     } = system;
+    let shown = Watch::new(&clock, terminal, KeptIn::Part, witness);
+    let mut shelf = NewFile::new(disk, request.file);
+    let out = &mut streams.out;
+    let outcome = save_on(alloc, request, &mut shelf, &mut consoles, out, &shown);
+    let system = System::new(inputs, shelf.close(), consoles, clock);
+    (system, outcome)
+}
+
+// Saves them on a shelf, over the line of one of these consoles.
+fn save_on<'a, S: Shelf, C: Consoles, W: Write, H: Clock, T: Print>(
+    alloc: Global,
+    request: Save<'a>,
+    shelf: &mut S,
+    consoles: &mut C,
+    out: &mut W,
+    watch: &Watch<'_, H, T>,
+) -> Result<Status, Failure<'a>>
+    ensures ok { IfOk result (IsSaveOver request.entry
+        (save_told (S.told shelf.old) (console_told C.Consoles W.Write (call_for request.entry.look) consoles.old out.old)
+        ⇒ save_told (S.told shelf.new) (console_told C.Consoles W.Write (call_for request.entry.look) consoles.new out.new))) }
+    ensures err { IfErr result (IsSaveFailure request.entry
+        (save_told (S.told shelf.old) (console_told C.Consoles W.Write (call_for request.entry.look) consoles.old out.old)
+        ⇒ save_told (S.told shelf.new) (console_told C.Consoles W.Write (call_for request.entry.look) consoles.new out.new))) }
+{
     let look = request.look;
     let options = SaveOptions {
         range: request.range,
@@ -56,21 +83,14 @@ pub(crate) fn save_words<'a, K: Kinds, R: Read, W: Output, E: FaultOutput, T: Pr
         patience: look.patience,
         care: look.care,
     };
-    let mut shelf = NewFile::new(disk, request.file);
     let dial = Dial {
         name: look.line,
         quiet_ms: look.quiet_ms,
     };
-    let out = &mut streams.out;
-    let shown = Watch::new(&clock, terminal, KeptIn::Part, witness);
-    let saved = save(alloc, options, &mut shelf, &mut consoles, dial, out, &shown);
-    advise_save(shown.progress(), saved);
-    let system = System::new(inputs, shelf.close(), consoles, clock);
+    let saved = save(alloc, options, shelf, consoles, dial, out, watch);
+    advise_save(watch.progress(), saved);
     match saved {
-        Ok(end) => (system, after_save(end, request.file)),
-        Err(fault) => {
-            let failure = RequestFault::Look(fault).failure(look.line, request.file);
-            (system, Err(failure))
-        }
+        Ok(end) => after_save(end, request.file),
+        Err(fault) => Err(RequestFault::Look(fault).failure(look.line, request.file)),
     }
 }

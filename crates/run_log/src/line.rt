@@ -1,7 +1,7 @@
 //! The line of a run in a log.
 //!
 //! It is gathered first and written in one write, so that nothing else can stand in its midst.
-ghost use Rattle.std.specs.Prelude.{◌≡◌, ◌≤◌, ◌+◌, ◌++◌, OnOk, OnErr};
+ghost use Rattle.std.specs.Prelude.{◌≡◌, ◌≤◌, ◌+◌, ◌++◌, OnOk, OnErr, codes};
 ghost use Rattle.byte_io.specs.Text.{line};
 ghost use Rattle.endings.specs.FaultOutput.{IsSaidInPart, IsSaidWhole};
 ghost use Rattle.arrayvec.specs.ArrayVec.{array_vec_len};
@@ -85,7 +85,6 @@ fn write_line<E: FaultOutput>(
     ensures err { OnErr result (IsSaidInPart (E.said err.old) (E.said err.new) (log_line time.now.items run.now)) }
 {
     say(err, time)?;
-    say(err, b" ")?;
     write_request(err, run.request)?;
     say(err, &line_end(run))
 }
@@ -115,20 +114,20 @@ fn push_changed(end: &mut LineEnd, count: u32)
     }
 }
 
-// Writes what was asked for.
+// Writes what was asked for, behind the time.
 fn write_request<E: FaultOutput>(
     err: &mut E,
     request: &MachineRequest<'_>,
 ) -> Result<(), WriteFault>
-    ensures ok { OnOk result (IsSaidWhole (E.said err.old) (E.said err.new) (request_text request.now)) }
-    ensures err { OnErr result (IsSaidInPart (E.said err.old) (E.said err.new) (request_text request.now)) }
+    ensures ok { OnOk result (IsSaidWhole (E.said err.old) (E.said err.new) (codes " " ++ request_text request.now)) }
+    ensures err { OnErr result (IsSaidInPart (E.said err.old) (E.said err.new) (codes " " ++ request_text request.now)) }
 {
     match request {
-        MachineRequest::Load(tapes, load) => write_names(err, b"load", tapes, load.line),
-        MachineRequest::Verify(tapes, look) => write_names(err, b"verify", tapes, look.line),
-        MachineRequest::Save(save) => write_names(err, b"save", &[save.file], save.look.line),
-        MachineRequest::Probe(probe) => write_names(err, b"probe", &[], probe.look.line),
-        MachineRequest::Memory(test) => write_names(err, b"memory", &[], test.look.line),
+        MachineRequest::Load(tapes, load) => write_names(err, b" load", tapes, load.line),
+        MachineRequest::Verify(tapes, look) => write_names(err, b" verify", tapes, look.line),
+        MachineRequest::Save(save) => write_names(err, b" save", &[save.file], save.look.line),
+        MachineRequest::Probe(probe) => write_names(err, b" probe", &[], probe.look.line),
+        MachineRequest::Memory(test) => write_names(err, b" memory", &[], test.look.line),
     }
 }
 

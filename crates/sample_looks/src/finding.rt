@@ -7,7 +7,7 @@ use reading_core::End;
 use tape_image::{Word, stands};
 
 /// What looks at some words of a plan found.
-#[derive(Clone, Copy, Debug, PartialEq, Eq)]
+#[derive(Clone, Copy)]
 pub enum Finding {
     /// Each was read, and stands.
     AllStand,

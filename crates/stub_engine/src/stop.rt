@@ -2,7 +2,7 @@ use host_core::End;
 use std::alloc::AllocError;
 
 /// Why no more stubs are brought in, where no device failed.
-#[derive(Clone, Copy, Debug, PartialEq, Eq)]
+#[derive(Clone, Copy)]
 pub enum StubsEnd {
     /// Fewer than 256 words are to be gained by a stub.
     TooFewWords,

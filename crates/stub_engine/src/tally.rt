@@ -4,7 +4,7 @@ ghost use Rattle.stub_engine.specs.Tallies.{begun, duplex_behind, with_counts, w
 use exchange_core::Duplex;
 
 /// How far the stubs of a load have come.
-#[derive(Clone, Copy, Debug, PartialEq, Eq)]
+#[derive(Clone, Copy)]
 pub struct Tally {
     /// So many words from the beginning of the plan are verified.
     pub verified: u32,

@@ -1,5 +1,5 @@
 /// The host that types a stub: a loading one, whose plan is the stub's.
-#[derive(Clone, Copy, Debug, PartialEq, Eq)]
+#[derive(Clone, Copy)]
 pub struct Typist {
     /// Whether it is careful, as for a line that changes characters.
     pub careful: bool,

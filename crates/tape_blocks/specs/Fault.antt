@@ -1,9 +1,6 @@
 -- How a fault of a tape is printed.
 use Rattle.std.specs.Prelude.{ℕ, List, ◌++◌, codes, decimal}
-use Rattle.tape_values.specs.OutOfMemory.{memory_text}
 use Rattle.tape_blocks.specs.declared.fault.Fault.{Fault}
-use Rattle.tape_blocks.specs.declared.fault.ReadError.{ReadError}
-use Rattle.tape_blocks.specs.declared.fault.ReadError.TheVariants.{Tape, Memory}
 use Rattle.tape_blocks.specs.declared.fault.Why.{Why}
 use Rattle.tape_blocks.specs.declared.fault.Why.TheVariants.{Stray, BadMark, BadCount, Cut, BadSum, PastTop, NoTransfer, TooLong}
 
@@ -25,8 +22,3 @@ fault_text fault = codes "refused at " ++ decimal fault.at ++ codes ": " ++ why_
 -- the same, said of a tape
 abbrev pub refused_tape_text : Fault → List ℕ
 refused_tape_text fault = codes "tape " ++ fault_text fault
-
--- what is said of an input that was not read
-abbrev pub read_error_text : ReadError → List ℕ
-read_error_text (Tape fault) = refused_tape_text fault
-read_error_text Memory = memory_text

@@ -1,12 +1,10 @@
 -- What is taken of an input to read the tape that begins it, where the input tells its bytes; where it doesn't, these
 -- definitions speak of lengths and answers alone.
-use Rattle.std.specs.Prelude.{◌≡◌, ◌⊎◌, ℕ, ◌+◌, ◌≤◌, ◌++◌, List, Option, length, take, codes, Result, Ok, Err, IfOk, ⊤}
+use Rattle.std.specs.Prelude.{◌≡◌, ◌⊎◌, ℕ, ◌+◌, ◌≤◌, ◌++◌, List, Option, length, take, Result, Ok, Err, IfOk, ⊤}
 use Rattle.std.specs.Io.KnownBytes.{Consumes, IsAtEnd}
 use Rattle.tape_values.specs.Block.{BlockValue}
 use Rattle.tape_values.specs.Tape.{TapeValue, IsTape, tape_limit}
 use Rattle.tape_blocks.specs.Refusal.{IsRefused}
-use Rattle.tape_values.specs.OutOfMemory.{memory_text}
-use Rattle.tape_blocks.specs.Fault.{refused_tape_text}
 use Rattle.tape_blocks.specs.Layout.{IsLaidOut}
 use Rattle.tape_blocks.specs.Standing.{IsRefusedForGood}
 use Rattle.tape_blocks.specs.TapeReader.{IsForMore}
@@ -57,9 +55,3 @@ pub record IsReadWithLayout (before after : Option (List ℕ)) (result : Result 
 abbrev pub from_read_error : ReadError → FromError
 from_read_error (Tape fault) = TapeOf fault
 from_read_error Memory = NoMemory
-
--- what is said of an input that gave no tape
-abbrev pub from_error_text : FromError → List ℕ
-from_error_text (TapeOf fault) = refused_tape_text fault
-from_error_text NoMemory = memory_text
-from_error_text Io = codes "a read failed"

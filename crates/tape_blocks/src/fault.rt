@@ -3,12 +3,9 @@ ghost use Rattle.std.specs.Prelude.{◌≡◌, ◌<◌, ◌^◌};
 use arrayvec::ArrayString;
 use itoa::Buffer;
 use std::alloc::{AllocError, AllocFailed};
-use std::error::Error;
-use std::fmt;
-use tape_values::OUT_OF_MEMORY;
 
 /// Why an input is no tape. `s` is the place of the block's 01, and places count from 0.
-#[derive(Clone, Copy, Debug, PartialEq, Eq)]
+#[derive(Clone, Copy)]
 pub enum Why {
     /// A byte that is not 00 and begins no block: at that byte.
     Stray,
@@ -58,17 +55,6 @@ impl Why {
     }
 }
 
-impl fmt::Display for Why {
-    ghost use Rattle.std.specs.Prelude.{Some};
-    ghost use Rattle.tape_blocks.specs.Fault.{why_text};
-
-    ghost output = { λ why. Some (why_text why) };
-
-    fn fmt<W: fmt::Write>(&self, f: &mut fmt::Formatter<W>) -> fmt::Result {
-        f.write_str(self.name())
-    }
-}
-
 /// What stands before a tape's fault where it is printed as that of a tape.
 pub const TAPE: &str = "tape ";
 
@@ -79,7 +65,7 @@ pub const REFUSED_AT: &str = "refused at ";
 pub type FaultText = ArrayString<33>;
 
 /// What is wrong with an input, and at which of its bytes, counted from 0.
-#[derive(Clone, Copy, Debug, PartialEq, Eq)]
+#[derive(Clone, Copy)]
 pub struct Fault {
     /// The place of the fault in the input.
     pub at: u32,
@@ -114,21 +100,8 @@ impl Fault {
     }
 }
 
-impl fmt::Display for Fault {
-    ghost use Rattle.std.specs.Prelude.{Some};
-    ghost use Rattle.tape_blocks.specs.Fault.{fault_text};
-
-    ghost output = { λ fault. Some (fault_text fault) };
-
-    fn fmt<W: fmt::Write>(&self, f: &mut fmt::Formatter<W>) -> fmt::Result {
-        f.write_str(self.text().as_str())
-    }
-}
-
-impl Error for Fault {}
-
 /// Why an input was not read.
-#[derive(Clone, Copy, Debug, PartialEq, Eq)]
+#[derive(Clone, Copy)]
 pub enum ReadError {
     /// The input is no tape.
     Tape(Fault),
@@ -136,22 +109,6 @@ pub enum ReadError {
     /// A growth of memory was refused.
     Memory,
 }
-
-impl fmt::Display for ReadError {
-    ghost use Rattle.std.specs.Prelude.{Some};
-    ghost use Rattle.tape_blocks.specs.Fault.{read_error_text};
-
-    ghost output = { λ e. Some (read_error_text e) };
-
-    fn fmt<W: fmt::Write>(&self, f: &mut fmt::Formatter<W>) -> fmt::Result {
-        match self {
-            ReadError::Tape(fault) => write!(f, "{TAPE}{fault}"),
-            ReadError::Memory => f.write_str(OUT_OF_MEMORY),
-        }
-    }
-}
-
-impl Error for ReadError {}
 
 impl From<Fault> for ReadError {
     ghost use Rattle.std.specs.Prelude.{◌≡◌};

@@ -2,20 +2,19 @@
 ghost use Rattle.std.specs.Prelude.{◌≡◌};
 ghost use Rattle.tape_blocks.specs.Input.{IsReadFrom, IsReadWithLayout};
 
-use crate::fault::{Fault, ReadError, TAPE};
+use crate::fault::{Fault, ReadError};
 use crate::layout::Layout;
 use crate::reader::{Fed, TapeReader};
 use std::alloc::{AllocError, Global};
-use std::error::Error;
+use std::io;
 use std::io::Read;
-use std::{fmt, io};
-use tape_values::{OUT_OF_MEMORY, TAPE_LIMIT, Tape};
+use tape_values::{TAPE_LIMIT, Tape};
 
 // The most bytes that are taken: one more than a tape may have, so that a longer one is seen.
 const INPUT_LIMIT: usize = TAPE_LIMIT + 1;
 
 /// Why an input gave no tape.
-#[derive(Clone, Copy, Debug, PartialEq, Eq)]
+#[derive(Clone, Copy)]
 pub enum FromError {
     /// The input is no tape.
     Tape(Fault),
@@ -26,23 +25,6 @@ pub enum FromError {
     /// A read failed.
     Io,
 }
-
-impl fmt::Display for FromError {
-    ghost use Rattle.std.specs.Prelude.{Some};
-    ghost use Rattle.tape_blocks.specs.Input.{from_error_text};
-
-    ghost output = { λ e. Some (from_error_text e) };
-
-    fn fmt<W: fmt::Write>(&self, f: &mut fmt::Formatter<W>) -> fmt::Result {
-        match self {
-            FromError::Tape(fault) => write!(f, "{TAPE}{fault}"),
-            FromError::Memory => f.write_str(OUT_OF_MEMORY),
-            FromError::Io => f.write_str("a read failed"),
-        }
-    }
-}
-
-impl Error for FromError {}
 
 impl From<ReadError> for FromError {
     ghost use Rattle.std.specs.Prelude.{◌≡◌};

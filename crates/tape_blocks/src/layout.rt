@@ -1,5 +1,5 @@
 /// How a tape lies in the bytes that it was read from.
-#[derive(Debug, Drop)]
+#[derive(Drop)]
 pub struct Layout {
     /// At which of these bytes each data block begins, counted from 0, in the order of the blocks.
     pub places: Vec<u32>,

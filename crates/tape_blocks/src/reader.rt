@@ -33,7 +33,7 @@ pub fn read_tape(alloc: Global, bytes: &[u8]) -> Result<(Tape, u32), ReadError>
 }
 
 /// What a piece of a tape came to.
-#[derive(Clone, Copy, Debug, PartialEq, Eq)]
+#[derive(Clone, Copy)]
 pub enum Fed {
     /// The tape goes on behind the piece.
     More,

@@ -15,7 +15,7 @@ pub(crate) const PAGE: usize = 512;
 /// one of the image's.
 ///
 /// Contracts see an image: the marked bytes by their offsets in the page, 0 to 511.
-#[derive(Debug, Drop)]
+#[derive(Drop)]
 pub(crate) struct Page {
     marks: [bool; PAGE],
     bytes: [u8; PAGE],

@@ -17,7 +17,7 @@ const PAGES: usize = 112;
 /// The image of blocks, as a table of pages that are made where a block touches them.
 ///
 /// Contracts see the image.
-#[derive(Debug, Drop)]
+#[derive(Drop)]
 pub(crate) struct Pages {
     table: Vec<Option<Box<Page>>>,
 }

@@ -17,7 +17,7 @@ use tape_values::{Memory, Tape};
 ///
 /// Contracts see the image as a finite map from addresses to bytes, the list of the words and the
 /// start, and no block. Inside, a plan keeps the image in pages.
-#[derive(Debug, Drop)]
+#[derive(Drop)]
 pub struct Plan {
     pages: Pages,
     words: Vec<Word>,

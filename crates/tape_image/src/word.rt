@@ -24,7 +24,7 @@ const BYTE: u16 = 256;
 /// The address is even and below 160000 (octal). The mask says which bytes of the word are the
 /// tape's: 000377 the low one, 177400 the high one, 177777 both. The value has these bytes, and 0
 /// outside the mask. Contracts see the record of the three.
-#[derive(Clone, Copy, Debug, PartialEq, Eq)]
+#[derive(Clone, Copy)]
 pub struct Word {
     address: u16,
     mask: u16,

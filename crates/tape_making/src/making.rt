@@ -14,7 +14,7 @@ use tape_blocks::write_tape;
 const INPUT_LIMIT: usize = WORDS_LIMIT + 1;
 
 /// Why no tape was made.
-#[derive(Clone, Copy, Debug, PartialEq, Eq)]
+#[derive(Clone, Copy)]
 pub enum MakeFault {
     /// The words are refused.
     Words(Refusal),

@@ -1,9 +1,7 @@
 use std::alloc::{AllocError, AllocFailed};
-use std::error::Error;
-use std::fmt;
 
 /// Why a line of words is refused, or the whole text.
-#[derive(Clone, Copy, Debug, PartialEq, Eq)]
+#[derive(Clone, Copy)]
 pub enum WordsWhy {
     /// Something on the line is no octal number of one to six digits, or is above 177777, or a slash
     /// stands elsewhere than behind the address.
@@ -41,19 +39,8 @@ impl WordsWhy {
     }
 }
 
-impl fmt::Display for WordsWhy {
-    ghost use Rattle.std.specs.Prelude.{Some};
-    ghost use Rattle.tape_making.specs.Refusal.{why_text};
-
-    ghost output = { λ why. Some (why_text why) };
-
-    fn fmt<W: fmt::Write>(&self, f: &mut fmt::Formatter<W>) -> fmt::Result {
-        f.write_str(self.name())
-    }
-}
-
 /// Which line of words is refused, and why.
-#[derive(Clone, Copy, Debug, PartialEq, Eq)]
+#[derive(Clone, Copy)]
 pub struct Refusal {
     /// The line's number, from 1; 0 is a text that is too long.
     pub line: usize,
@@ -65,21 +52,8 @@ pub struct Refusal {
 /// What is said of words that are refused, before the line's number.
 pub const REFUSED_WORDS: &str = "words refused at line ";
 
-impl fmt::Display for Refusal {
-    ghost use Rattle.std.specs.Prelude.{Some};
-    ghost use Rattle.tape_making.specs.Refusal.{refusal_text};
-
-    ghost output = { λ refusal. Some (refusal_text refusal) };
-
-    fn fmt<W: fmt::Write>(&self, f: &mut fmt::Formatter<W>) -> fmt::Result {
-        write!(f, "{REFUSED_WORDS}{}: {}", self.line, self.why)
-    }
-}
-
-impl Error for Refusal {}
-
 /// Why a text was not read as words.
-#[derive(Clone, Copy, Debug, PartialEq, Eq)]
+#[derive(Clone, Copy)]
 pub enum WordsFault {
     /// It is refused.
     Refused(Refusal),
@@ -100,7 +74,7 @@ impl From<AllocError> for WordsFault {
 }
 
 /// Why no row was read from a line.
-#[derive(Clone, Copy, Debug, PartialEq, Eq)]
+#[derive(Clone, Copy)]
 pub(crate) enum RowFault {
     /// It is wrong.
     Wrong(WordsWhy),

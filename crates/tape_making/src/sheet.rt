@@ -7,7 +7,7 @@ use std::alloc::{AllocError, Global};
 use tape_values::{Block, TOP};
 
 /// A byte for each address below 160000 (octal) that words were said for.
-#[derive(Debug, Drop)]
+#[derive(Drop)]
 pub struct Sheet {
     bytes: Vec<Option<u8>>,
 }

@@ -9,7 +9,7 @@ use request_values::AddressRange;
 use std::alloc::Global;
 
 /// Why a tape can't be put somewhere.
-#[derive(Clone, Copy, Debug, PartialEq, Eq)]
+#[derive(Clone, Copy)]
 pub enum ShelfFault {
     /// Something is there already.
     IsThere,

@@ -1,5 +1,5 @@
 -- Which lists of blocks make no tape, and why.
-use Rattle.std.specs.Prelude.{◌≡◌, ℕ, ◌+◌, ◌<◌, List, length, All, take, slice_get, IsSomeAnd, ◌++◌, codes, decimal}
+use Rattle.std.specs.Prelude.{◌≡◌, ℕ, ◌+◌, ◌<◌, List, length, All, take, slice_get, IsSomeAnd}
 use Rattle.tape_values.specs.Block.{BlockValue, IsBlock, top}
 use Rattle.tape_values.specs.Tape.{tape_limit, written_length}
 use Rattle.tape_values.specs.declared.tape.BadTape.{BadTape}
@@ -14,9 +14,3 @@ abbrev pub IsBadTape : List BlockValue → BadTape → Type 0
 IsBadTape blocks (EmptyBlock n) = IsFirstAt blocks n (λ b. length b.bytes ≡ 0)
 IsBadTape blocks (BlockPastTop n) = IsFirstAt blocks n (λ b. (0 < length b.bytes) × (top < b.address + length b.bytes))
 IsBadTape blocks TooMuch = All IsBlock blocks × (tape_limit < written_length blocks)
-
--- what is said of blocks that make no tape
-abbrev pub bad_tape_text : BadTape → List ℕ
-bad_tape_text (EmptyBlock n) = codes "block " ++ decimal n ++ codes " is empty"
-bad_tape_text (BlockPastTop n) = codes "block " ++ decimal n ++ codes " ends above 160000"
-bad_tape_text TooMuch = codes "the blocks are too much for a tape"

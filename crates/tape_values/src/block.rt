@@ -15,7 +15,7 @@ pub const TOP: usize = 0o160000;
 ///
 /// Contracts see the record of the address and the list of the bytes. Nothing is promised of a lone
 /// block: a `Tape` holds only blocks that are not empty and end at or below 160000 (octal).
-#[derive(Debug, Drop)]
+#[derive(Drop)]
 pub struct Block {
     /// The address of the first byte.
     pub address: u16,

@@ -4,15 +4,13 @@ ghost use Rattle.tape_values.specs.Tape.{IsSound, IsTape, plain_text, tape_limit
 ghost use Rattle.tape_values.specs.BadTape.{IsBadTape, IsFirstAt};
 
 use crate::block::{Block, FRAME, TOP};
-use std::error::Error;
-use std::fmt;
 use std::marker::Model;
 
 /// The most bytes that a tape may have, up to the end of its transfer block (this project's choice).
 pub const TAPE_LIMIT: usize = 1_048_576;
 
 /// Why a list of blocks makes no tape. Blocks are numbered from 0.
-#[derive(Clone, Copy, Debug, PartialEq, Eq)]
+#[derive(Clone, Copy)]
 pub enum BadTape {
     /// This block has no bytes, and the blocks before it are good.
     EmptyBlock(usize),
@@ -24,28 +22,11 @@ pub enum BadTape {
     TooMuch,
 }
 
-impl fmt::Display for BadTape {
-    ghost use Rattle.std.specs.Prelude.{Some};
-    ghost use Rattle.tape_values.specs.BadTape.{bad_tape_text};
-
-    ghost output = { λ bad. Some (bad_tape_text bad) };
-
-    fn fmt<W: fmt::Write>(&self, f: &mut fmt::Formatter<W>) -> fmt::Result {
-        match self {
-            BadTape::EmptyBlock(number) => write!(f, "block {number} is empty"),
-            BadTape::BlockPastTop(number) => write!(f, "block {number} ends above 160000"),
-            BadTape::TooMuch => f.write_str("the blocks are too much for a tape"),
-        }
-    }
-}
-
-impl Error for BadTape {}
-
 /// The blocks of a tape in their order, and its start address.
 ///
 /// Each block is not empty and ends at or below 160000 (octal), and the tape can be written in at
 /// most 1,048,576 bytes.
-#[derive(Debug, Drop)]
+#[derive(Drop)]
 pub struct Tape {
     blocks: Vec<Block>,
     start: u16,

@@ -19,7 +19,7 @@ mod told_step;
 pub use line_request::LineRequest;
 pub use memory_disk::MemoryDisk;
 pub use memory_file::MemoryFile;
-pub use told_disk::{FailingSteps, ToldDisk};
+pub use told_disk::ToldDisk;
 pub use told_file::ToldFile;
 pub use told_opening::ToldOpening;
 pub use told_step::{ToldRequest, ToldStep};

@@ -11,11 +11,7 @@ use record_file::{Access, Disk};
 use std::alloc::{AllocError, Global};
 use std::fs::Metadata;
 use std::io;
-use std::io::ErrorKind;
 use std::path::PathBuf;
-
-/// Which of the things that are asked fail, by their numbers from 0, and how; the disk is not asked for these.
-pub type FailingSteps = &'static [(usize, ErrorKind)];
 
 /// The disk of the system, with a list of what was asked of it: as long as there is memory for that, since
 /// a list that lacks a step would be wrong.
@@ -23,22 +19,16 @@ pub type FailingSteps = &'static [(usize, ErrorKind)];
 pub struct ToldDisk<'a> {
     alloc: Global,
     disk: &'a HostRuntime,
-    failing: FailingSteps,
-
-    /// How many things were asked.
-    count: usize,
     asked: Option<Vec<ToldStep>>,
 }
 
 impl<'a> ToldDisk<'a> {
     /// A disk of which nothing was asked yet.
-    pub fn new(disk: &'a HostRuntime, failing: FailingSteps) -> ToldDisk<'a> {
+    pub fn new(disk: &'a HostRuntime) -> ToldDisk<'a> {
         let alloc = disk.alloc();
         ToldDisk {
             alloc,
             disk,
-            failing,
-            count: 0,
             asked: Some(Vec::new(alloc)),
         }
     }
@@ -59,20 +49,6 @@ impl<'a> ToldDisk<'a> {
             text.push_str(line.as_str()).ok()?;
         }
         Some(text)
-    }
-
-    // Counts one thing more that is asked, which may be one that fails.
-    fn count(&mut self) -> io::Result<()>
-        ensures { self.new.asked ≡ self.old.asked }
-    {
-        let number = self.count;
-        self.count = number.saturating_add(1);
-        for (failing, kind) in self.failing {
-            if *failing == number {
-                return Err(io::Error::from(*kind));
-            }
-        }
-        Ok(())
     }
 
     // A copy of a name.
@@ -113,7 +89,6 @@ impl<'a> ToldDisk<'a> {
         ensures asked { self.new.asked ≡ self.old.asked }
     {
         let copy = self.copy(name)?;
-        self.count()?;
         Ok(ToldFile {
             file: self.disk.open(access, name)?,
             name: copy,
@@ -131,31 +106,25 @@ impl Disk for ToldDisk<'_> {
     ghost is_opened_as = { λ file name. string_bytes file.name ≡ name };
 
     fn look(&mut self, name: &str) -> io::Result<Metadata> {
-        let found = match self.count() {
-            Ok(()) => self.disk.look(name),
-            Err(error) => Err(error),
-        };
+        let found = self.disk.look(name);
         self.tell(self.copy(name).map(ToldRequest::Look), found.is_ok());
         found
     }
 
     fn look_at_name(&mut self, name: &str) -> io::Result<Metadata> {
-        let found = match self.count() {
-            Ok(()) => self.disk.look_at_name(name),
-            Err(error) => Err(error),
-        };
+        let found = self.disk.look_at_name(name);
         self.tell(self.copy(name).map(ToldRequest::LookAtName), found.is_ok());
         found
     }
 
     fn is_sole_file(&mut self, name: &str) -> bool {
-        let is_sole = self.count().is_ok() && self.disk.is_sole_file(name);
+        let is_sole = self.disk.is_sole_file(name);
         self.tell(self.copy(name).map(ToldRequest::FindSoleFile), is_sole);
         is_sole
     }
 
     fn has_name(&mut self, name: &str, file: &ToldFile) -> bool {
-        let has_name = self.count().is_ok() && self.disk.has_name(name, &file.file);
+        let has_name = self.disk.has_name(name, &file.file);
         match (self.copy(name), Vec::from_slice(self.alloc, &file.written)) {
             (Ok(name), Ok(written)) => self.tell(
                 Ok(ToldRequest::FindFile(name, written)),
@@ -167,10 +136,7 @@ impl Disk for ToldDisk<'_> {
     }
 
     fn resolve(&mut self, alloc: Global, name: &str) -> io::Result<PathBuf<Global>> {
-        let target = match self.count() {
-            Ok(()) => self.disk.resolve(alloc, name),
-            Err(error) => Err(error),
-        };
+        let target = self.disk.resolve(alloc, name);
         match &target {
             Ok(path) => match (self.copy(name), self.copy(path.as_str())) {
                 (Ok(name), Ok(path)) => self.add(ToldStep::LedTo(name, path)),
@@ -191,16 +157,13 @@ impl Disk for ToldDisk<'_> {
     }
 
     fn hold(&mut self, file: &ToldFile) -> bool {
-        let is_held = self.count().is_ok() && self.disk.hold(&file.file);
+        let is_held = self.disk.hold(&file.file);
         self.tell(self.copy(&file.name).map(ToldRequest::Hold), is_held);
         is_held
     }
 
     fn link(&mut self, from: &str, to: &str) -> io::Result<()> {
-        let linked = match self.count() {
-            Ok(()) => self.disk.link(from, to),
-            Err(error) => Err(error),
-        };
+        let linked = self.disk.link(from, to);
         match (self.copy(from), self.copy(to)) {
             (Ok(from), Ok(to)) => self.tell(Ok(ToldRequest::Link(from, to)), linked.is_ok()),
             _ => self.asked = None,
@@ -209,10 +172,7 @@ impl Disk for ToldDisk<'_> {
     }
 
     fn rename(&mut self, file: &ToldFile, from: &str, to: &str) -> io::Result<()> {
-        let renamed = match self.count() {
-            Ok(()) => self.disk.rename(&file.file, from, to),
-            Err(error) => Err(error),
-        };
+        let renamed = self.disk.rename(&file.file, from, to);
         let on_disk = &file.written[..file.on_disk.min(file.written.len())];
         match (
             self.copy(from),
@@ -229,19 +189,13 @@ impl Disk for ToldDisk<'_> {
     }
 
     fn remove(&mut self, name: &str) -> io::Result<()> {
-        let removed = match self.count() {
-            Ok(()) => self.disk.remove(name),
-            Err(error) => Err(error),
-        };
+        let removed = self.disk.remove(name);
         self.tell(self.copy(name).map(ToldRequest::Remove), removed.is_ok());
         removed
     }
 
     fn sync_folder(&mut self, folder: &ToldFile) -> io::Result<()> {
-        let synced = match self.count() {
-            Ok(()) => self.disk.sync_folder(&folder.file),
-            Err(error) => Err(error),
-        };
+        let synced = self.disk.sync_folder(&folder.file);
         self.tell(
             self.copy(&folder.name).map(ToldRequest::SyncFolder),
             synced.is_ok(),
@@ -250,10 +204,7 @@ impl Disk for ToldDisk<'_> {
     }
 
     fn cut(&mut self, file: &ToldFile, length: u64) -> io::Result<()> {
-        let cut = match self.count() {
-            Ok(()) => self.disk.cut(&file.file, length),
-            Err(error) => Err(error),
-        };
+        let cut = self.disk.cut(&file.file, length);
         match Vec::from_slice(self.alloc, &file.written) {
             Ok(written) => self.tell(Ok(ToldRequest::Cut(written, length)), cut.is_ok()),
             Err(_) => self.asked = None,
@@ -262,10 +213,7 @@ impl Disk for ToldDisk<'_> {
     }
 
     fn sync_file(&mut self, file: &ToldFile) -> io::Result<()> {
-        let synced = match self.count() {
-            Ok(()) => self.disk.sync_file(&file.file),
-            Err(error) => Err(error),
-        };
+        let synced = self.disk.sync_file(&file.file);
         match Vec::from_slice(self.alloc, &file.written) {
             Ok(written) => self.tell(Ok(ToldRequest::SyncFile(written)), synced.is_ok()),
             Err(_) => self.asked = None,

@@ -1,7 +1,7 @@
 use crate::letter::SmallLetters;
 
 /// What was seen of a thing that a console may do or not.
-#[derive(Clone, Copy, Debug, PartialEq, Eq)]
+#[derive(Clone, Copy)]
 pub enum Habit {
     /// It was not looked at.
     Unseen,
@@ -17,7 +17,7 @@ pub enum Habit {
 }
 
 /// What was seen of a console's style, and of small letters.
-#[derive(Clone, Copy, Debug, PartialEq, Eq)]
+#[derive(Clone, Copy)]
 pub struct Seen {
     /// One space stands before the digits of an opened word.
     pub space_before: Habit,

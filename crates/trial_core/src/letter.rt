@@ -5,7 +5,7 @@ pub(crate) const SMALL_LETTER: u8 = b'a';
 pub(crate) const CAPITAL_LETTER: u8 = b'A';
 
 /// What was seen of small letters.
-#[derive(Clone, Copy, Debug, PartialEq, Eq)]
+#[derive(Clone, Copy)]
 pub enum SmallLetters {
     /// None was typed, or no whole answer that begins with the letter came.
     NotKnown,

@@ -1,7 +1,7 @@
 use crate::letter::SmallLetters;
 
 /// How a trial ended.
-#[derive(Clone, Copy, Debug, PartialEq, Eq)]
+#[derive(Clone, Copy)]
 pub enum End {
     /// The three digits and `Z` were typed into the open word, and the console came back to its prompt.
     Tried,

@@ -3,6 +3,7 @@ ghost use Rattle.std.specs.Prelude.{◌≡◌};
 
 use crate::seen::Witness;
 use record_file::{DiskFile, SyncWrite};
+use std::cell::Cell;
 use std::fs::{Metadata, Permissions};
 use std::io;
 use std::io::{Read, Write};
@@ -14,7 +15,7 @@ pub struct WatchedFile<'c, T> {
     witness: &'c Witness,
 
     // Whether something was read of it.
-    is_begun: bool,
+    is_begun: Cell<bool>,
 }
 
 impl<'c, T> WatchedFile<'c, T> {
@@ -25,8 +26,17 @@ impl<'c, T> WatchedFile<'c, T> {
         WatchedFile {
             file,
             witness,
-            is_begun: false,
+            is_begun: Cell::new(false),
         }
+    }
+
+    // Keeps which bytes were read first, and last.
+    fn see(&self, bytes: &[u8]) {
+        if !self.is_begun.get() {
+            self.is_begun.set(true);
+            self.witness.see_front(bytes);
+        }
+        self.witness.see_end(bytes);
     }
 }
 
@@ -35,14 +45,8 @@ impl<T: Read> Read for WatchedFile<'_, T> {
 
     fn read(&mut self, buf: &mut [u8]) -> io::Result<usize> {
         let answer = self.file.read(buf);
-        if let Ok(count) = answer
-            && !self.is_begun
-        {
-            self.is_begun = true;
-            self.witness.see_front(&buf[..count]);
-        }
         if let Ok(count) = answer {
-            self.witness.see_end(&buf[..count]);
+            self.see(&buf[..count]);
         }
         self.witness.of_read(answer)
     }
@@ -89,14 +93,8 @@ impl<T: DiskFile> DiskFile for WatchedFile<'_, T> {
 
     fn read_next(&mut self, buf: &mut [u8]) -> io::Result<usize> {
         let answer = self.file.read_next(buf);
-        if let Ok(count) = answer
-            && !self.is_begun
-        {
-            self.is_begun = true;
-            self.witness.see_front(&buf[..count]);
-        }
         if let Ok(count) = answer {
-            self.witness.see_end(&buf[..count]);
+            self.see(&buf[..count]);
         }
         self.witness.of_read(answer)
     }

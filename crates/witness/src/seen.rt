@@ -90,9 +90,7 @@ impl Witness {
         ensures { result ≡ answer }
     {
         if let Err(error) = &answer {
-            if self.unread.get().is_none() && error.kind() != ErrorKind::Interrupted {
-                self.unread.set(Some(*error));
-            }
+            self.keep_unread(*error);
         }
         self.of_call(answer)
     }
@@ -123,8 +121,9 @@ impl Witness {
         ensures { result ≡ answer }
     {
         if let Err(error) = &answer {
-            if error.kind() != ErrorKind::NotFound {
-                self.keep(*error);
+            match error.kind() {
+                ErrorKind::NotFound => {}
+                _ => self.keep(*error),
             }
         }
         answer
@@ -133,9 +132,8 @@ impl Witness {
     /// Keeps the first bytes of a file.
     pub(crate) fn see_front(&self, bytes: &[u8]) {
         let mut front = [0; FRONT_LENGTH];
-        for (place, byte) in front.iter_mut().zip(bytes) {
-            *place = *byte;
-        }
+        let count = bytes.len().min(FRONT_LENGTH);
+        front[..count].copy_from_slice(&bytes[..count]);
         self.front.set(front);
         self.end.set([0; END_LENGTH]);
     }
@@ -143,11 +141,18 @@ impl Witness {
     /// Keeps the last bytes of what was read.
     pub(crate) fn see_end(&self, bytes: &[u8]) {
         let mut end = self.end.get();
-        for byte in &bytes[bytes.len().saturating_sub(END_LENGTH)..] {
-            let [_, second, third, fourth, fifth, sixth] = end;
-            end = [second, third, fourth, fifth, sixth, *byte];
-        }
+        let last = &bytes[bytes.len().saturating_sub(END_LENGTH)..];
+        end.rotate_left(last.len());
+        end[END_LENGTH - last.len()..].copy_from_slice(last);
         self.end.set(end);
+    }
+
+    // Keeps how a read failed, where none did before.
+    fn keep_unread(&self, error: io::Error) {
+        match (self.unread.get(), error.kind()) {
+            (Some(_), _) | (None, ErrorKind::Interrupted) => {}
+            (None, _) => self.unread.set(Some(error)),
+        }
     }
 
     // Keeps an error in place of the one before.

@@ -53,28 +53,29 @@ returns g c =
             quiet = w.load_tapes.ensures.quiet;
           })
       | in-Machine-Verify w ↦
-          let due : IfErr w.verify_tapes.result.1 (AreUnverified w.in-Machine-Verify.names.items w.in-Machine-Verify.look (before ⇒ moment holds w.verify_tapes.result.0 w.verify_tapes.new.streams)) =
-          subst (λ items. IfErr w.verify_tapes.result.1 (AreUnverified items w.in-Machine-Verify.look (before ⇒ moment holds w.verify_tapes.result.0 w.verify_tapes.new.streams)))
-          w.deref-in-Machine-Verify.ensures.value w.verify_tapes.ensures.err in
-          came_to holds _ before _ w.verify_tapes.result _ w.verify_tapes.new.streams w.system-is w.streams-is (record {
+          let over = w.verify_tapes-outcome in
+          let due : IfErr over.result (AreUnverified w.in-Machine-Verify.names.items w.in-Machine-Verify.look (before ⇒ moment holds over.new.system over.new.streams)) =
+          subst (λ items. IfErr over.result (AreUnverified items w.in-Machine-Verify.look (before ⇒ moment holds over.new.system over.new.streams)))
+          w.deref-in-Machine-Verify.ensures.value over.ensures.err in
+          came_to holds _ before _ (over.new.system, over.result) _ over.new.streams w.system-is w.streams-is (record {
             ok = search rules;
             err = grind rules steps 20000000;
-            quiet = w.verify_tapes.ensures.quiet;
+            quiet = over.ensures.quiet;
           })
       | in-Machine-Save w ↦ came_to holds _ before _ w.save_words.result _ w.save_words.new.streams w.system-is w.streams-is (record {
         ok = search rules;
         err = search rules;
         quiet = w.save_words.ensures.quiet;
       })
-      | in-Machine-Probe w ↦ came_to holds _ before _ w.probe_console.result _ w.probe_console.new.streams w.system-is w.streams-is (record {
+      | in-Machine-Probe w ↦ came_to holds _ before _ (w.probe_console-outcome.new.system, w.probe_console-outcome.result) _ w.probe_console-outcome.new.streams w.system-is w.streams-is (record {
         ok = search rules;
         err = search rules;
-        quiet = w.probe_console.ensures.quiet;
+        quiet = w.probe_console-outcome.ensures.quiet;
       })
-      | in-Machine-Memory w ↦ came_to holds _ before _ w.test_words.result _ w.test_words.new.streams w.system-is w.streams-is (record {
+      | in-Machine-Memory w ↦ came_to holds _ before _ (w.test_words-outcome.new.system, w.test_words-outcome.result) _ w.test_words-outcome.new.streams w.system-is w.streams-is (record {
         ok = search rules;
         err = search rules;
-        quiet = w.test_words.ensures.quiet;
+        quiet = w.test_words-outcome.ensures.quiet;
       })
     ])
     c.end-status.ensures c.say_changed.ensures.others c.say_changed.ensures.told

@@ -1,18 +1,17 @@
-use Rattle.std.proofs.Common.{◌≡◌, inl, refl, ap, option_map, subst}
+use Rattle.std.proofs.Common.{◌≡◌, IfOk, IfErr, refl, ap, option_map, subst}
+use Rattle.std.proofs.lemmas.Result.{IfOk-weaker, IfErr-weaker}
 use Rattle.console_lines.specs.Path.{call_to}
 use Rattle.endings.specs.Held.{Held}
-use Rattle.tape_shelf.specs.ShelfDisk.{room_of}
-use Rattle.tape_shelf.specs.ShelfDisk.{part_name}
-use Rattle.machine_look.specs.LookFault.{IsSaveFault}
-use Rattle.machine_look.specs.Save.{IsSavedAndReported, save_told}
+use Rattle.tape_shelf.specs.ShelfDisk.{part_name, room_of}
+use Rattle.machine_look.specs.Save.{save_told}
 use Rattle.tape_shelf.specs.ShelfTold.{ShelfTold}
+use Rattle.request_values.specs.Change.{◌⇒◌}
 use Rattle.requests.specs.Asked.{asked_of, system_told}
-use Rattle.requests.specs.Moment.{console_at, moment}
-use Rattle.requests.specs.Saving.{options_of, shelf_at}
-use Rattle.requests.proofs.Saved.{new_is, same_left, saved, shelf_on, unsaved}
+use Rattle.requests.specs.Moment.{TakesNoInput, console_at, moment}
+use Rattle.requests.specs.Saving.{IsSaveFailure, IsSaveOver, shelf_at}
+use Rattle.requests.proofs.Saved.{new_is, same_left, shelf_on}
 use Rattle.requests.proofs.Consoles.{at_output}
 use Rattle.requests.proofs.saving.save_words.Goals as goal
-use Rattle.requests.proofs.saving.save_words.Goals.{in-Ok, in-Err}
 
 pub returns : goal.returns
 returns g c =
@@ -22,11 +21,12 @@ returns g c =
     let disk = g.K.Disk.Disk.asked in
     let room = option_map (room_of g.K.Disk.File.Write.contents) in
     let opened = g.K.Inputs.InputFiles.opened inside.inputs in
-    let consoles' = c.save-saved.new.consoles in
+    let on = c.save_on-outcome in
+    let consoles' = on.new.consoles in
     let held : Held = record {
       input = g.R.Read.remaining c.streams.inside.input;
-      out = g.W.Write.contents c.save-saved.new.out;
-      unread = g.W.Output.unread c.save-saved.new.out;
+      out = g.W.Write.contents on.new.out;
+      unread = g.W.Output.unread on.new.out;
       err = g.E.FaultOutput.said c.streams.inside.err;
     } in
     let before = moment g.K.Disk.Disk.holds (system_told (asked_of opened (disk inside.disk) (asked inside.consoles) (lines inside.consoles)) inside.disk) c.args.streams.now in
@@ -37,7 +37,7 @@ returns g c =
     (record { asked = asked inside.consoles; call = call_to look.line.now look.quiet_ms; lines = lines inside.consoles; out = held.out })
     (record { asked = asked consoles'; call = call_to look.line.now look.quiet_ms; lines = lines consoles'; out = held.out }) in
     let fresh = c.new-shelf in
-    let kept = c.save-saved.new.shelf in
+    let kept = on.new.shelf in
     let holds = g.K.Disk.Disk.holds in
     let left = holds fresh.result.disk (part_name fresh.result.name.now) in
     let shelf : ShelfTold = shelf_on (disk kept.disk) kept.name.now (room kept.part) (holds kept.disk (part_name kept.name.now)) in
@@ -45,31 +45,13 @@ returns g c =
     let is_new : first ≡ shelf_at save.file before =
     new_is save.file (disk inside.disk) _ _ _ _ _ (ap disk fresh.ensures.disk) fresh.ensures.name (ap room fresh.ensures.room)
     (same_left holds fresh.result.disk inside.disk fresh.result.name.now save.file.now fresh.ensures.disk fresh.ensures.name) in
-    let read = ap (λ (h : Held). h.input) c.streams.view_is in
-    let quiet = ap (λ (h : Held). h.err) c.streams.view_is in
-    rw (← c.system.view_is) (elim c.match-saved.branch [
-      | in-Ok w ↦
-          let end = w.in-Ok.end in
-          let reported = subst (λ s. IsSavedAndReported (options_of save) (save_told s (console_at look before)) (save_told shelf (console_at look after)) end) is_new
-          (said (λ x y. IsSavedAndReported (options_of save) (save_told first x) (save_told shelf y) end) w.in-Ok.ensures.ok) in
-          rw (w.result-is, c.new-system.ensures) (record {
-            ok = saved save before after (record { no_file = refl; nothing_read = read }) end shelf reported c.close.ensures.asked w.after_save.result w.after_save.ensures.status;
-            err = unsaved save before after (record { no_file = refl; nothing_read = read }) end shelf reported c.close.ensures.asked w.after_save.result w.after_save.ensures.failure;
-            quiet = quiet;
-          })
-      | in-Err w ↦ rw (w.result-is, c.new-system.ensures) (record {
-        ok = tt;
-        err = record {
-          shelf = shelf;
-          failed = inl (record {
-            fault = w.in-Err.fault;
-            is_so = subst (λ s. IsSaveFault (options_of save) (save_told s (console_at look before)) (save_told shelf (console_at look after)) w.in-Err.fault) is_new
-                (said (λ x y. IsSaveFault (options_of save) (save_told first x) (save_told shelf y) w.in-Err.fault) w.in-Err.ensures.err);
-            is_called = w.failure-failure.ensures;
-          });
-          let_go = c.close.ensures.asked;
-          no_input = record { no_file = refl; nothing_read = read };
-        };
-        quiet = quiet;
-      })
-    ])
+    let no_input : TakesNoInput (before ⇒ after) = record { no_file = refl; nothing_read = ap (λ (h : Held). h.input) c.streams.view_is } in
+    rw (← c.system.view_is, c.new-system.ensures) (record {
+      ok = IfOk-weaker on.result _ _ (λ status is. record { shelf = shelf; saved = is; let_go = c.close.ensures.asked; no_input = no_input })
+          (subst (λ s. IfOk on.result (IsSaveOver save (save_told s (console_at look before) ⇒ save_told shelf (console_at look after)))) is_new
+          (said (λ x y. IfOk on.result (IsSaveOver save (save_told first x ⇒ save_told shelf y))) on.ensures.ok));
+      err = IfErr-weaker on.result _ _ (λ failure is. record { shelf = shelf; failed = is; let_go = c.close.ensures.asked; no_input = no_input })
+          (subst (λ s. IfErr on.result (IsSaveFailure save (save_told s (console_at look before) ⇒ save_told shelf (console_at look after)))) is_new
+          (said (λ x y. IfErr on.result (IsSaveFailure save (save_told first x ⇒ save_told shelf y))) on.ensures.err));
+      quiet = ap (λ (h : Held). h.err) c.streams.view_is;
+    })

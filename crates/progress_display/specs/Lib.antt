@@ -1,4 +1,0 @@
-pub mod Headway
-pub mod LastWord
-pub mod Pace
-pub mod ProgressText

@@ -1,5 +1,6 @@
 pub mod Addresses
 pub mod Bound
+pub mod Doubt
 pub mod Invariant
 pub mod Laws
 pub mod MemoryTable

@@ -1,5 +1,5 @@
 -- What a run of a test over an honest line says of it.
-use Rattle.std.proofs.Common.{◌≡◌, ℕ, ◌+◌, ◌≤◌, ◌/◌, ◌==◌, ◌&&◌, nat_lt, Bool, true, false, if◌then◌else◌, List, [], ◌∷◌, length, refl, arith, ap, sym, subst, ◌∙◌, length-set}
+use Rattle.std.proofs.Common.{◌≡◌, ℕ, ◌+◌, ◌≤◌, ◌==◌, ◌&&◌, nat_lt, Bool, true, false, if◌then◌else◌, List, [], ◌∷◌, length, refl, arith, ap, sym, subst, ◌∙◌}
 use Rattle.std.proofs.lemmas.Bool.Decides.{nat_tests}
 use Rattle.odt_machine.specs.Machine.{Machine, IsMachine}
 use Rattle.odt_machine.specs.Laws.{is_running}
@@ -34,7 +34,7 @@ use Rattle.memory_core.specs.Laws.{led}
 use Rattle.memory_core.specs.Tester.{Tester, address_under_way, begun, borrowed_at}
 use Rattle.memory_law.specs.Testing.{dialogue, MayTest, IsAsItWas, HasCause, IsTrueTest, TestsAreTrue, TestsLeaveItReady, TestsMayStandInARow, UnsaidTestsAreTrue}
 use Rattle.memory_law.proofs.Ahead.{ahead, ahead_asked, only_if}
-use Rattle.memory_law.proofs.Kept.{AreCounted, IsKeptTest, MemoryIs, dialogue_kept}
+use Rattle.memory_law.proofs.Kept.{AreCounted, IsKeptTest, MemoryIs, as_long, dialogue_kept}
 use Rattle.memory_law.proofs.Mirror.{Account, core_for, phase_for, scene_for}
 
 -- ---- the beginning
@@ -70,6 +70,7 @@ begin_kept machine addresses waiting patience is console stopped few =
       tester = is;
       counted = record { spent_before = 0; lost_before = 0; spent = omega arith; patience = omega arith; lost = omega arith; paid = omega arith };
       memory_is = refl;
+      unfailed = tt;
       words = λ i other low. absurd (omega (arith, low));
       wide = console.wide;
     }
@@ -81,12 +82,6 @@ as_it_was memory a Unseen now at = at
 as_it_was memory a (Once first) now at = at.0
 as_it_was memory a (Turned old) now at = (at.lies, at.held, at.number, at.stands)
 as_it_was memory a (Returned old turned) now at = (at.0.lies, at.0.held, at.0.number, at.0.stands)
-
-as_long : (memory : List ℕ) (a : ℕ) (stage : Stage) (now : List ℕ) → MemoryIs memory a stage now → length now ≡ length memory
-as_long memory a Unseen now at = ap length at
-as_long memory a (Once first) now at = ap length at.0
-as_long memory a (Turned old) now at = ap length at.stands ∙ length-set memory (a / 2) at.number
-as_long memory a (Returned old turned) now at = ap length at.0.stands ∙ length-set memory (a / 2) at.0.number
 
 -- what the loading host's invariant says of an end
 ended : (memory : List ℕ) (t : Tester) (x : Wire) (end : End) → t.phase ≡ Ended end → (k : IsKeptTest memory t x) →

@@ -1,2 +1,3 @@
+mod Bits
 mod Dots
 mod Joins

@@ -1,6 +1,7 @@
 pub mod Addresses
 pub mod Bound
 pub mod Doubt
+pub mod Foreign
 pub mod Invariant
 pub mod Laws
 pub mod MemoryTable

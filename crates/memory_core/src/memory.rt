@@ -3,11 +3,14 @@ ghost use Rattle.host_core.specs.declared.heard.Heard.TheVariants.{Got};
 ghost use Rattle.reading_core.specs.Addresses.{AreAddresses, IsRange};
 ghost use Rattle.memory_core.specs.Addresses.{every_address};
 ghost use Rattle.memory_core.specs.Bound.{testing_bound};
+ghost use Rattle.memory_core.specs.Foreign.{is_foreign};
 ghost use Rattle.memory_core.specs.Invariant.{IsTester, HasWord, basis_of};
 ghost use Rattle.memory_core.specs.Laws.{KeepsBound, ReportsOnlyHeard, TypesOnlyTesting};
 ghost use Rattle.memory_core.specs.MemoryTable.{KeyTests, ask, counted, counts, next_word, refused, seen_after, stray, taken, turn_of};
 ghost use Rattle.memory_core.specs.declared.turn.Turn.TheVariants.{Counts};
 ghost use Rattle.memory_core.specs.Tester.{address_under_way, begun, borrowed, ended, tester_of};
+
+mod foreign;
 
 use crate::doubt::Doubt;
 use crate::life::{LifeState, TesterStep};
@@ -39,6 +42,7 @@ pub struct MemoryCore {
 impl Model for MemoryCore {
     ghost use Rattle.std.specs.Prelude.{◌≤◌, length, vec_capacity};
     ghost use Rattle.memory_core.specs.Tester.{Tester, tester_of};
+    ghost use Rattle.memory_core.specs.Foreign.{is_foreign};
     ghost use Rattle.memory_core.specs.Invariant.{IsTester};
 
     ghost Value = { Tester };
@@ -139,6 +143,17 @@ impl MemoryCore {
         ensures kept { IsTester self.now }
     {
         self.life.sent
+    }
+
+    /// Whether no answer that is awaited here has what is heard, whatever of it is lost. Over a line that only loses characters
+    /// none is ever heard (`memory_law`, `tests_hear_nothing_foreign`).
+    pub fn is_foreign(&self, heard: Heard) -> bool
+        ensures { result ≡ is_foreign self.now heard }
+    {
+        match heard {
+            Heard::Got(c) => !self.may_come(c),
+            Heard::Quiet => false,
+        }
     }
 
     /// How this life ended, if it did.

@@ -32,10 +32,11 @@ use Rattle.memory_core.specs.declared.stage.Stage.TheVariants.{Unseen, Once, Tur
 use Rattle.memory_core.specs.Invariant.{IsTester}
 use Rattle.memory_core.specs.Laws.{led}
 use Rattle.memory_core.specs.Tester.{Tester, address_under_way, begun, borrowed_at}
-use Rattle.memory_law.specs.Testing.{dialogue, MayTest, IsAsItWas, HasCause, IsTrueTest, TestsAreTrue, TestsLeaveItReady, TestsMayStandInARow, UnsaidTestsAreTrue}
+use Rattle.memory_law.specs.Testing.{dialogue, MayTest, IsAsItWas, HasCause, IsTrueTest, TestsAreTrue, TestsHearNothingForeign, TestsLeaveItReady, TestsMayStandInARow, UnsaidTestsAreTrue}
 use Rattle.memory_law.proofs.Ahead.{ahead, ahead_asked, only_if}
-use Rattle.memory_law.proofs.Kept.{AreCounted, IsKeptTest, MemoryIs, as_long, dialogue_kept}
-use Rattle.memory_law.proofs.Mirror.{Account, core_for, phase_for, scene_for}
+use Rattle.memory_law.proofs.Kept.{AreCounted, IsKeptTest, MemoryIs, as_long, dialogue_kept, dialogue_known}
+use Rattle.memory_core.specs.Foreign.{phase_for}
+use Rattle.memory_law.proofs.Mirror.{Account, core_for, scene_for}
 
 -- ---- the beginning
 
@@ -121,11 +122,17 @@ true_of memory t x k = record {
 
 -- ---- the whole dialogue
 
+at_first : (t : Tester) (machine : Machine) (waiting : List ℕ) → IsTester t → MayTest t machine → length waiting ≤ 32 → IsKeptTest machine.memory t (resting machine waiting 0)
+at_first t machine waiting is may few =
+    subst (λ s. IsKeptTest machine.memory s (resting machine waiting 0)) (sym may.begun)
+    (begin_kept machine t.addresses waiting t.patience (subst IsTester may.begun is) may.console may.stopped few)
+
 dialogue_true : (t : Tester) (things : List Heard) (machine : Machine) (waiting : List ℕ) (end : Wire) → IsTester t → MayTest t machine → length waiting ≤ 32 → Passes (resting machine waiting 0) (dialogue t things) end → IsKeptTest machine.memory (led t things) end
-dialogue_true t things machine waiting end is may few passes =
-    dialogue_kept machine.memory things t (resting machine waiting 0) end passes
-    (subst (λ s. IsKeptTest machine.memory s (resting machine waiting 0)) (sym may.begun)
-    (begin_kept machine t.addresses waiting t.patience (subst IsTester may.begun is) may.console may.stopped few))
+dialogue_true t things machine waiting end is may few passes = dialogue_kept machine.memory things t (resting machine waiting 0) end passes (at_first t machine waiting is may few)
+
+pub hear_nothing_foreign : TestsHearNothingForeign
+hear_nothing_foreign t things machine now lost is may honest =
+    dialogue_known machine.memory things t (resting machine honest.waiting 0) honest.end honest.passes (at_first t machine honest.waiting is may honest.few)
 
 none_lost : (n : ℕ) → n ≡ n + 0
 none_lost n = omega arith

@@ -54,8 +54,10 @@ use Rattle.memory_core.proofs.Lives.{asked}
 use Rattle.memory_core.proofs.Turns.{kept as tester_kept}
 use Rattle.memory_law.specs.Testing.{dialogue, IsTrueOf}
 use Rattle.memory_law.proofs.Ahead.{ahead, ahead_asked, ahead_is, lies_below, only_ahead, stored_own, stored_twice, stored_there, stored_wide}
-use Rattle.memory_law.proofs.Mirror.{Account, Follows, IsMissing, IsPlain, IsTurn, IsWhole, core_for, scene_for, given, phase_for, follows, missing_agrees, plain_or_whole, plain_silence}
-use Rattle.memory_law.proofs.Switches.{HasRead, at_word, has_read, deposit_kept, close_kept, settle_kept, calm, scene, visit_for}
+use Rattle.memory_law.proofs.Mirror.{Account, Follows, IsMissing, IsPlain, IsTurn, IsWhole, core_for, scene_for, given, follows, foreign_for, missing_agrees, plain_or_whole, plain_silence}
+use Rattle.memory_law.proofs.Switches.{HasRead, at_word, has_read, deposit_kept, close_kept, settle_kept, calm, scene}
+use Rattle.memory_core.specs.Foreign.{foreign_count, is_foreign, phase_for, visit_for}
+use Rattle.line_world.proofs.Explained.{never_foreign}
 
 -- ---- what memory is
 
@@ -611,3 +613,27 @@ dialogue_kept memory (what ∷ things) t x y (z, v, before, gives, passes) k =
     let key = (ask t what).key in
     dialogue_kept memory things (ask t what).next (sent v (option_to_list key)) y (passing_said Moves key (dialogue (ask t what).next things) v y passes)
     (gives_kept memory t what z v gives (moves_kept memory t x z before k))
+
+-- ---- what is heard is no foreign character
+
+known : (memory : List ℕ) (t : Tester) (x : Wire) (c : ℕ) (rest : List ℕ) → x.up ≡ c ∷ rest → IsKeptTest memory t x → is_foreign t (Got c) ≡ false
+known memory t x c rest is k =
+    let core : Core = core_for memory t k.account in
+    sym (foreign_for memory t k.account c)
+    ∙ never_foreign x.machine core x.down c rest (calm k.account.lost) refl (subst (λ up. IsKept (scene x.machine core x.down up k.account.lost)) is k.kept)
+
+gives_known : (memory : List ℕ) (t : Tester) (what : Heard) (x y : Wire) → Gives x what y → IsKeptTest memory t x → is_foreign t what ≡ false
+gives_known memory t (Got c) x y (rest, is, now) k = known memory t x c rest is k
+gives_known memory t Silence x y gives k = refl
+
+none_more : (test : Bool) (n : ℕ) → test ≡ false → n ≡ 0 → (if test then 1 else 0) + n ≡ 0
+none_more true n e f = absurd (cc e)
+none_more false n e f = omega (arith, f)
+
+pub dialogue_known : (memory : List ℕ) (things : List Heard) (t : Tester) (x y : Wire) → Passes x (dialogue t things) y → IsKeptTest memory t x → foreign_count t things ≡ 0
+dialogue_known memory [] t x y moves k = refl
+dialogue_known memory (what ∷ things) t x y (z, v, before, gives, passes) k =
+    let key = (ask t what).key in
+    let there : IsKeptTest memory t z = moves_kept memory t x z before k in
+    none_more (is_foreign t what) (foreign_count (ask t what).next things) (gives_known memory t what z v gives there)
+    (dialogue_known memory things (ask t what).next (sent v (option_to_list key)) y (passing_said Moves key (dialogue (ask t what).next things) v y passes) (gives_kept memory t what z v gives there))

@@ -1,6 +1,6 @@
 -- Between two deposits a testing host does step by step what a loading host does whose plan is the word under way.
 use Rattle.std.proofs.Common.{◌≡◌, ℕ, ◌+◌, ◌≤◌, Bool, true, false, ◌==◌, nat_lt, if◌then◌else◌, List, length, Some, inl, inr, refl, arith, ap, sym, subst, ◌∙◌}
-use Rattle.std.specs.Prelude.{◌⊎◌}
+use Rattle.std.specs.Prelude.{◌⊎◌, not}
 use borrow.Author.Tests.{eqb-true}
 use Rattle.octal.specs.Octal.{digit_of}
 use Rattle.tape_image.specs.Word.{WordValue}
@@ -40,26 +40,10 @@ use Rattle.memory_core.specs.MemoryTable.{TesterStep, ask, taken, turn_of, hears
 use Rattle.memory_core.specs.Stage.{number_of}
 use Rattle.memory_core.specs.Tester.{Tester, address_under_way}
 use Rattle.memory_law.proofs.Ahead.{ahead, more_words, under_way}
-use Rattle.memory_law.proofs.Switches.{visit_for}
+use Rattle.memory_core.specs.Foreign.{end_for, is_foreign, phase_for, visit_for}
+use Rattle.host_core.specs.Foreign.{is_foreign as load_is_foreign, may_come}
 
 -- ---- the same of the loading host
-
-abbrev pub end_for : End → LoadEnd
-end_for Complete = Loaded
-end_for GaveUp = LoadGaveUp
-end_for (NoWord a) = LoadNoWord a
-
-abbrev pub phase_for : Stage → Phase → LoadPhase
-phase_for stage Settle = LoadSettle
-phase_for stage (Sync place) = LoadSync place
-phase_for stage (Address visit place) = LoadAddress (visit_for (number_of stage) visit) place
-phase_for stage (Slash visit) = LoadSlash (visit_for (number_of stage) visit)
-phase_for stage (Before visit) = LoadBefore (visit_for (number_of stage) visit)
-phase_for stage (Value visit value place) = LoadValue (visit_for (number_of stage) visit) value place
-phase_for stage (Deposit place) = LoadDeposit Only (number_of stage) place
-phase_for stage (Return place) = LoadReturn (Store Only (number_of stage)) place
-phase_for stage (Close place) = LoadReturn Closes place
-phase_for stage (Ended end) = LoadEnded (end_for end)
 
 -- memory as it will be once the number is deposited
 abbrev pub given : List ℕ → ℕ → Stage → List ℕ
@@ -252,6 +236,10 @@ taken_follows memory t a Timeout load plain agrees same =
 -- where no memory answers the loading host ends so
 pub missing_agrees : (memory : List ℕ) (t : Tester) (a : Account) (c address : ℕ) → turn_of t (Got c) ≡ Missing address → load_turn_of (core_for memory t a) (Got c) ≡ LoadStop (LoadNoWord address)
 missing_agrees memory t a c address missing = subst (λ turn. Agrees t.stage turn (load_turn_of (core_for memory t a) (Got c))) missing (turn_agrees memory t a (Got c))
+
+-- the same characters are foreign to it
+pub foreign_for : (memory : List ℕ) (t : Tester) (a : Account) (c : ℕ) → load_is_foreign (core_for memory t a) (Got c) ≡ is_foreign t (Got c)
+foreign_for memory t a c = ap (λ address. not (may_come false address 0 (phase_for t.stage t.phase) c)) (under_way (given memory (address_under_way t) t.stage) t)
 
 pub follows : (memory : List ℕ) (t : Tester) (a : Account) (heard : Heard) → IsPlain (turn_of t heard) → nat_lt a.spent a.patience ≡ nat_lt t.spent t.patience →
     Follows memory t a (move (core_for memory t a) heard) (ask t heard)

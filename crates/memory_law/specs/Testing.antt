@@ -19,6 +19,7 @@ use Rattle.memory_core.specs.declared.seen.Readings.{Readings}
 use Rattle.memory_core.specs.declared.seen.Outcome.{Outcome}
 use Rattle.memory_core.specs.declared.seen.Seen.TheVariants.{Tested}
 use Rattle.memory_core.specs.declared.stage.Borrowed.{Borrowed}
+use Rattle.memory_core.specs.Foreign.{foreign_count}
 use Rattle.memory_core.specs.Invariant.{IsTester}
 use Rattle.memory_core.specs.Laws.{led}
 use Rattle.memory_core.specs.MemoryTable.{ask}
@@ -86,6 +87,12 @@ abbrev pub UnsaidTestsAreTrue : Type 0
 UnsaidTestsAreTrue =
     (t : Tester) (things : List Heard) (items : List Item) (key : ℕ) → IsTester t → dialogue t things ≡ items ++ Sent key ∷ [] →
     IsBelievable t (led t things) items 1
+
+-- over an honest line a testing host hears no character that no loss explains
+abbrev pub TestsHearNothingForeign : Type 0
+TestsHearNothingForeign =
+    (t : Tester) (things : List Heard) (machine machine' : Machine) (lost : ℕ) → IsTester t → MayTest t machine →
+    IsHonest machine (dialogue t things) lost machine' → foreign_count t things ≡ 0
 
 -- behind a test that heard an honest line the next host may begin
 abbrev pub TestsLeaveItReady : Type 0

@@ -279,6 +279,11 @@ class Bus(Chip):
         test = Test(FIRST, FIRST + 2, 1)
         self.bus_tried(test, 1, test.bus([0, FIRST ^ 1 << 13]), dead=(9, 13))
 
+    def test_a_line_where_nothing_else_answers(self):
+        """Of the two words of a machine: behind each other line both looks find nothing, and in each bank, which is as much as a test has to do."""
+        test = Test(0, 2 * WORDS - 2, 1, count=2)
+        self.bus_tried(test, 1, test.bus([2]), dead=(1,))
+
     def test_two_data_lines(self):
         """Each two of them."""
         test = Test(0, 0, 1, count=256)

@@ -220,6 +220,29 @@ class Answers(Calls):
                 self.is_so(bytes_of(self.path("a.lda")), tape_of([(0o1000, b"\0\0")]))
                 os.remove(self.path("a.lda"))
 
+    def test_files_that_have_no_disk(self):
+        """They say so where they are to be brought to it, as those of some file systems do: a load and a save go on."""
+        no_disk = lambda call: call.fails(errno.EINVAL) if call.name in SYNCS else None
+        os.symlink("b.record", self.path("a.link"))
+        for record, _ in WAYS:
+            for text in (b"", VERIFIED.encode()):
+                self.put("a.record", text)
+                self.put("b.record", text)
+                with self.subTest(record, text=text):
+                    given = self.load(self.console_at(Console(memory=HELD)), no_disk, f"--record {record}")
+                    self.ends(given, 0, STOOD if text else STARTED.replace("30", "16"))
+                    self.is_so(bytes_of(self.path(record)).decode(), MARKED)
+        given = self.ask(self.console_at(Console(memory=HELD)), "save a.lda LINE 1000 1000", no_disk)
+        self.ends(given, 0, "sent 17 spent 0 read 1 of 1\nend Saved\n")
+        self.is_so(bytes_of(self.path("a.lda")), tape_of([(0o1000, b"\x34\x12")]))
+
+    def test_a_record_that_is_read_byte_by_byte(self):
+        """Its end is where nothing more comes."""
+        self.put("a.record", VERIFIED.encode())
+        given = self.load(self.console_at(Console(memory=HELD)), lambda call: call.takes(1) if call.name == "read" and call.file() == "a.record" else None)
+        self.ends(given, 0, STOOD)
+        self.holds({"a.record": MARKED})
+
     def test_writes_that_take_one_byte(self):
         """What is written is written whole all the same: a record that is replaced, one behind a link, which is written in
         place and was longer, a report and a tape."""
@@ -528,7 +551,7 @@ class Orders(Calls):
         def before(call):
             if call.name in WRITES and call.file().startswith("socket:"):
                 early.extend(unsynced)
-            elif call.name in WRITES and call.file() in names:
+            elif call.name in (*WRITES, "ftruncate") and call.file() in names:
                 unsynced.add("record")
             elif call.name in SYNCS and call.file() in names:
                 unsynced.discard("record")

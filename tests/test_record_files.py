@@ -2,6 +2,7 @@
 can be no record is refused at once. And what a load makes for its record, and takes away again.
 """
 import errno
+import fcntl
 import os
 import re
 import shutil
@@ -415,6 +416,15 @@ class Made(Files):
         self.ends(self.load("a.record"), 0, STARTED)
         self.is_so(bytes_of(self.path("a.record")).decode(), MARKED)
         self.is_so(os.lstat(self.path("a.record")).st_ino, before.st_ino)
+
+    def test_a_new_file_that_somebody_holds(self):
+        """Another load is at work with it: it stays as it is, and the record is written in place."""
+        self.put("a.record.ldaodt-new", b"LDAODT 2\n")
+        before = os.lstat(self.path("a.record.ldaodt-new"))
+        with open(self.path("a.record.ldaodt-new"), "rb") as held:
+            fcntl.flock(held, fcntl.LOCK_EX)
+            self.is_written_in_place()
+        self.is_untouched("a.record.ldaodt-new", before)
 
     def test_a_folder_in_the_new_files_place(self):
         """The record is written in place then."""

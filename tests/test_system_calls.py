@@ -26,9 +26,8 @@ WRITES, SYNCS, RENAMES = ("write", "sendto"), ("fsync", "fdatasync"), ("rename",
 # A record that is replaced, and one behind a link, each with the names of the files that it is written to.
 WAYS = (("a.record", ("a.record", "a.record.ldaodt-new")), ("a.link", ("b.record",)))
 
-# The time limit of a socket's reads and that its keys wait for nothing, as a call's level and option; and how a device is made
-# to answer at once, as a call and what it is asked for.
-TIME_LIMITS, NO_DELAY = ((1, 20), (1, 66)), (6, 1)
+# The time limit of a socket's reads, as a call's level and option; and how a device is made to answer at once, as a call and what it is asked for.
+TIME_LIMITS = ((1, 20), (1, 66))
 NO_WAITING = (("ioctl", 0x5421), ("fcntl", 4))
 
 
@@ -594,20 +593,6 @@ class Orders(Calls):
         self.ends(self.load(self.console_at(Console(memory=HELD)), before), 0, STOOD)
         self.is_so((told[0], set(told[1:])), (0o600, {"written"}))
 
-    def test_the_console_is_reached_once(self):
-        """A device is opened once, since some adapters reset the machine where it is closed; a port is dialled once, also where
-        nobody listens."""
-        found = []
-        device = self.device_at(Console())
-        self.ends(self.load(device, lambda call: found.append(call.opened()), ""), 0, STARTED)
-        self.is_so(found.count(device.address), 1)
-        port = self.console_at(Console())
-        ours, nobody = port.address, self.taken_port()
-        for address, status in ((ours, 0), (nobody, 4)):
-            found.clear()
-            given = traced.run(["load", "first.lda", address, "--quiet", str(self.quiet)], lambda call: found.append(call.name), cwd=self.room)
-            self.is_so((given.status, found.count("connect")), (status, 1))
-
     def test_much_is_read_at_once(self):
         """Of a tape as much as there is room for, and the rest of a block of 57,344 bytes whole; what a console has answered to a key with one
         read."""
@@ -623,19 +608,6 @@ class Orders(Calls):
         line = self.until_the_end(odt_peer.Peer(Console(), at_once=True))
         self.ends(self.load(line, before, ""), 0, STARTED)
         self.assertLessEqual(counts["line"], 1 + 30)
-
-    def test_a_key_is_a_packet_of_its_own(self):
-        """The socket is told so before the first key."""
-        told = []
-
-        def before(call):
-            if call.name == "setsockopt" and tuple(call.arguments[1:3]) == NO_DELAY:
-                told.append("no delay" if call.option() else "delay")
-            elif call.name in WRITES and call.file().startswith("socket:"):
-                told.append("key")
-
-        self.ends(self.load(self.console_at(Console()), before, ""), 0, STARTED)
-        self.is_so(told, ["no delay", *["key"] * 30])
 
 
 if __name__ == "__main__":

@@ -5,6 +5,8 @@ mod Made
 mod Zips
 mod Numbers
 mod Lines
+mod Agreeing
+mod Typings
 mod Laying
 mod Readings
 mod OneReading

@@ -3,4 +3,5 @@ pub mod Making
 pub mod Words
 pub mod Refusal
 pub mod Sheet
+pub mod Typing
 pub mod Reading

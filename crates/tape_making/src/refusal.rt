@@ -3,8 +3,8 @@ use std::alloc::{AllocError, AllocFailed};
 /// Why a line of words is refused, or the whole text.
 #[derive(Clone, Copy)]
 pub enum WordsWhy {
-    /// Something on the line is no octal number of one to six digits, or is above 177777, or a slash
-    /// stands elsewhere than behind the address.
+    /// Something on the line is no octal number of one to six digits, or is above 177777; a slash or a colon
+    /// stands elsewhere than behind the address; or more than two numbers stand behind a slash.
     BadNumber,
 
     /// An address with no word.
@@ -15,6 +15,12 @@ pub enum WordsWhy {
 
     /// The address is 160000 (octal) or above, or a word of the line would be.
     PastTop,
+
+    /// Two numbers behind a slash may be two words from there on, or what stood there and what was typed.
+    Ambiguous,
+
+    /// An address is given again with another value than on a line before.
+    Twice,
 
     /// The text has more than 4,194,304 bytes (this project's choice): at line 0.
     TooLong,
@@ -34,6 +40,8 @@ impl WordsWhy {
             WordsWhy::NoWords => "NoWords",
             WordsWhy::OddAddress => "OddAddress",
             WordsWhy::PastTop => "PastTop",
+            WordsWhy::Ambiguous => "Ambiguous",
+            WordsWhy::Twice => "Twice",
             WordsWhy::TooLong => "TooLong",
         }
     }

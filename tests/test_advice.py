@@ -140,14 +140,13 @@ class Advice(Told):
         self.makes(TAPE)
 
     def test_what_a_console_printed(self):
-        """Pasted into a file, and taken for words; from a prompt on, or from the end of the line before."""
+        """Pasted into a file it is words as it stands, also where each was typed over another; from a prompt on, or from the end of the line before."""
         for front in (b"", b"\r\n"):
-            self.put("pasted", front + b"@001000/ 011064 \r\n@001002/ 157255 \r\n@\r\n")
-            shown = self.shown("make b.lda pasted --start 1000")
-            self.does(shown, r"tr .*WORDS", FILE="pasted", WORDS="words")
-            self.ends(self.ldaodt("make b.lda words --start 1000"), 0, "")
-            self.makes(TAPE)
-            os.remove(self.path("b.lda"))
+            for old in (b"", b"000000 "):
+                self.put("pasted", front + b"@001000/ %s011064 \r\n@001002/ %s157255 \r\n@\r\n" % (old, old))
+                self.ends(self.ldaodt("make b.lda pasted --start 1000"), 0, "")
+                self.makes(TAPE)
+                os.remove(self.path("b.lda"))
         self.put("wrong", b"1000 8\n")
         self.assertNotIn("tr ", self.shown("make c.lda wrong"))
 

@@ -54,7 +54,7 @@ def line_failed(why):
 def came_changed(count):
     """The line that tells of so many characters which no loss explains; none where there are none."""
     many = "1 character" if count == 1 else f"{count} characters"
-    return f"ldaodt: {many} came changed, or not from ODT: docs/REAL-MACHINE.md, step 7\n" if count else ""
+    return f"ldaodt: {many} came changed, late for --quiet, or not from ODT: docs/REAL-MACHINE.md, step 7\n" if count else ""
 
 
 def beside_changes(given):

@@ -76,7 +76,7 @@ pub fn attempt<K: Kinds, R: Read, W: Output, E: FaultOutput, T: Print>(
         }
         Request::Machine(MachineRequest::Probe(probe)) => {
             say_probing(alloc, terminal, probe.look);
-            let outcome = probe_console(&mut system, alloc, *probe, streams, witness);
+            let outcome = probe_console(&mut system, alloc, *probe, streams, terminal, witness);
             (system, outcome)
         }
         Request::Machine(MachineRequest::Memory(test)) => {

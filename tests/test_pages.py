@@ -434,18 +434,6 @@ class Crates(Case):
         for function in re.findall(r"`(?:\w+::)?(\w+)`", " ".join(f"{clauses} {told}" for clauses, told in rows)):
             self.assertTrue(there[function], f"{function} is not there")
 
-    def test_promises_are_printed(self):
-        ran = subprocess.run([f"{TOP}/tools/promises", "octal", "host_devices"], capture_output=True, text=True)
-        self.is_so((ran.returncode, ran.stderr), (0, ""))
-        self.assertIn("\nfn oct6(word: u16) -> [u8; 6]\n    The octal text of `word`: six ASCII digits, the first `0` or `1`.\n"
-                      "    ensures text: result ≡ octal_text word\n    ensures is_octal: IsOct6 word result\n", ran.stdout)
-        self.assertIn("line.rt: pub trait Line\n\nfn send(&mut self, key: u8)", ran.stdout)
-        self.assertNotIn("digit_at", ran.stdout)
-        ran = subprocess.run([f"{TOP}/tools/promises"], capture_output=True, text=True)
-        self.is_so(re.findall("^# (.*)", ran.stdout, re.MULTILINE), [it for it in self.crates if not it.endswith("_tests")])
-        ran = subprocess.run([f"{TOP}/tools/promises", "nothing"], capture_output=True, text=True)
-        self.is_so((ran.returncode, ran.stderr), (2, "promises: crates.txt has no nothing\n"))
-
     def test_no_page_names_a_crate_that_is_gone(self):
         gone = {"load_command", "socket_line", "load_reports", "tape_check", "console_typing", "rehearsals", "tape_requests", "command_words",
                 "memory_end", "told_disk", "trial_tests"} - set(self.crates)

@@ -153,6 +153,17 @@ class Counts(Case):
                 self.is_so((given.status, given.out.split("\n")[1], shown[-len(last):]), (5, "end Changed", last))
                 self.is_so(os.path.exists(self.path("c.lda.part")), told == part)
 
+    def test_what_a_terminal_is_told_behind_what_a_machine_prints(self):
+        """On a line of its own, where both outputs are that terminal: of changed characters, and of a log."""
+        for words, behind in (("", r""), ("--log", r"\S+ load .* changed 1\r\n")):
+            for said in ("HELLO", "HELLO\r\n"):
+                machine = Changing(FIRST_ADDRESS, "1", says=[(0, said)])
+                run = lambda it, line=self.console_at(machine), words=words: super(Counts, self).load(line, f"first.lda --listen 1 {words}", stdout=it, stderr=it)
+                given, shown = self.at_a_terminal(run)
+                told = came_changed(1).replace("\n", "\r\n")
+                self.assertRegex(shown, rf"end Started\r+\nHELLO\r+\n{re.escape(told)}{behind}$")
+                self.is_so(given.status, 0)
+
     def test_probes(self):
         """In the report, too: in the line before its end, and only where there is one to tell."""
         def trial(row):

@@ -632,6 +632,18 @@ class Together(Case):
                 self.assertIn(f"\r\nend {end}\r\n", told[0])
 
 
+class Own(Case):
+    """The terminal that the program is run at is no machine's."""
+
+    def test_it_is_no_line(self):
+        self.put_tapes("first.lda")
+        for words in ("probe LINE", "load first.lda LINE", "memory LINE"):
+            for name in (os.ttyname, lambda it: "/dev/stderr", lambda it: "/dev/tty"):
+                given, shown = self.at_a_terminal(lambda it, words=words, name=name: self.ldaodt(words.replace("LINE", name(it)), stderr=it))
+                self.is_so((given.status, given.out), (2, ""))
+                self.assertIn(" is no serial device: ", shown)
+
+
 class SlowChips(Losing, ChipConsole):
     """It takes its time for each CR: a line is shown with each word that was tested."""
 

@@ -11,10 +11,8 @@ use Rattle.host_core.specs.declared.phase.Try.TheVariants.{Only}
 use Rattle.host_core.specs.declared.phase.Visit.TheVariants.{Look as LoadLook, Check as LoadCheck}
 use Rattle.memory_core.specs.declared.phase.Visit.{Visit}
 use Rattle.memory_core.specs.declared.phase.Visit.TheVariants.{Look, Check}
-use Rattle.host_core.specs.declared.phase.Phase.{Phase as LoadPhase}
-use Rattle.host_core.specs.declared.phase.Phase.TheVariants.{Settle as LoadSettle, Sync as LoadSync, Address as LoadAddress, Slash as LoadSlash, Before as LoadBefore, Value as LoadValue, Deposit as LoadDeposit, Return as LoadReturn, Ended as LoadEnded}
+use Rattle.host_core.specs.declared.phase.Phase.TheVariants.{Settle as LoadSettle, Sync as LoadSync, Address as LoadAddress, Slash as LoadSlash, Before as LoadBefore, Deposit as LoadDeposit, Return as LoadReturn, Ended as LoadEnded}
 use Rattle.host_core.specs.declared.phase.Reason.TheVariants.{Store, Close as Closes}
-use Rattle.host_core.specs.declared.phase.End.{End as LoadEnd}
 use Rattle.host_core.specs.declared.phase.End.TheVariants.{Loaded, GaveUp as LoadGaveUp, NoWord as LoadNoWord}
 use Rattle.host_core.specs.declared.turn.Turn.{Turn as LoadTurn}
 use Rattle.host_core.specs.declared.turn.Turn.TheVariants.{Listen as LoadListen, Key as LoadKey, Revisit as LoadRevisit, Next as LoadNext, Stop as LoadStop, Stray as LoadStray, Timeout as LoadTimeout}
@@ -29,8 +27,7 @@ use Rattle.line_world.specs.Wire.{Wire}
 use Rattle.looking_law.proofs.Saying.{plan_for}
 use Rattle.memory_core.specs.declared.phase.Phase.{Phase}
 use Rattle.memory_core.specs.declared.phase.Phase.TheVariants.{Settle, Sync, Address, Slash, Before, Value, Deposit, Return, Close, Ended}
-use Rattle.memory_core.specs.declared.phase.End.{End}
-use Rattle.memory_core.specs.declared.phase.End.TheVariants.{Complete, GaveUp, NoWord}
+use Rattle.memory_core.specs.declared.phase.End.TheVariants.{Complete, GaveUp}
 use Rattle.memory_core.specs.declared.stage.Stage.{Stage}
 use Rattle.memory_core.specs.declared.seen.Seen.TheVariants.{Unsteady}
 use Rattle.memory_core.specs.declared.stage.Stage.TheVariants.{Unseen, Once, Turned, Returned}
@@ -40,7 +37,7 @@ use Rattle.memory_core.specs.MemoryTable.{TesterStep, ask, taken, turn_of, hears
 use Rattle.memory_core.specs.Stage.{number_of}
 use Rattle.memory_core.specs.Tester.{Tester, address_under_way}
 use Rattle.memory_law.proofs.Ahead.{ahead, more_words, under_way}
-use Rattle.memory_core.specs.Foreign.{end_for, is_foreign, phase_for, visit_for}
+use Rattle.memory_core.specs.Foreign.{is_foreign, phase_for, visit_for}
 use Rattle.host_core.specs.Foreign.{is_foreign as load_is_foreign, may_come}
 
 -- ---- the same of the loading host

@@ -166,15 +166,42 @@ class Advice(Told):
         self.makes(TAPE)
 
     def test_what_a_console_printed(self):
-        """Pasted into a file it is words as it stands, also where each was typed over another; from a prompt on, or from the end of the line before."""
+        """Pasted into a file, with the start behind it; from a prompt on, or from the end of the line before."""
         for front in (b"", b"\r\n"):
             for old in (b"", b"000000 "):
-                self.put("pasted", front + b"@001000/ %s011064 \r\n@001002/ %s157255 \r\n@\r\n" % (old, old))
-                self.ends(self.ldaodt("make b.lda pasted --start 1000"), 0, "")
+                self.put("pasted", front + b"@001000/ %s011064 \r\n@001002/ %s157255 \r\n@001000G" % (old, old))
+                self.does(self.shown("make b.lda pasted --start 1000"), r"grep .*WORDS", FILE="pasted", WORDS="words")
+                self.ends(self.ldaodt("make b.lda words --start 1000"), 0, "")
                 self.makes(TAPE)
                 os.remove(self.path("b.lda"))
         self.put("wrong", b"1000 8\n")
-        self.assertNotIn("tr ", self.shown("make c.lda wrong"))
+        self.assertNotIn("grep ", self.shown("make c.lda wrong"))
+
+    def test_two_numbers_behind_a_slash(self):
+        """What makes of them two words, and what makes of them what was typed."""
+        for command, text in ((r"tr .*WORDS", b"001000/011064 157255\n"), (r"sed .*WORDS", b"001002: 157255\n1000/000000 011064\n")):
+            self.put("pasted", text)
+            shown = self.shown("make b.lda pasted --start 1000")
+            self.assertIn("two words from there on: tr", shown)
+            self.assertIn("what stood there and what was typed: sed", shown)
+            self.does(shown, command, FILE="pasted", WORDS="words")
+            self.ends(self.ldaodt("make b.lda words --start 1000"), 0, "")
+            self.makes(TAPE)
+            os.remove(self.path("b.lda"))
+
+    def test_what_was_made(self):
+        """Which words, and what is started; a pipe is told nothing, nor where nothing was made."""
+        self.put("words", b"1000 011064 157255\n")
+        self.put("more", b"2000 1\n157776 1\n0 1 2 3\n")
+        self.put("none", b"; nothing\n")
+        for words, shown in (("words --start 1000", "words 2, 001000 to 001003, start 001000\n"), ("words", "words 2, 001000 to 001003, no start\n"),
+                             ("more --start 2000", "words 5, 000000 to 157777, start 002000\n"), ("none --start 173000", "words 0, start 173000\n")):
+            with self.subTest(words):
+                self.is_so(self.shown(f"make b.lda {words}", 0), shown)
+                self.assertNotIn("words ", self.shown(f"make b.lda {words}", 4))
+                self.ends(self.ldaodt(f"make c.lda {words}"), 0)
+                os.remove(self.path("b.lda"))
+                os.remove(self.path("c.lda"))
 
     def test_a_record_of_another_tape(self):
         """Another record begins anew. Of what is no record at all that is not told."""

@@ -74,8 +74,8 @@ def said_by(line, neighbours):
     return "PastTop" if address + 2 * len(words) > MEMORY_END else (address, words)
 
 
-def memory_of(text):
-    """The bytes that the words of a text leave in memory, by their addresses."""
+def memory_of(text, start=1):
+    """The bytes that the words of a text leave in memory, by their addresses; there has to be one, or a start."""
     if len(text) > MOST:
         raise Refused(0, "TooLong")
     words, lines = {}, text.split(b"\n")
@@ -87,6 +87,8 @@ def memory_of(text):
         for place, word in enumerate(said[1] if said else ()):
             if words.setdefault(said[0] + 2 * place, word) != word:
                 raise Refused(number, "Twice")
+    if not words and start % 2:
+        raise Refused(0, "Empty")
     return bytes_by_address(words)
 
 
@@ -128,10 +130,6 @@ def refusal_of(text):
 
 # A text, and the words that it leaves, by their addresses.
 TEXTS = (
-    (b"", {}, "nothing is a text, too"),
-    (b"\n\n", {}, "and empty lines are"),
-    (b" \t\r\n", {}, "and blanks"),
-    (b"; a remark 8\n# 9\n", {}, "and remarks"),
     (b"001000 012700 000377", {0o1000: 0o012700, 0o1002: 0o000377}, "the end of a line may be missing"),
     (b"001000/012700\n", {0o1000: 0o012700}, "as ODT shows a word"),
     (b"001000/ 012700\n", {0o1000: 0o012700}, "with a blank behind the slash"),
@@ -154,6 +152,9 @@ TEXTS = (
     (b"2000 1\n1000 2\n", {0o1000: 2, 0o2000: 1}, "lines stand in any order"),
     (b"001000 000000\n", {0o1000: 0}, "a word of zeroes is one"),
 )
+
+# Texts that have no word.
+EMPTY = (b"", b"\n\n", b" \t\r\n", b"; a remark 8\n# 9\n", b"\r\n@")
 
 # A line that is refused, and why.
 LINES = (
@@ -237,7 +238,7 @@ class Makes(Case):
     def is_made(self, text, start=1, *more):
         """Asserts that a tape was made of a text, silently, and lets it go."""
         self.ends(self.make(text, *more), 0)
-        self.holds({"a.lda": tape_of(blocks_of(memory_of(text)), start)})
+        self.holds({"a.lda": tape_of(blocks_of(memory_of(text, start)), start)})
         os.remove(self.path("a.lda"))
 
 
@@ -249,6 +250,16 @@ class Words(Makes):
             with self.subTest(why):
                 self.is_so(memory_of(text), bytes_by_address(words))
                 self.is_made(text)
+
+    def test_texts_without_a_word(self):
+        """Of them a tape is made that starts something, and no other."""
+        for text in EMPTY:
+            with self.subTest(text):
+                for more in ((), ("--start", "1"), ("--start", "173001")):
+                    self.ends(self.make(text, *more), 3, "", "ldaodt: words refused at line 0: Empty\n")
+                    self.holds({})
+                self.is_made(text, 0o173000, "--start", "173000")
+                self.is_made(text, 0, "--start", "0")
 
     def test_lines_that_are_refused(self):
         """At the first line, behind others, and before lines that are worse. Nothing is written."""

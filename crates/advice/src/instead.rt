@@ -111,7 +111,7 @@ fn advice(failure: Failure<'_>, witness: &Witness) -> Option<&'static str> {
         Failure::WordsRefused(refusal) if matches!(refusal.why, WordsWhy::PastTop) => Some(
             IN_IO_PAGE,
         ),
-        Failure::WordsRefused(_) => advice_of_words(witness.front()?),
+        Failure::WordsRefused(refusal) => advice_of_words(refusal.why, witness.front()),
         Failure::RecordRefused(RecordError::Foreign(_)) => Some(advice_of_record(witness.end())),
         Failure::LineFailed(fault) => advice_of_line(fault),
         _ => None,
@@ -137,9 +137,12 @@ fn advice_of_tape(fault: Fault, front: Option<Front>) -> Option<&'static str> {
     }
 }
 
-// The same of octal words: where they seem to be what a console printed.
-fn advice_of_words(front: Front) -> Option<&'static str> {
-    if front.contains(&b'@') {
+// The same of octal words: where they may be read in two ways, or seem to be what a console printed.
+fn advice_of_words(why: WordsWhy, front: Option<Front>) -> Option<&'static str> {
+    if let WordsWhy::Ambiguous = why {
+        return Some(OF_TWO_NUMBERS);
+    }
+    if front?.contains(&b'@') {
         Some(OF_CONSOLE)
     } else {
         None
@@ -200,7 +203,11 @@ const ANOTHER_RECORD: &str =
     "it is of another tape, or was edited: with another --record FILE the load begins anew\n";
 
 // What is told of what a console printed, where octal words should stand.
-const OF_CONSOLE: &str = "of what a console printed: tr @/ '  ' < FILE > WORDS\n";
+const OF_CONSOLE: &str = "of what a console printed: grep / FILE > WORDS\n";
+
+// What is told of two numbers behind a slash.
+const OF_TWO_NUMBERS: &str = "two words from there on: tr / ' ' < FILE > WORDS\n\
+     what stood there and what was typed: sed -E 's|/ *[0-7]+ +([0-7])|/\\1|' FILE > WORDS\n";
 
 // What is told of a tape with a leader of rubouts.
 const OF_RUBOUTS: &str = "its leader is rubouts: LC_ALL=C sed '1s/^\\o377*//' FILE > TAPE\n";

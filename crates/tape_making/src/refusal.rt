@@ -22,6 +22,9 @@ pub enum WordsWhy {
     /// An address is given again with another value than on a line before.
     Twice,
 
+    /// The text has no word, and nothing is to be started: at line 0.
+    Empty,
+
     /// The text has more than 4,194,304 bytes (this project's choice): at line 0.
     TooLong,
 }
@@ -42,6 +45,7 @@ impl WordsWhy {
             WordsWhy::PastTop => "PastTop",
             WordsWhy::Ambiguous => "Ambiguous",
             WordsWhy::Twice => "Twice",
+            WordsWhy::Empty => "Empty",
             WordsWhy::TooLong => "TooLong",
         }
     }
@@ -50,7 +54,7 @@ impl WordsWhy {
 /// Which line of words is refused, and why.
 #[derive(Clone, Copy)]
 pub struct Refusal {
-    /// The line's number, from 1; 0 is a text that is too long.
+    /// The line's number, from 1; 0 is the text as a whole.
     pub line: usize,
 
     /// The reason.

@@ -118,6 +118,12 @@ class AtAConsole(Logs):
                 self.is_so(log, f"{asked(test.words())} {told}")
                 self.is_so(given, self.at(test.words(), ChipConsole(Chips(test.faults, count=test.count))))
 
+    def test_several_tapes(self):
+        given, log = self.logged_at("load two-words.lda LINE first.lda first.lda", Console())
+        self.is_so((given.status, given.err), (0, ""))
+        counts, end, _ = given.out.split("\n")
+        self.is_so(log, f"load two-words.lda first.lda first.lda LINE status 0 {end} {counts}")
+
     def test_what_the_machine_says_is_no_report(self):
         """It stands behind the report, in whichever pieces it comes."""
         says = "\r\nend Stale 001000\r\nsent 9 spent 9\r\nend Uncertain\nsent 1\n"
@@ -133,6 +139,16 @@ class AtAConsole(Logs):
         self.is_so(given.status, 0)
         self.assertGreaterEqual(self.moment - int(self.begun), 3)
 
+    def test_a_terminal(self):
+        """The line comes behind all that is shown there."""
+        peer = self.console_at(Console())
+        self.begun = time.time()
+        words = f"load first.lda {peer.address} --quiet {self.quiet} --log".split()
+        given, shown = self.at_a_terminal(lambda terminal: self.ldaodt(words, stderr=terminal))
+        self.is_so((given.status, given.out), (0, REPORT))
+        last = shown.replace("\r\n", "\n").split("\r")[-1].removeprefix("\x1b[K")
+        self.is_so(self.split(Answer(0, "", last))[1], f"load first.lda {peer.address} status 0 {STARTED}")
+
 
 class WithoutAConsole(Logs):
     def test_faults(self):
@@ -142,6 +158,13 @@ class WithoutAConsole(Logs):
                 self.ends(given, status, "", err)
                 self.is_so(log, f"{asked(words)} status {status}")
                 self.ends(self.ldaodt(words), status, "", err)
+
+    def test_names(self):
+        """They are shown as in a fault."""
+        for tape, shown in (("", "''"), ("a\tb\x1b", "a\\tb\\u{1b}"), ("a b", "a b"), ("\xe9", "\xe9")):
+            given, log = self.logged(["load", "first.lda", "x:1", tape])
+            self.is_so((given.status, given.out, given.err.split("\n")[0]), (4, "", f"ldaodt: cannot read {shown}"))
+            self.is_so(log, f"load first.lda {shown} x:1 status 4")
 
     def test_a_record_that_ends_it(self):
         self.put("a.record", b"LDAODT 2\n001000 011064\nG\n")

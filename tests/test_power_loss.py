@@ -8,7 +8,7 @@ import os
 import unittest
 
 from cases import Case, Console
-from outside import line_failed
+from outside import NO_OUTPUT, line_failed
 
 # The tape's words, a whole one and a byte, and its records.
 MEMORY = {0o1000: 0o031421, 0o1002: 0o104}
@@ -78,6 +78,16 @@ class PowerLoss(Loads):
         self.ends(self.load(peer), 0, "sent 39 spent 0 verified 2 of 2\nend Started\n")
         self.is_whole_and_started(peer)
 
+    def test_what_a_word_costs(self):
+        """Counted at the line: 25 characters for a word that stands, 62 for one that does not, both in their keys and
+        answers; `Z` has five, and the start 14."""
+        for memory, characters in (({}, 5 + 2 * 62 + 14), (MEMORY, 5 + 2 * 25 + 14), ({0o1000: 0o031421}, 5 + 25 + 62 + 14)):
+            self.put("a.record", BOTH_WORDS.encode())
+            peer = self.console_at(Console(memory=memory))
+            self.is_so(self.load(peer, "two-words.lda --record a.record --recheck").status, 0)
+            self.is_so(peer.keys + peer.answered, characters)
+            self.is_whole_and_started(peer)
+
     def test_the_record_says_what_this_life_has_seen(self):
         """It begins with no word, whatever it had before: here the line breaks before the first key, and behind a word."""
         for characters, keys, words, record in ((0, 0, 0, "LDAODT 2\n"), (BEHIND_ONE_WORD, 24, 1, ONE_WORD)):
@@ -90,6 +100,14 @@ class PowerLoss(Loads):
                 self.is_so(given.out, f"sent {keys} spent 0 verified {words} of 2\nend LineFailed\n")
             self.holds({"a.record": record})
 
+    def test_the_mark_counts(self):
+        peer = self.console_at(Console())
+        self.put("a.record", WHOLE.encode())
+        given = self.load(peer, "two-words.lda --record a.record --recheck")
+        self.ends(given, 6, "sent 0 spent 0 verified 2 of 2\nend MaybeStarted\n")
+        self.holds({"a.record": WHOLE})
+        self.is_so((peer.machine.typed, peer.connections), ("", 0))
+
     def test_a_tape_that_starts_nothing(self):
         """Its record has every word: believed, nothing is looked at; else each word is."""
         self.put("a.record", BOTH_WORDS.encode())
@@ -100,6 +118,30 @@ class PowerLoss(Loads):
         self.ends(self.load(peer, words + " --recheck"), 0, "sent 45 spent 0 verified 2 of 2\nend Loaded\n")
         self.is_so(({it: peer.machine.word(it) for it in MEMORY}, peer.machine.starts), (MEMORY, []))
         self.holds({"a.record": BOTH_WORDS})
+
+    def test_a_record_that_is_refused_stays_so(self):
+        peer = self.console_at(Console())
+        for text, why in (("hello\n", "refused: NotARecord"), ("LDAODT 2\n001000 031422\n", "refused at line 2")):
+            self.put("a.record", text.encode())
+            self.ends(self.load(peer, "two-words.lda --record a.record --recheck"), 3, "", f"ldaodt: record {why}\n")
+            self.holds({"a.record": text})
+        self.is_so(peer.connections, 0)
+
+    def test_no_record_yet(self):
+        peer = self.console_at(Console())
+        self.ends(self.load(peer, "two-words.lda --record a.record --recheck"), 0, "sent 52 spent 0 verified 2 of 2\nend Started\n")
+        self.is_whole_and_started(peer)
+
+    def test_a_terminal_is_told_that_words_are_believed(self):
+        """Before the first key and behind the report, and only where some are."""
+        for record, option, is_told in ((ONE_WORD, "", True), (ONE_WORD, " --recheck", False), ("", "", False)):
+            self.put("a.record", record.encode())
+            peer = self.console_at(Console(memory={0o1000: 0o031421}))
+            words = "two-words.lda --record a.record" + option
+            given, shown = self.at_a_terminal(lambda terminal: self.load(peer, words, stderr=terminal))
+            self.is_so(given.status, 0)
+            self.is_so(GOING_ON in shown, is_told)
+            self.is_so(shown.split("\r\x1b[K")[-1], "1 of 2 by the record\r\n" if is_told else "")
 
 
 class BehindTheStart(Loads):
@@ -136,6 +178,11 @@ class BehindTheStart(Loads):
         given = self.load(peer, "two-words.lda no-word.lda --record a.record")
         self.ends(given, 4, "sent 45 spent 0 verified 2 of 2\nend LineFailed\n", FAILED)
         self.holds({"a.record": BOTH_WORDS})
+
+    def test_a_report_that_can_not_be_written_is_told_alone(self):
+        peer = self.console_at(Console(), close_after=5 + 2 * 62 + 13, takes_last=True)
+        self.ends(self.load(peer, before="> /dev/full"), 4, "", NO_OUTPUT)
+        self.holds({"a.record": WHOLE})
 
 
 if __name__ == "__main__":

@@ -9,7 +9,7 @@ import unittest
 
 from cases import Case, Console
 import odt_peer
-from outside import Answer, bytes_of, fault, tape_of
+from outside import NO_OUTPUT, Answer, bytes_of, fault, tape_of
 import traced
 
 VERIFIED, MARKED = "LDAODT 2\n001000 011064\n", "LDAODT 2\n001000 011064\nG\n"
@@ -96,6 +96,22 @@ class Between(Calls):
                 self.assertFalse(os.path.exists(self.path(name)))
                 self.is_so(line.machine.typed, LOOKED if text else "")
         os.remove(self.path("a.record"))
+
+    def test_a_record_that_is_removed_before_it_is_opened(self):
+        """The load makes one in its place, and takes that away again where nobody listens."""
+        line = self.console_at(Console())
+        line.address, ours = self.taken_port(), line.address
+        self.put("a.record", VERIFIED.encode())
+        left = ["a.record"]
+
+        def before(call):
+            if call.opened() in left:
+                os.remove(self.path(left.pop()))
+
+        self.ends(self.load(line, before), 4, "", fault(f"cannot connect to {line.address}", errno.ECONNREFUSED))
+        self.is_so(left, [])
+        self.holds({})
+        line.address = ours
 
     def test_a_record_in_whose_place_a_pipe_comes(self):
         """Nobody may ever write to it, so that whoever read it would wait without end."""
@@ -279,6 +295,14 @@ class Answers(Calls):
                     self.is_so(bytes_of(self.path(name)), text)
                     os.remove(self.path(name))
 
+    def test_a_name_that_can_not_be_looked_for(self):
+        """There may be a file: no tape is made for it, and nothing is typed."""
+        line = self.console_at(Console())
+        given = self.ask(line, "save a.lda LINE 1000 1000", lambda call: call.fails(errno.EACCES) if call.looked_at() == "a.lda" else None)
+        self.ends(given, 4, "", fault("cannot write a.lda", errno.EACCES))
+        self.holds({})
+        self.is_so((line.connections, line.machine.typed), (0, ""))
+
     def test_a_new_record_that_somebody_holds(self):
         """Another load has just made it: it is left alone, and the record is written where it is."""
         self.put("a.record", VERIFIED.encode())
@@ -308,6 +332,15 @@ class Answers(Calls):
         self.holds({"a.record": VERIFIED})
         self.is_so((held, line.connections), (["a.record"] * 8, 0))
 
+    def test_a_record_that_can_not_be_gone_back_in(self):
+        """Behind a link it would be written over: what is written behind it instead would be a part of it."""
+        line = self.console_at(Console(memory=HELD))
+        self.put("b.record", VERIFIED.encode())
+        os.symlink("b.record", self.path("a.record"))
+        given = self.load(line, lambda call: call.fails(errno.EIO) if call.name == "lseek" and call.file() == "b.record" else None)
+        self.ends(given, 4, "", fault("cannot write a.record", errno.EIO))
+        self.is_so((bytes_of(self.path("b.record")).decode(), line.machine.typed), (VERIFIED, LOOKED))
+
     def test_a_read_that_is_interrupted_has_no_reason(self):
         """Of each kind of input: it is told that it could not be read, and not that a call was interrupted, which nobody could mend."""
         self.put("a.record", VERIFIED.encode())
@@ -321,6 +354,19 @@ class Answers(Calls):
                 self.ends(traced.run(words.split(), interrupted, cwd=self.room), 4, "", fault(f"cannot read {name}"))
         line.settle()
         self.is_so(line.machine.typed, "")
+
+    def test_a_terminal_that_takes_the_front_of_a_line(self):
+        """And no more: though the end of a line was given, it did not come, and the program ends the line, for the shell's prompt to begin one."""
+        taken = []
+
+        def before(call):
+            if call.name == "write" and call.arguments[0] == 1:
+                taken.append(call)
+                return call.takes(1) if len(taken) == 1 else call.fails(errno.EIO)
+            return None
+
+        given, shown = self.at_a_terminal(lambda it: traced.run(["check", "first.lda"], before, cwd=self.room, stdout=it, stderr=it))
+        self.is_so((given.status, shown), (4, f"b{NO_OUTPUT}\n".replace("\n", "\r\n")))
 
     def test_what_was_made_in_vain_and_can_not_be_removed(self):
         """A full disk takes no byte of a record or of a tape, or nobody listens: that is told, and not why what was made for it stays."""
@@ -411,6 +457,14 @@ class Steps(Calls):
                 self.is_so((given.status, given.err, line.machine.starts), (0, "", [0o1000]))
                 self.is_so(bytes_of(self.path("b.record")).decode(), "LDAODT 2\n001000 011064 000000 000000\nG\n")
 
+    def test_a_record_of_which_a_byte_would_be_another_one(self):
+        """It is as good as any. Written over it would say a third word, up to the cut: it stays as it is, and nothing is typed."""
+        text, calls = "LDAODT 2\n001000 011064\n001002 000000\n", []
+        given, line = self.load_over(text, lambda call: calls.append(call.name))
+        self.ends(given, 4, "", NO_RECORD)
+        self.is_so((bytes_of(self.path("b.record")).decode(), line.machine.typed, line.connections), (text, "", 0))
+        self.is_so([it for it in calls if it in ("connect", "ftruncate", *SYNCS, *RENAMES)], [])
+
 
 class Orders(Calls):
     """Which calls come, how often, and in which order."""
@@ -453,6 +507,41 @@ class Orders(Calls):
                     self.ends(self.load(self.console_at(Console(memory=HELD)), before, f"--record {record}"), 0, ended)
                     self.is_so((told[:2], bytes_of(self.path(file)).decode()), (["folder", "written"], MARKED))
 
+    def test_a_folder_that_can_not_be_brought_to_the_disk(self):
+        """Where that is tried and fails, nothing is written; a folder that may not be opened is passed over."""
+        for record, file, folder in self.ways_in_place():
+            place = os.path.realpath(os.path.dirname(self.path(file)))
+            refused = Answer(4, "", fault(f"cannot write {record}", errno.EACCES))
+            for fails, wanted, left in ((lambda call: call.name in SYNCS and call.file() == folder, refused, (VERIFIED, LOOKED)),
+                                        (lambda call: call.opened() == place, Answer(0, STOOD, ""), (MARKED, LOOKED + "Z001000G"))):
+                line = self.console_at(Console(memory=HELD))
+                self.put(file, VERIFIED.encode())
+                with self.subTest(record, left=left):
+                    given = self.load(line, lambda call: call.fails(errno.EACCES) if fails(call) else None, f"--record {record}")
+                    self.is_so((given, bytes_of(self.path(file)).decode(), line.machine.typed), (wanted, *left))
+
+    def test_a_record_that_can_not_be_brought_to_the_disk(self):
+        """The load ends there, and the key that was due is not sent: the first of all, the CR behind a word, and `G`."""
+        for record, names in WAYS:
+            for number, keys in ((1, 0), (2, 22), (3, 29)):
+                self.put("b.record", b"")
+                os.path.lexists(self.path("a.link")) or os.symlink("b.record", self.path("a.link"))
+                synced = []
+
+                def before(call):
+                    if call.name == "fdatasync" and call.file() in names:
+                        synced.append(call.name)
+                        if len(synced) == number:
+                            return call.fails(errno.EIO)
+
+                with self.subTest(record, number=number):
+                    line = self.console_at(Console())
+                    report = f"sent {keys + 1} spent 0 verified 1 of 1\nend KeepFailed\n" if keys else ""
+                    self.ends(self.load(line, before, f"--record {record}"), 4, report, fault(f"cannot write {record}", errno.EIO))
+                    self.is_so((len(line.machine.typed), len(synced)), (keys, number))
+                if os.path.exists(self.path("a.record")):
+                    os.remove(self.path("a.record"))
+
     def is_synced(self, names):
         """What to do before each call to find what is not yet on the disk, of files of these names, where a key goes out, and at
         the end."""
@@ -470,6 +559,26 @@ class Orders(Calls):
             elif call.name in SYNCS and call.file() == folder:
                 unsynced.discard("name")
         return before, early, unsynced
+
+    def test_so_it_is_far_behind_in_a_record(self):
+        """Of words behind so many others, of which eight are looked at. Two are left, and stand."""
+        words = [(address, 0o177777 - address) for address in range(0o1000, 0o60000, 2)]
+        for count in (80, 1200, len(words)):
+            texts = [f"{address:06o}" + "".join(f" {value:06o}" for _, value in words[first:first + 16][:count - 2 - first])
+                     for first, (address, _) in list(enumerate(words[:count - 2]))[::16]]
+            blocks = [(words[first][0], b"".join(value.to_bytes(2, "little") for _, value in words[first:min(first + 28, count)]))
+                      for first in range(0, count, 28)]
+            self.put("long.lda", tape_of(blocks, 0o1000))
+            for record, names in WAYS:
+                self.put("a.record", ("LDAODT 2\n" + "\n".join(texts)).encode())
+                self.put("b.record", bytes_of(self.path("a.record")))
+                os.path.lexists(self.path("a.link")) or os.symlink("b.record", self.path("a.link"))
+                before, early, unsynced = self.is_synced(names)
+                line = self.console_at(Console(memory=dict(words)))
+                with self.subTest(record, count=count):
+                    given = self.ask(line, f"load long.lda LINE --record {record}", before)
+                    self.ends(given, 0, f"sent 89 spent 0 verified {count} of {count}\nend Started\n")
+                    self.is_so((early, unsynced), ([], set()))
 
     def test_permissions_come_before_what_is_written(self):
         """Nobody whom the old record was kept from may read the new one, not for a moment."""

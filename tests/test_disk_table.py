@@ -1,4 +1,5 @@
-"""The table of a disk's calls (`crates/disk_law/specs/Disk.antt`), as far as a process sees what they do, against the system's own files.
+"""The table of a disk's calls (`crates/disk_law/specs/Disk.antt`), as far as a process sees what they do: against the system's
+own files, and against the disk of the walk over shared records (`record_model.py`).
 
 What a crash may leave no process sees, and a sync changes nothing that is seen.
 """
@@ -8,10 +9,11 @@ import re
 import tempfile
 import unittest
 
+import record_model
 from outside import TOP
 
 TABLE = f"{TOP}/crates/disk_law/specs/Disk.antt"
-NAMES = ("FILE", "FILE.ldaodt-new", "SECOND")
+NAMES = (record_model.FILE, record_model.NEW, record_model.SECOND)
 
 
 class Table:
@@ -118,8 +120,7 @@ class DiskTable(unittest.TestCase):
         self.assertEqual(rows, {"made", "linked", "renamed", "removed", "folder_synced", "cut", "file_synced", "written"})
 
     def test_the_system_does_what_the_table_says(self):
-        """A sync may take long, where others write to the disk."""
-        for seed in range(5):
+        for seed in range(20):
             with self.subTest(seed=seed), tempfile.TemporaryDirectory() as folder:
                 chance, table, system = random.Random(seed), Table(), System(folder)
                 self.addCleanup(system.close)
@@ -129,6 +130,20 @@ class DiskTable(unittest.TestCase):
                     if not call.endswith("_synced"):
                         getattr(table, call)(*of)
                     self.assertEqual(system.value(), table.value(), (call, of))
+
+    def test_the_walk_has_the_same_disk(self):
+        """Of what the walk knows: names, and which of them share a file."""
+        shared = {"made": "make", "renamed": "rename", "removed": "remove"}
+        for seed in range(20):
+            with self.subTest(seed=seed):
+                chance, table = random.Random(seed), Table()
+                disk = record_model.Disk({}, (), (), 0)
+                for _ in range(100):
+                    call, *of = calls_on(table, chance)
+                    if call in shared:
+                        getattr(table, call)(*of)
+                        disk.call(0, record_model.PLAIN, shared[call], *(of[:1] if call == "made" else of))
+                        self.assertEqual(disk.names, table.leads, (call, of))
 
 
 if __name__ == "__main__":

@@ -220,7 +220,8 @@ const IN_IO_PAGE: &str =
     "160000 and above is the I/O page, no memory: examples/toolbox.md has programs for it\n";
 
 // What is told where a line broke.
-const SET_ANEW: &str = "an adapter that was pulled has to be set anew: by 'ldaodt-serial', or stty\n";
+const SET_ANEW: &str =
+    "an adapter that was pulled has to be set anew: by 'ldaodt-serial', or stty\n";
 
 // What is told of a tape without a transfer block.
 const NO_TRANSFER: &str = "it lacks a block with a start; this one starts nothing:\n\

@@ -150,7 +150,9 @@ impl Witness {
         let count = bytes.len().min(FRONT_LENGTH);
         front[..count].copy_from_slice(&bytes[..count]);
         self.front.set(front);
-        let block = bytes.windows(BLOCK.len()).position(|pair| pair.starts_with(&BLOCK));
+        let block = bytes
+            .windows(BLOCK.len())
+            .position(|pair| pair.starts_with(&BLOCK));
         self.block.set(block);
         self.end.set([0; END_LENGTH]);
     }

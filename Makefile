@@ -34,9 +34,10 @@ demo: ldaodt
 # Times, for a reader to judge: nothing here fails for being slow.
 bench: ldaodt
 	@tools/bench
+	@tools/bench-load
 
-# The built program in bad company: characters that are lost and changed, kills, devices that go, bad memory. It takes
-# minutes and depends on time, so it is no part of the gate.
+# The built program in bad company: little memory, full disks, a peer that hangs up, lost characters and kills. It
+# takes minutes and depends on time, so it is no part of the gate.
 hostile: ldaodt
 	@tools/hostile
 

@@ -18,7 +18,7 @@ from concurrent.futures import ProcessPoolExecutor
 sys.path.insert(0, os.path.join(os.path.dirname(os.path.dirname(os.path.realpath(__file__))), "tools"))
 import odt_peer
 from lsi11 import RunningMachine
-from outside import FIRST, LINE_FAILED, PROGRAM, TOP, Answer, bytes_of, run, run_often
+from outside import FIRST, LINE_FAILED, PROGRAM, TOP, Answer, HeldUp, bytes_of, run, run_often
 
 # The tapes that the tests name, by the names that they have in a test's folder.
 TAPES = {
@@ -28,8 +28,8 @@ TAPES = {
     "bad-sum.lda": f"{TOP}/examples/refused/bad-sum.lda",
 }
 
-# A silence long enough for a console on this computer, one for a test that failed and is done once more, and one for where it costs
-# nothing.
+# A silence long enough for a console on this computer, one for a test that failed and runs by itself, and one that is so on a computer
+# which is very busy.
 QUIET, PATIENT_QUIET, LONG_QUIET = 200, 1000, 3000
 
 
@@ -173,16 +173,54 @@ def timeless(text):
     return re.sub(r"^key \d+\.\d ms\na load of (\d+) words takes \d+ (?:seconds|minutes|hours) at this pace$", pace(r"\1"), text, flags=re.MULTILINE)
 
 
+class Noted(unittest.TestResult):
+    """A result that is told to another one later, if at all."""
+
+    def __init__(self):
+        super().__init__()
+        self.told = []
+
+    def tell(self, result):
+        for name, *rest in self.told:
+            getattr(result, name)(*rest)
+
+
+def noting(name):
+    def note(self, *rest):
+        self.told.append((name, *rest))
+        getattr(unittest.TestResult, name)(self, *rest)
+    return note
+
+
+for it in ("startTest", "stopTest", "addSuccess", "addError", "addFailure", "addSkip", "addSubTest"):
+    setattr(Noted, it, noting(it))
+
+
 class Case(unittest.TestCase):
     """A test with a folder of its own, in which the program is run.
 
-    One that counts mishaps is right only where no answer of its machine was late: tools/check-tests does it once more, with a longer
-    quiet time, where it failed."""
+    A test that counts mishaps is right only where no answer of its machine was late. So one that fails while this
+    computer held it up for a tenth of the quiet time is run once more, with a quiet time that is ten times as long as that.
+    """
 
     quiet = QUIET
 
     # What a load asks for where its test says nothing else.
     usual = "first.lda"
+
+    def run(self, result=None):
+        result = result if result is not None else self.defaultTestResult()
+        noted, watch = Noted(), HeldUp()
+        watch.start()
+        super().run(noted)
+        watch.is_over = True
+        if not noted.wasSuccessful() and watch.longest * 1000 > self.quiet / 10:
+            print(f"held up: {self.id()}, for {watch.longest * 1000:.0f} ms; once more", flush=True)
+            self.quiet = min(LONG_QUIET, max(3 * self.quiet, round(10_000 * watch.longest)))
+            noted = Noted()
+            super().run(noted)
+        noted.tell(result)
+        return result
 
     def setUp(self):
         self.room = tempfile.mkdtemp(prefix="outside-")

@@ -149,15 +149,6 @@ def told(address, held, faults):
     return f"{address:06o} held {held:06o}; {turned:06o} reads {with_bits(turned, bits):06o}, {held:06o} reads {with_bits(held, bits):06o}"
 
 
-# What is told of the bus where a test ended before it.
-NO_BUS = "the bus was not tested: the test ended before"
-
-
-def held_line(count):
-    """What is told where so many words held the second time."""
-    return [f"{count} word{'s' * (count != 1)} held the second time: the line, or a chip that is so now and then"] if count else []
-
-
 class Test(NamedTuple):
     """A test of each so many words of a range, of a memory with these faults."""
 
@@ -200,31 +191,29 @@ class Test(NamedTuple):
                 yield f"{name_of(bank)}   {'no memory' if gone else 'not tested'}"
 
     def good(self):
-        """The first word that is tested, if it holds: there the bus is tested."""
-        first = next(iter(self.tested()), None)
-        return None if first is None or bad_bits(first, self.faults) else first
+        """The first word that is tested and holds, if there is one: there a bus is tested, where each word of a range is."""
+        return next((it for it in self.tested() if not bad_bits(it, self.faults)), None) if self.every == 1 else None
 
     def around(self, address):
         """The words that are one address line from another, of those that are there."""
         return [it for it in (address ^ 1 << line for line in range(1, LINES)) if it < 2 * WORDS and self.is_there(it)]
 
     def bus(self, same=(), touches=False):
-        """The lines of the bus, where these words are one with the first, or two data lines touch."""
+        """The lines of the bus, where these words are one with the first good one, or two data lines touch."""
         at = self.good()
         if at is None:
-            return [f"the bus was not tested: {self.tested()[0]:06o} does not hold"]
+            return []
         found = ["data lines touch"] if touches else [f"{at:06o} and {it:06o} are one word" for it in same]
         return [*found, f"tested the bus at {at:06o}, beside {0 if touches else len(self.around(at))} words"]
 
-    def report(self, before, end="Tested", count=None, named=None, bus=None, held=0):
-        """The whole report, where memory read so before: of so many words, if not of all, some of which held the second time, and with a word
-        that is to be looked at."""
+    def report(self, before, end="Tested", count=None, named=None, bus=None):
+        """The whole report, where memory read so before: of so many words, if not of all, and with a word that is to be looked at."""
         tested = self.tested()[:count]
         bad = [it for it in tested if bad_bits(it, self.faults)]
         words = [told(it, before[it // 2], self.faults) for it in bad[:8]] + ([f"and {len(bad) - 8} more"] if len(bad) > 8 else [])
         look_at = [f"the word at {it:06o} held {before[it // 2]:06o}, now look at it" for it in ([] if named is None else [named])]
-        bus = (self.bus() if end == "Tested" else [NO_BUS]) if bus is None else bus
-        lines = [HEADER, *self.rows(count), *words, f"tested {len(tested)} words, {len(bad)} do not hold", *held_line(held), *bus, *look_at, f"end {end}"]
+        bus = (self.bus() if end == "Tested" else []) if bus is None else bus
+        lines = [HEADER, *self.rows(count), *words, f"tested {len(tested)} words, {len(bad)} do not hold", *bus, *look_at, f"end {end}"]
         return "".join(f"{it}\n" for it in lines)
 
     def words(self):
@@ -274,9 +263,9 @@ def any_flicker(chance, test):
 
 
 def any_bus(chance, test):
-    """By chance a bad bus, in memory that is good otherwise: the test, what its chips are besides, and what
+    """By chance a bad bus for a test of each word of a range, in memory that is good otherwise: the test, what its chips are besides, and what
     has to be said of the bus."""
-    if chance.random() < 0.5:
+    if test.every != 1 or chance.random() < 0.5:
         return test, {}, test.bus()
     test = test._replace(faults=())
     if chance.random() < 0.5:

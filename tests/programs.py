@@ -19,9 +19,20 @@ ECHO = (
     0o000000,                      # HALT
 )
 
-# It prints A on and on; it waits for a character, and halts.
+# It prints A on and on; it waits for a character, and halts; it counts on and on.
 ENDLESS = (0o105737, 0o177564, 0o100375, 0o112737, 0o000101, 0o177566, 0o000771)
 WAITING = (0o105737, 0o177560, 0o100375, 0o000000)
+COMPUTING = (0o005200, 0o000776)
+
+# It takes each character and prints none; at Z it halts.
+SILENT = (
+    0o105737, 0o177560,            # TSTB @#177560
+    0o100375,                      # BPL .-4
+    0o113700, 0o177562,            # MOVB @#177562,R0
+    0o120027, 0o000132,            # CMPB R0,#'Z
+    0o001370,                      # BNE .-16
+    0o000000,                      # HALT
+)
 
 HELLO_TEXT = "HELLO FROM THE LSI-11\r\n"
 

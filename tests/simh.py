@@ -130,6 +130,17 @@ class Simh:
             self.came += got
         return self.shown()
 
+    def hear_more(self, seconds):
+        """All that the machine has shown, once nothing has come for so long."""
+        self.line.settimeout(seconds)
+        try:
+            while got := self.line.recv(4096):
+                self.came += got
+        except TimeoutError:
+            pass
+        self.line.settimeout(SECONDS)
+        return self.shown()
+
     def close(self):
         """Ends SIMH, and takes its folder away."""
         self.process.kill()

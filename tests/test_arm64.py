@@ -6,6 +6,7 @@ import platform
 import re
 import shutil
 import subprocess
+import sys
 import unittest
 
 from cases import Case
@@ -53,6 +54,11 @@ class Functions(Compiled):
         """Links the calls with the toolchain's own functions."""
         objects = (f"{kit()}/c/{it}" for it in ("libos_c.a", "liblibc_c.a"))
         self.assertEqual(self.compile(HERE, "-o", "toolchains", f"{ARM64}/calls.c", *objects), (0, ""))
+
+    def test_a_warning_is_an_error(self):
+        self.needs(HERE)
+        self.put("narrow.c", b"int narrow(long wide);\nint narrow(long wide) {\n    return wide;\n}\n")
+        self.assertEqual(self.compile(HERE, "-fsyntax-only", "narrow.c")[0], 1)
 
     @unittest.skipUnless(platform.machine() == "x86_64", "the toolchain has its own for x86-64")
     def test_each_call_is_answered_as_by_the_toolchains_own(self):
@@ -128,12 +134,39 @@ class Assertions(Compiled):
         asserted = re.findall(r"_Static_assert\(sizeof\(struct rattle_(\w+)\) ==", bytes_of(self.path("assertions.c")).decode())
         self.assertEqual(sorted([*asserted, "EpollEvent"]), sorted(re.findall(r"#\[repr\(C\)\](?:\n#.*)*\n(?:pub )?struct (\w+)", text)))
 
+    def test_a_number_of_another_crate(self):
+        self.needs(HERE)
+        self.change("os/src/dir.rt", "NAME_OFFSET: usize = 19;", "NAME_OFFSET: usize = 20;")
+        self.fails(HERE, "offsetof(struct dirent64, d_name)")
+
     def test_another_layout(self):
         self.needs(HERE)
         self.change("libc/src/types.rt", "    pub fd: i32,\n    pub events: i16,", "    pub events: i16,\n    pub fd: i32,")
         self.assertEqual(self.write().returncode, 0)
         _, said = self.compile(HERE, "-fsyntax-only", "assertions.c")
         self.assertIn('static assertion failed: "the place of pollfd.fd"', said)
+
+    def test_another_size(self):
+        self.needs(HERE)
+        self.change("os/src/c.rt", "[u8; 128]", "[u8; 132]")
+        _, said = self.compile(HERE, "-fsyntax-only", "assertions.c") if self.write().returncode == 0 else (0, "")
+        self.assertIn('static assertion failed: "the size of RawAddr"', said)
+
+    def test_another_size_of_a_field(self):
+        """Behind which room is left, so that no other field has another place."""
+        self.needs(HERE)
+        self.change("libc/src/types.rt", "pub ok: bool", "pub ok: u32")
+        self.fails(HERE, "the size of Tried.ok")
+
+    def test_what_can_t_be_read_is_told(self):
+        self.change("libc/src/lib.rt", "pub const O_EXCL: i32 = 0o200;", "pub const O_EXCL:\n    i32 = 0o200;")
+        ran = self.write()
+        self.assertEqual((ran.returncode, ran.stderr), (1, "assertions: no constant that can be read: pub const O_EXCL:\n"))
+
+    def test_a_toolchain_without_these_crates(self):
+        shutil.rmtree(self.path("rattle"))
+        ran = self.write()
+        self.assertEqual((ran.returncode, ran.stderr), (1, f"assertions: {self.room}/rattle has no libc and os\n"))
 
 
 # A command that notes its words in a file of its name; where it has an output it writes that; it says what the test has it say. It fails
@@ -224,6 +257,16 @@ class Building(Small):
                 self.assertEqual(self.runs("build-arm64", FAILS=str(number)), (1, "", f"build-arm64: {name} failed:\n{VERDICT}\nno, for a reason\n\n"))
                 self.assertEqual((len(self.noted("called")), bytes_of(self.path("tree/ldaodt-arm64"))), (number, b"earlier"))
 
+    def test_what_is_not_said_to_be_proved(self):
+        for said in ("logic=unproved functions=2 target=aarch64-unknown-linux-gnu incremental=trusted", VERDICT.replace("aarch64", "x86_64")):
+            self.put("notes/says-rattle", f"{said}\n".encode())
+            self.assertEqual(self.runs("build-arm64"), (1, "", f"build-arm64: rattle does not say that it is proved:\n{said}\n\n"))
+        self.assertFalse(os.path.exists(self.path("tree/ldaodt-arm64")))
+
+    def test_no_program_for_this_computer(self):
+        shutil.rmtree(self.path("tree/crates/ldaodt/out"))
+        self.assertEqual(self.runs("build-arm64"), (1, "", "build-arm64: there is no program for this computer yet: run make first\n"))
+
 
 class Checking(Small):
     """tools/check-arm64."""
@@ -251,6 +294,48 @@ class Checking(Small):
         self.assertEqual(self.noted("mode"), ["755"])
         words = self.noted(EMULATOR)
         self.assertEqual((words[:4], os.path.basename(words[4]), words[5:]), (["-cpu", "cortex-a53", "-0", "given"], "ldaodt-arm64", ["check", "a b"]))
+
+    def test_a_program_that_wants_more_of_a_machine(self):
+        self.needs(HERE)
+        for old, new, told in (("LOAD  0x010000 RW 0x10000", "LOAD  0x010000 RW 0x1000", "0x1000 0x10000"), ("GNU_STACK RW 0x10", "INTERP R 0x1", "0x10000 INTERP"), (self.SEGMENTS, "", "")):
+            self.put("notes/says-readelf", self.SEGMENTS.replace(old, new).encode())
+            self.assertEqual(self.runs("check-arm64"), (1, "", f"check-arm64: ./ldaodt-arm64 asks for a C library, or for smaller pages: {told}\n"))
+        self.assertFalse(os.path.exists(self.path("notes/words")))
+
+    def test_no_program(self):
+        os.remove(self.path("tree/ldaodt-arm64"))
+        self.assertEqual(self.runs("check-arm64"), (2, "", "check-arm64: there is no ./ldaodt-arm64 yet: run make check-arm64\n"))
+
+
+class Tools(Case):
+    """What the tools say where something is missing."""
+
+    def setUp(self):
+        super().setUp()
+        os.makedirs(self.path("bin"))
+        os.symlink(sys.executable, self.path("bin/python3"))
+        for it in ("bash", "dirname"):
+            os.symlink(shutil.which(it), self.path(f"bin/{it}"))
+
+    def put_program(self, name):
+        self.put(f"bin/{name}", b"#!/bin/sh\n")
+        os.chmod(self.path(f"bin/{name}"), 0o755)
+
+    def says(self, tool, status, text):
+        ran = subprocess.run([f"{TOP}/tools/{tool}"], env={**os.environ, "PATH": self.path("bin")}, stdin=subprocess.DEVNULL, capture_output=True, text=True)
+        self.assertEqual((ran.returncode, ran.stdout, ran.stderr), (status, "", f"{tool}: {text}\n"))
+
+    def test_building(self):
+        self.says("build-arm64", 1, "the command rt of the Rattle toolchain is not on the PATH")
+        self.put_program("rt")
+        self.says("build-arm64", 1, f"{CROSS} is not on the PATH: CONTRIBUTING.md has the packages that bring it")
+
+    def test_checking(self):
+        self.says("check-arm64", 2, f"{EMULATOR} is not on the PATH: CONTRIBUTING.md has the packages that bring it")
+        self.put_program(EMULATOR)
+        self.says("check-arm64", 2, f"{HERE} is not on the PATH: CONTRIBUTING.md has the packages that bring it")
+        self.put_program(HERE)
+        self.says("check-arm64", 2, "readelf is not on the PATH: CONTRIBUTING.md has the packages that bring it")
 
 
 class Numbers(Case):

@@ -1,4 +1,4 @@
-"""`tools/prove-below`: which libraries of a crate it builds, when, how many at once, and what stays of one that fails. The `rt` of these
+"""`tools/prove-below`: which libraries of a crate it builds, when, with how many processors, and what stays of one that fails. The `rt` of these
 tests proves nothing: it notes how it was called, and what lay around it."""
 import json
 import os
@@ -21,7 +21,7 @@ root = os.path.dirname(os.path.dirname(here))
 began = time.monotonic()
 crates = sorted(os.listdir(f"{root}/crates"))
 seen = {
-    "crate": name, "words": sys.argv[1:], "crates": crates,
+    "crate": name, "words": sys.argv[1:], "nice": os.nice(0), "crates": crates, "list": open(f"{root}/crates.txt").read(),
     "built": [it for it in crates if os.path.isfile(f"{root}/crates/{it}/out/rlib/{it}.rlib/format")],
     "kept": sorted(os.listdir("out")) if os.path.isdir("out") else [],
 }
@@ -31,7 +31,7 @@ if name in meeting:
     open(f"{os.environ['NOTES']}.{name}", "w").close()
     while time.monotonic() < began + 20 and not all(os.path.exists(f"{os.environ['NOTES']}.{it}") for it in meeting):
         time.sleep(0.05)
-time.sleep(0.2)
+time.sleep(1.5 if "slow" in text else 0.2)
 os.makedirs(f"out/incremental", exist_ok=True)
 if "wrong" in text:
     print(f"fn {name}::wrong: not proved")
@@ -115,6 +115,46 @@ class Building(Case):
             self.assertEqual((notes[name]["crates"], notes[name]["built"]), (sorted([name, "low"]), ["low"]))
         self.assertLess(max(notes["left"]["began"], notes["right"]["began"]), min(notes["left"]["ended"], notes["right"]["ended"]))
 
+    def test_rt_reads_the_lines_of_the_list_that_it_needs(self):
+        _, notes = self.build("top", "4")
+        self.assertEqual(sorted(notes["right"]["list"].splitlines()), ["low: arrayvec", "right: low itoa"])
+
+    def test_the_shorter_its_chain_the_further_back_a_crate_stands(self):
+        self.write("beside", CODE * 2)
+        with open(f"{self.top}/crates.txt", "a", encoding="utf-8") as file:
+            file.write("beside: low\nover: left right beside\n")
+        self.write("over", CODE)
+        _, notes = self.build("over", "4")
+        self.assertEqual({it: notes[it]["words"][2] for it in notes}, {"low": "4", "left": "4", "beside": "1", "right": "1"})
+        self.assertEqual({it: notes[it]["nice"] - os.nice(0) for it in notes}, {"low": 0, "left": 0, "beside": min(5, 19 - os.nice(0)), "right": min(10, 19 - os.nice(0))})
+
+    def test_what_a_crate_has_to_read_counts_as_well(self):
+        with open(f"{self.top}/crates.txt", "w", encoding="utf-8") as file:
+            file.write("low:\nheavy:\nleft: low\nright: heavy\ntop: left right\n")
+        for name in ("low", "heavy", "left", "right"):
+            self.write(name, CODE)
+        os.makedirs(f"{self.top}/crates/heavy/proofs")
+        with open(f"{self.top}/crates/heavy/proofs/Lib.antt", "w", encoding="utf-8") as file:
+            file.write("-" * 50 * len(CODE))
+        _, notes = self.build("top", "4")
+        self.assertEqual({it: notes[it]["nice"] - os.nice(0) for it in ("low", "heavy")}, {"low": min(5, 19 - os.nice(0)), "heavy": 0})
+
+    def test_a_small_crate_has_one_processor(self):
+        self.write("low", "fn right() {}\n")
+        _, notes = self.build("top", "4")
+        self.assertEqual({it: notes[it]["words"][2] for it in notes}, {"low": "1", "left": "4", "right": "1"})
+
+    def test_where_all_processors_are_busy_each_crate_has_one(self):
+        with open(f"{self.top}/crates.txt", "a", encoding="utf-8") as file:
+            file.write("beside: low\nover: left right beside\n")
+        for name in ("beside", "over"):
+            self.write(name, CODE)
+        _, notes = self.build("over", "2")
+        shares = {it: notes[it]["words"][2] for it in notes}
+        self.assertEqual((shares["low"], shares["left"]), ("2", "1"))
+        # Whichever of the two begins last has nothing behind it that waits.
+        self.assertEqual(sorted((shares["beside"], shares["right"])), ["1", "2"])
+
     def test_there_are_no_more_at_once_than_that(self):
         _, notes = self.build("top", "1")
         self.assertEqual([notes[it]["words"] for it in notes], [["lib", "--jobs", "1"]] * 3)
@@ -144,6 +184,16 @@ class Building(Case):
         self.assertEqual(os.listdir(f"{self.top}/crates/left/out"), ["incremental"])
         self.assertEqual([self.is_built(it) for it in ("low", "left", "right", "top")], [True, False, True, False])
 
+    def test_one_that_is_not_proved_beside_another(self):
+        """Which ends later, and well: nothing is begun behind it, and it is not all built."""
+        with open(f"{self.top}/crates.txt", "a", encoding="utf-8") as file:
+            file.write("over: top\n")
+        self.write("over", CODE)
+        self.write("left", "fn wrong() {}\n" * 9)
+        self.write("right", "fn slow() {}\n" * 9)
+        ran, notes = self.build("over", "2")
+        self.assertEqual((ran.returncode, sorted(notes)), (1, ["low", "right"]))
+
     def test_an_interrupt_loses_nothing_that_was_kept(self):
         os.makedirs(f"{self.top}/crates/low/out/incremental/earlier")
         # Without it a shell's background job hands on that it ignores interrupts.
@@ -158,6 +208,20 @@ class Building(Case):
         self.assertEqual(ran.returncode, 130)
         self.assertNotIn("prove-below", said)
         self.assertEqual(os.listdir(f"{self.top}/crates/low/out/incremental"), ["earlier"])
+
+    def test_words_that_name_no_crate(self):
+        for words in ([], ["none"], ["top", "many"]):
+            ran, notes = self.build(*words)
+            self.assertEqual((ran.returncode, ran.stdout, notes), (2, "", {}))
+            self.assertEqual(ran.stderr, "prove-below: which crates of crates.txt, and how many processors?\n")
+
+    def test_it_waits_for_another_command_of_rt(self):
+        other = subprocess.Popen(["flock", f"{self.top}/crates/low", "sleep", "1"])
+        time.sleep(0.3)
+        began = time.monotonic()
+        _, notes = self.build("top", "2")
+        other.wait()
+        self.assertGreater(notes["low"]["began"] - began, 0.4)
 
 
 if __name__ == "__main__":

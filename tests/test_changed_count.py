@@ -110,6 +110,12 @@ class Counts(Case):
         with ThreadPoolExecutor(4) as pool:
             list(pool.map(trial, CHANGED))
 
+    def test_each_counts(self):
+        """Each costs a mishap, and a `Z` and a digit more."""
+        for count in (1, 2, 11):
+            given = self.load(ChangingOften(count), " --patience 11")
+            self.ends(given, 0, f"sent {30 + 2 * count} spent {count} verified 1 of 1\nend Started\n", came_changed(count))
+
     def test_behind_all_else(self):
         """Behind what the machine prints, a load that gave up, and a line that failed with why; a terminal has it last, too."""
         given = self.load(Changing(FIRST_ADDRESS, "1", says=[(0, "HELLO\r\n")]), " --listen 1")
@@ -153,17 +159,6 @@ class Counts(Case):
                 self.is_so((given.status, given.out.split("\n")[1], shown[-len(last):]), (5, "end Changed", last))
                 self.is_so(os.path.exists(self.path("c.lda.part")), told == part)
 
-    def test_what_a_terminal_is_told_behind_what_a_machine_prints(self):
-        """On a line of its own, where both outputs are that terminal: of changed characters, and of a log."""
-        for words, behind in (("", r""), ("--log", r"\S+ load .* changed 1\r\n")):
-            for said in ("HELLO", "HELLO\r\n"):
-                machine = Changing(FIRST_ADDRESS, "1", says=[(0, said)])
-                run = lambda it, line=self.console_at(machine), words=words: super(Counts, self).load(line, f"first.lda --listen 1 {words}", stdout=it, stderr=it)
-                given, shown = self.at_a_terminal(run)
-                told = came_changed(1).replace("\n", "\r\n")
-                self.assertRegex(shown, rf"end Started\r+\nHELLO\r+\n{re.escape(told)}{behind}$")
-                self.is_so(given.status, 0)
-
     def test_probes(self):
         """In the report, too: in the line before its end, and only where there is one to tell."""
         def trial(row):
@@ -181,6 +176,17 @@ class Counts(Case):
                     self.is_so((given.status, changed, lines[4], lines[7:]), (0, len(attempts), "memory 000000 to 001002", [*told, "end Probed"]))
                     err, field = given.err.splitlines(True)[:-1], given.err.split(" status ")[1]
                     self.is_so(("".join(err), field), (came_changed(count), "0 end Probed" + f" changed {count}" * bool(count) + "\n"))
+
+    def test_probes_that_come_to_nothing(self):
+        """The count stands before the end of one that gave up."""
+        line = self.console_at(ChangingOften(3))
+        given = self.ldaodt(["probe", line.address, "--quiet", str(self.quiet), "--patience", "2"])
+        self.is_so((given.status, given.out.splitlines()[-2:], given.err), (5, ["changed characters 3", "end GaveUp"], came_changed(3)))
+
+    def test_where_it_cannot_be_came_changed(self):
+        with open("/dev/full", "w", encoding="utf-8") as full:
+            given = super().load(self.console_at(ChangingOften(1)), "first.lda", stderr=full)
+        self.is_so((given.status, given.out), (0, "sent 32 spent 1 verified 1 of 1\nend Started\n"))
 
     def at_once(self, line, words):
         """Runs the program at a port that is silent as soon as its machine has answered all: no silence has to be waited for, and no answer

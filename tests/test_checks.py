@@ -1,6 +1,7 @@
 """The tools that try the program from outside, in a small tree of their own: what they leave out is said by name and counted, and
 another program can be tried; and those that build it and call these, with an `rt` that proves nothing."""
 import os
+import re
 import shutil
 import signal
 import subprocess
@@ -99,11 +100,25 @@ class Tests(Tree):
         self.assertEqual((status, self.left_out(lines)), (0, SKIPPED))
         self.closes(lines, "Ran 5 tests in 1 files, 3 left out, 0 wrong")
 
+    def test_what_fails_is_counted_beside_it(self):
+        self.put_script("ldaodt", "echo ill")
+        self.put("tests/cases.py", b"PATIENT_QUIET = 1\nclass Case:\n    pass\n")
+        status, lines, _ = self.runs("check-tests")
+        self.assertEqual((status, self.left_out(lines)), (1, SKIPPED))
+        self.closes(lines, "Ran 5 tests in 1 files, 3 left out, 1 wrong")
+
     def test_a_list_leaves_out_a_test(self):
         self.put("list", f"# why\n{NAME}.test_right: not today: no\n".encode())
         status, lines, _ = self.runs("check-tests", "--leave-out", self.path("list"))
         self.assertEqual((status, self.left_out(lines)), (0, sorted([f"left out: {NAME}.test_right: not today: no", *SKIPPED])))
         self.closes(lines, "Ran 4 tests in 1 files, 4 left out, 0 wrong")
+
+    def test_a_list_leaves_out_a_whole_file(self):
+        self.put("tests/test_other.py", SMALL.encode())
+        self.put("list", b"test_small: not at all\n")
+        status, lines, _ = self.runs("check-tests", "--leave-out", self.path("list"))
+        self.assertEqual((status, self.left_out(lines)[-5:], len(self.left_out(lines))), (0, sorted(f"left out: {NAME}.{it}: not at all" for it in NAMES), 9))
+        self.closes(lines, "Ran 5 tests in 2 files, 8 left out, 0 wrong")
 
     def test_a_list_leaves_out_all(self):
         """Then nothing was tried."""
@@ -154,6 +169,19 @@ class Tests(Tree):
         self.assertIn("has not ended: sleep 50 ", lines)
         self.closes(lines, "Ran 5 tests in 1 files, 3 left out, 1 wrong")
 
+    def test_a_test_that_waits_again_is_ended_again(self):
+        """As one does whose end waits for what it began."""
+        self.set_line("tools/check-tests", "TIME = 600", "TIME = 1")
+        self.set_line("tools/check-tests", "AGAIN = 5", "AGAIN = 1")
+        self.put("tests/cases.py", b"PATIENT_QUIET = 1\nclass Case:\n    pass\n")
+        waits = "import subprocess, unittest\nclass Small(unittest.TestCase):\n    def test_it(self):\n"
+        self.put("tests/test_small.py", f"{waits}        self.addCleanup(subprocess.run, ['sleep', '30'])\n        subprocess.run(['sleep', '30'])\n".encode())
+        began = time.monotonic()
+        status, lines, _ = self.runs("check-tests")
+        self.assertEqual(status, 1)
+        self.closes(lines, "Ran 1 tests in 1 files, 0 left out, 1 wrong")
+        self.assertLess(time.monotonic() - began, 30)
+
     def test_a_file_without_a_test_is_wrong(self):
         self.put("tests/test_small.py", b"")
         status, lines, _ = self.runs("check-tests")
@@ -181,6 +209,12 @@ class Program(Tree):
         # Where it is tried another user may go, too: a test runs it as one.
         self.assertEqual(bytes_of(self.path("mode")), b"755\n")
 
+    def test_another_program_that_is_wrong(self):
+        self.put("tests/cases.py", b"PATIENT_QUIET = 1\nclass Case:\n    pass\n")
+        self.put_script("other", "echo ill")
+        status, lines, _ = self.runs("check-program", "--program", self.path("other"))
+        self.assertEqual((status, lines[-1]), (1, f"{self.PASSED - 3} passed, 3 failed"))
+
     def test_a_list_of_what_is_left_out(self):
         self.put("list", f"{NAME}.test_right: not today\n".encode())
         # By its name from the top, and by one from where the tool is called.
@@ -199,11 +233,11 @@ class Program(Tree):
         """Though all of it is right in the end."""
         self.put("tests/cases.py", b"PATIENT_QUIET = 1000\nclass Case:\n    quiet = 200\n")
         self.put("tests/test_late.py", b"import cases, unittest\nclass Late(unittest.TestCase):\n    def test_it(self):\n        self.assertEqual(cases.Case.quiet, 1000)\n")
-        late = "once more, alone: a.md:1, which differed beside others:"
-        self.put_script("tools/check-transcripts", f"echo '{late}'; {PARTS['tools/check-transcripts']}")
+        held_up = "held up: a.md:1, for 40 ms; once more"
+        self.put_script("tools/check-transcripts", f"echo '{held_up}'; {PARTS['tools/check-transcripts']}")
         status, lines, _ = self.runs("check-program")
         self.assertEqual((status, lines[-1]), (0, f"{self.PASSED + 1} passed, 0 failed"))
-        self.assertEqual([it for it in lines if it.startswith("once more")], [late, "once more, alone: test_late.Late.test_it, which failed beside others:"])
+        self.assertEqual([it for it in lines if it.startswith(("held up", "once more"))], [held_up, "once more, alone: test_late.Late.test_it, which failed beside others:"])
 
     def test_an_interrupt(self):
         """It leaves no process of any part behind."""
@@ -236,7 +270,8 @@ class Transcripts(Tree):
 
     def setUp(self):
         super().setUp()
-        shutil.copy(f"{TOP}/tools/check-transcripts", self.path("tools/check-transcripts"))
+        for name in ("check-transcripts", "outside.py"):
+            shutil.copy(f"{TOP}/tools/{name}", self.path(f"tools/{name}"))
         self.put_script("ldaodt", "echo well; echo 'ldaodt: ill' >&2; exit 3")
 
     def verdicts(self, text):
@@ -266,8 +301,9 @@ class Transcripts(Tree):
             with self.subTest(more):
                 self.assertEqual(self.verdicts(right + more), (1, [f"WRONG  docs/a.md:{line}"], "1 transcripts run, 0 left out, 1 wrong"))
 
-    def test_what_differs_is_run_once_more(self):
-        """With a long quiet time."""
+    def test_what_differs_on_a_busy_computer_is_run_once_more(self):
+        """With a long quiet time. Here a computer that was not held up at all counts as busy."""
+        self.set_line("tools/check-transcripts", "BUSY_SECONDS = 0.03", "BUSY_SECONDS = -1")
         page = "```\n$ echo --quiet 200; echo --quiet 20\n--quiet 3000\n--quiet 20\n```\n"
         self.assertEqual(self.verdicts(page), (0, [], "1 transcripts run, 0 left out, 0 wrong"))
         self.assertEqual(self.verdicts(page.replace("3000", "200")), (0, [], "1 transcripts run, 0 left out, 0 wrong"))
@@ -369,6 +405,25 @@ class Around(Tree):
         running = subprocess.Popen([self.path("ldaodt"), "60"])
         self.addCleanup(self.let_go, running)
         self.assertEqual((self.run_with("build")[0], self.program()), (0, "echo new"))
+
+    def test_on_how_many_processors(self):
+        """As many as there are, and 4 GB of memory for each; or as many as are asked for."""
+        os.remove(self.path("ldaodt"))
+        self.put_script("tools/prove-below", "echo $* >> notes; exit 1")
+
+        def fitting():
+            room = int(re.search(r"MemAvailable: +(\d+)", bytes_of("/proc/meminfo").decode())[1]) // 4_000_000
+            return max(1, min(room, len(os.sched_getaffinity(0))))
+
+        before = fitting()
+        said = self.run_with("build")[3]
+        least, most = sorted((before, fitting()))
+        self.assertIn(said, [[f"ldaodt {it}"] for it in range(least, most + 1)])
+        self.assertEqual(self.run_with("build", "7")[3], ["ldaodt 7"])
+
+    def test_a_program_that_is_not_proved(self):
+        self.assertEqual(self.run_with("build", rt="exit 6")[0], 6)
+        self.assertEqual(self.program(), "echo well")
 
     def test_without_the_toolchain(self):
         """A program that is there is taken as it is."""

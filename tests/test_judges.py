@@ -1,5 +1,6 @@
 """The helpers that judge, each beside one wrong machine, load or line for each of their answers, and beside right ones: what a test finds by
 them would else be right where they had gone blind."""
+import contextlib
 import importlib.machinery
 import importlib.util
 import types
@@ -44,6 +45,12 @@ class Started(Case):
         for behind in ("G", "001000G", "Z", "\r"):
             with self.subTest(behind):
                 self.is_so(self.is_seen(self.machine(once + behind)), True)
+
+    def test_each_machine_of_several(self):
+        right, wrong = (self.machine(f"001000G{it}") for it in ("", "001000G"))
+        for machines in ((wrong, right, right), (right, wrong, right), (right, right, wrong)):
+            self.is_so(self.is_seen(*machines), True)
+        self.is_so(self.is_seen(right, right, right), False)
 
     def test_what_a_test_says_of_its_machine(self):
         """Which keys stand behind the start, or that nobody asks; and which keys start the program, where others are started before."""
@@ -145,6 +152,16 @@ class Harmless(ChipCase):
             with self.subTest(named=str(named)):
                 self.is_so(self.is_seen(**named), True)
 
+    def test_the_last_number_of_a_bus(self):
+        """It is another one where the word held it before."""
+        for held, number, is_right in ((NUMBERS[3], OTHER_NUMBER, True), (0, OTHER_NUMBER, False)):
+            machine = ChipConsole(Chips(count=1024))
+            machine.words.cells[BUS // 2] = held
+            before, machine.words.stored = machine.words.readings(), [(BUS, number)]
+            Keeping.made.clear()
+            with contextlib.nullcontext() if is_right else self.assertRaises(AssertionError):
+                self.is_harmless(types.SimpleNamespace(machine=machine), before, bus=BUS)
+
 
 # A tape of three bytes, and where its program starts.
 BYTES, BYTES_START = {0o1000: 0o101, 0o1001: 0o102, 0o1002: 0o103}, 0o1000
@@ -221,6 +238,27 @@ class Hostile(Case):
                 self.put("a.record", record.encode())
                 machine = self.machine(BYTES, starts)[0]
                 self.is_so(len(self.complaints(hostile.end_is_right, given, last, machine, self.path("a.record"), BYTES, start)), count)
+
+    def test_what_all_lives_typed(self):
+        for typed, count, is_started in ((b"Z001000/\r", 0, False), (b"001000G", 0, True), (b"001000GG", 1, True), (b"001000GZ", 1, True)):
+            hostile.TRIAL.wrong = []
+            self.is_so((hostile.typed_once(types.SimpleNamespace(typed=typed), "here"), len(hostile.TRIAL.wrong)), (is_started, count))
+
+    def test_a_line_that_changes_each_character(self):
+        """All of them but an echo that would become the key again; and it counts those that came changed."""
+        line = self.until_the_end(hostile.HeardPeer(Console(), change=1, seed=1))
+        changed, kept = 0, 0
+        for key in "001000/011064\r" * 50:
+            came = line.passed(key)
+            echo = line.passed(came)
+            self.assertNotEqual(came, key)
+            self.assertNotEqual(echo, key)
+            changed, kept = changed + 1 + (echo != came), kept + (echo == came)
+        self.is_so(line.changes, changed)
+        # One bit of seven is that which was changed before.
+        self.assertTrue(50 < kept < 150, kept)
+        holding = self.until_the_end(hostile.HeardPeer(Console(), change=0))
+        self.is_so(("".join(map(holding.passed, "001000G")), holding.changes), ("001000G", 0))
 
 
 if __name__ == "__main__":

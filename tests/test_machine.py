@@ -1,24 +1,29 @@
-"""`tools/machine`, the simulated machine of the pages, and the machines of the tests, where what is started runs: programs that print, hear, are
-interrupted, wait, go on for ever and halt; the HALT switch, bad memory, losses, changes, speeds, and a line that breaks."""
+"""`tools/machine`, the simulated machine of the pages, and `tools/odt_peer.py`, also where what is started runs: programs that print, hear, are
+interrupted, wait, go on for ever and halt; the HALT switch, bad memory, losses, changes, speeds, and a line that breaks while a program prints."""
 import contextlib
 import glob
+import importlib.machinery
+import importlib.util
 import os
 import select
+import signal
 import socket
 import subprocess
+import sys
+import termios
 import time
 import unittest
+import unittest.mock
 
 from cases import Case, LossyRunningConsole, RunningConsole
 from outside import TOP, bytes_of
-from programs import ECHO, ENDLESS, HELLO_TEXT, WAITING, placed, words_of_hello
+from programs import COMPUTING, ECHO, ENDLESS, HELLO_TEXT, SILENT, WAITING, placed, words_of_hello
 from stub_listing import CHUNK, HALTED, answered, stub_words, typed
 
 # Some bytes of a chunk.
 PART = 16
 
 SECONDS = 20
-
 
 def is_there(end, seconds):
     return bool(select.select([end], [], [], seconds)[0])
@@ -158,6 +163,15 @@ class Machine(Case):
         self.switch_off()
         self.assertTrue(self.waits(lambda: self.process() is None))
 
+    def test_a_program_that_computes_for_ever(self):
+        it = self.switched_on()
+        it.puts(placed(COMPUTING))
+        it.starts()
+        it.types("@Z/")
+        self.assertTrue(it.hears_nothing())
+        self.switch_off()
+        self.assertTrue(self.waits(lambda: self.process() is None))
+
     def test_the_stub(self):
         """Its chunks come as a whole, and are answered."""
         it, place, data = self.switched_on("--words 4096"), 0o4000, bytes(range(256))
@@ -199,6 +213,14 @@ class Machine(Case):
         # Each key has four characters of answer; one of two keys passes, and of their 400 one of two.
         self.assertTrue(140 < len(shown[0]) < 260, len(shown[0]))
 
+    def test_losses_at_a_line_of_a_speed(self):
+        """Each way, too: of 200 keys one of two passes, and of their 400 characters of answer one of two."""
+        it = self.switched_on("--loss 50 --seed 1 --speed 38400")
+        it.types("Z" * 200)
+        while not it.hears_nothing(3 * self.quiet / 1000):
+            it.heard += os.read(it.end, 64).decode()
+        self.assertTrue(140 < len(it.heard) < 260, len(it.heard))
+
     def changes(self, options, keys="Z" * 100):
         """What the line changes in each character that keys, of which none is one of ODT's, are answered by."""
         it = self.switched_on(options)
@@ -221,6 +243,11 @@ class Machine(Case):
         self.assertTrue(60 < sum(map(bool, shown[0])) < 140, shown[0])
         self.is_so([it for it in shown[0] if it & it - 1 or it >= 128], [])
 
+    def test_changes_each_way(self):
+        """What echoes its keys answers each behind two changes: of one bit and another, or of one bit twice."""
+        changed = [it.bit_count() for it in self.changes("--change 100 --console echo")]
+        self.is_so(set(changed), {0, 2})
+
     def test_a_console_that_is_another(self):
         """One that prints eight digits, in good memory and in bad, and in another style."""
         for options, shown in (("", "00000000 \r\n@"), ("--style 2", "00000000 \r\r\n@"), ("--style 2 --stuck 1000:0:1", "00000001 \r\r\n@")):
@@ -228,6 +255,12 @@ class Machine(Case):
             it.types("1000/\r")
             self.is_so(it.hears("@"), f"1000/{shown}")
             self.switch_off()
+
+    def test_a_console_that_prints_unasked_is_none(self):
+        """Its line would hold only what came before a key."""
+        told = subprocess.run([f"{TOP}/tools/machine", "--console", "endless", self.path("lsi11")], capture_output=True, text=True, timeout=60)
+        self.is_so((told.returncode, told.stdout, "argument --console: invalid choice: 'endless'" in told.stderr), (2, "", True))
+        self.is_so(os.path.lexists(self.path("lsi11")), False)
 
     def test_a_line_of_a_speed(self):
         """At 300 baud a character takes a thirtieth of a second, what ODT answers and what a program prints. Both ways go on at once: of so
@@ -247,6 +280,61 @@ class Machine(Case):
         self.assertTrue(42 / 30 <= took < 2 * 42 / 30, took)
         it.types("Z")
         it.hears("@")
+
+    def test_keys_at_a_line_of_a_speed(self):
+        """Each takes its time, also where nothing answers it: thirty keys, and the eleven characters behind a HALT."""
+        it = self.switched_on("--speed 300")
+        it.puts(placed(SILENT))
+        it.starts()
+        began = time.monotonic()
+        it.types("A" * 29 + "Z")
+        self.is_so(it.hears("@"), "\r\n001022\r\n@")
+        self.assertGreaterEqual(time.monotonic() - began, 39 / 30)
+
+    def test_nobody_types_at_a_line_of_a_speed(self):
+        """It looks twice a second, and leaves this computer to others."""
+        it = self.switched_on("--speed 38400")
+        it.types("Z")
+        it.hears("@")
+        before = turns_of(self.process())
+        time.sleep(1)
+        self.assertLess(turns_of(self.process()) - before, 20)
+
+    def test_a_program_at_a_line_of_a_speed(self):
+        it = self.switched_on("--speed 1200")
+        it.puts(placed(ENDLESS))
+        it.starts()
+        it.hears("A")
+        began = time.monotonic()
+        it.hears("A" * 120)
+        self.assertGreaterEqual(time.monotonic() - began, 0.95)
+
+    def test_a_program_computes_as_long_at_each_speed(self):
+        """96,000 instructions a second, as at 9600 baud a hundred in a character's time: so many before it prints are half a second."""
+        for speed in (300, 1200):
+            it = self.switched_on(f"--speed {speed}")
+            it.puts(placed((0o012700, 23_999, 0o005300, 0o001376, *ENDLESS)))
+            it.starts()
+            began = time.monotonic()
+            it.hears("A")
+            took = time.monotonic() - began
+            self.assertTrue(0.4 <= took < 4, took)
+            self.switch_off()
+
+    def test_a_machine_that_is_held_up(self):
+        """It makes up for a twentieth of a second, and no more: a host that counts on a line's time is not hurried."""
+        it = self.switched_on("--speed 1200")
+        it.puts(placed(ENDLESS))
+        it.starts()
+        it.hears("A" * 10)
+        os.kill(self.process(), signal.SIGSTOP)
+        while not it.hears_nothing():
+            os.read(it.end, 64)
+        time.sleep(1)
+        began = time.monotonic()
+        os.kill(self.process(), signal.SIGCONT)
+        it.hears("A" * 120)
+        self.assertGreaterEqual(time.monotonic() - began, 0.9)
 
     def test_a_fast_load_is_faster(self):
         """At a line of a speed, as at a machine; a load that takes no time of a line is slower so."""
@@ -291,6 +379,12 @@ class Machine(Case):
                      0o20000: word & ~4, 0o20002: word & ~4, 0o20004: word | 4, 0o20006: word & ~4, 0o20010: word & ~0o40, 0o20012: word}
             self.is_so({address: self.holds(it, address, word) for address in stuck}, stuck)
 
+    def test_each_bit_that_is_stuck(self):
+        it = self.switched_on(" ".join(f"--stuck {2 * (16 * value + bit):o}:{bit}:{value}" for value in (0, 1) for bit in range(16)))
+        for value, other in ((0, 0o177777), (1, 0)):
+            for bit in range(16):
+                self.is_so(self.holds(it, 2 * (16 * value + bit), other), other ^ 1 << bit)
+
     def test_banks_that_do_not_answer(self):
         it = self.switched_on("--no-bank 2 --no-bank 6 --words 28671")
         there = {0o37776: True, 0o40000: False, 0o57776: False, 0o60000: True, 0o137776: True, 0o140000: False, 0o157774: False, 0o157776: False}
@@ -323,7 +417,7 @@ class Machine(Case):
         self.is_so(it.hears("@"), "\r\n001102\r\n@")
         self.is_so(self.looks(it, 0o2002), 0o10)
 
-    def test_words_that_ask_for_nothing(self):
+    def test_bad_memory_that_is_none(self):
         """Nothing is made then, and it is said why."""
         stuck = "argument --stuck: "
         form = " is none: an octal address, or two with a '-' between them, a bit, and 0 or 1, as 020000:2:0"
@@ -337,14 +431,11 @@ class Machine(Case):
             "--words 4096 --stuck 17776-20000:2:0": f"{stuck}020000 is not in a memory of 4096 words",
             "--words 4096 --no-bank 0 --no-bank 1": "argument --no-bank: a memory of 4096 words has no bank 1",
             "--words 4096 --alias 12 --alias 13": "argument --alias: no address in a memory of 4096 words has the bit 13",
-            "--tu58 nowhere": "argument --tu58: nowhere: No such file or directory",
-            **{f"{name} {it}": f"argument {name}: {it} is not from " for name, it in (("--words", "-1"), ("--words", "28673"), ("--loss", "101"), ("--speed", "0"))},
-            "--console endless": "argument --console: invalid choice: 'endless'",
         }
         for options, said in rows.items():
             with self.subTest(options):
                 told = subprocess.run([f"{TOP}/tools/machine", *options.split(), self.path("lsi11")], capture_output=True, text=True, check=False)
-                self.is_so((told.returncode, told.stdout, told.stderr.split("\n")[-2][:len(said) + 16]), (2, "", f"machine: error: {said}"))
+                self.is_so((told.returncode, told.stdout, told.stderr.split("\n")[-2]), (2, "", f"machine: error: {said}"))
                 self.is_so(os.path.lexists(self.path("lsi11")), False)
 
     def test_a_cable_that_is_pulled(self):
@@ -361,11 +452,36 @@ class Machine(Case):
                 with contextlib.suppress(OSError):
                     self.is_so(os.read(it.end, 64), b"")
 
+    def test_what_was_answered_before_a_cable_is_pulled(self):
+        """It can still be read a while later."""
+        it = self.switched_on("--break-after 17")
+        it.types("1000/")
+        time.sleep(0.15)
+        self.is_so(it.hears(" "), "1000/000000 ")
+
     def test_a_name_that_is_a_file_s(self):
         self.put("lsi11", b"mine")
         told = subprocess.run([f"{TOP}/tools/machine", self.path("lsi11")], capture_output=True, text=True, timeout=60)
         self.is_so((told.returncode, told.stdout, told.stderr), (1, "", f"machine: {self.path('lsi11')} is there already, and is no link\n"))
         self.is_so(bytes_of(self.path("lsi11")), b"mine")
+
+    def test_a_name_that_cannot_be_made(self):
+        path = self.path("nowhere/lsi11")
+        told = subprocess.run([f"{TOP}/tools/machine", path], capture_output=True, text=True, timeout=60)
+        self.is_so((told.returncode, told.stdout, told.stderr), (1, "", f"machine: cannot make {path}: No such file or directory\n"))
+
+    def test_a_cartridge_that_is_not_there(self):
+        told = subprocess.run([f"{TOP}/tools/machine", "--tu58", "nowhere", self.path("lsi11")], capture_output=True, text=True, timeout=60)
+        self.is_so((told.returncode, told.stderr.split("\n")[-2]), (2, "machine: error: argument --tu58: nowhere: No such file or directory"))
+        self.is_so(os.path.lexists(self.path("lsi11")), False)
+
+    def test_numbers_past_their_limits(self):
+        for words in ("--words -1", "--words 28673", "--loss 101", "--change -1", "--speed 0"):
+            told = subprocess.run([f"{TOP}/tools/machine", *words.split(), self.path("lsi11")], capture_output=True, text=True, timeout=60)
+            name, number = words.split()
+            self.is_so((told.returncode, told.stdout), (2, ""))
+            self.assertIn(f"argument {name}: {number} is not from ", told.stderr)
+            self.is_so(os.path.lexists(self.path("lsi11")), False)
 
     def test_a_link_that_leads_nowhere(self):
         """As a machine leaves it that was killed."""
@@ -373,6 +489,18 @@ class Machine(Case):
         it = self.switched_on()
         it.types("Z")
         self.is_so(it.hears("@"), "?\r\n@")
+
+    def test_a_name_of_this_folder(self):
+        """It is told as it was given."""
+        self.addCleanup(self.switch_off)
+        told = subprocess.run([f"{TOP}/tools/machine", "lsi11"], cwd=self.room, capture_output=True, text=True, timeout=60, check=True)
+        self.is_so(told.stdout, "lsi11 is the console of a simulated LSI-11, until it is removed: rm lsi11\n")
+
+    def test_a_name_with_a_space(self):
+        """What is to be written can be written."""
+        self.addCleanup(subprocess.run, ["rm", "-f", self.path("an lsi11")], check=True)
+        told = subprocess.run([f"{TOP}/tools/machine", "an lsi11"], cwd=self.room, capture_output=True, text=True, timeout=60, check=True)
+        self.is_so(told.stdout, "an lsi11 is the console of a simulated LSI-11, until it is removed: rm 'an lsi11'\n")
 
     def test_a_name_that_is_another_machine_s(self):
         """That one is switched off by it, and the later one stays on."""
@@ -383,6 +511,176 @@ class Machine(Case):
         time.sleep(1)
         it.types("Z")
         self.is_so(it.hears("@"), "?\r\r\n@")
+
+    def quick_clock(self, times, options=""):
+        """Switches on a machine whose clock goes so many times as fast; returns when."""
+        faster = f"import runpy, sys, time; clock = time.monotonic; time.monotonic = lambda: {times} * clock()"
+        run = f"{faster}; sys.path[0] = '{TOP}/tools'; runpy.run_path('{TOP}/tools/machine', run_name='__main__')"
+        began = time.monotonic()
+        subprocess.run([sys.executable, "-c", run, *options.split(), self.path("lsi11")], stdout=subprocess.DEVNULL, timeout=60, check=True)
+        self.addCleanup(self.switch_off)
+        return began
+
+    def goes_off(self, behind, early, hour):
+        """Asserts that it is still on for so many seconds behind a time, and goes off an hour behind that."""
+        time.sleep(max(0, behind + early - time.monotonic()))
+        is_on = os.path.islink(self.path("lsi11"))
+        self.assertTrue(is_on or time.monotonic() > behind + hour)
+        self.assertTrue(self.waits(lambda: not os.path.islink(self.path("lsi11"))))
+        self.assertGreaterEqual(time.monotonic(), behind + hour)
+
+    def test_an_hour_without_a_key(self):
+        """Then it switches itself off, and not after ten minutes: by a clock that goes 400 times as fast."""
+        self.goes_off(self.quick_clock(400), 1200 / 400, 3600 / 400)
+
+    def test_an_hour_behind_the_last_key(self):
+        """However long it was on before, also at a line of a speed."""
+        for options in ("", "--speed 9600"):
+            began = self.quick_clock(600, options)
+            time.sleep(max(0, began + 1800 / 600 - time.monotonic()))
+            end = os.open(self.path("lsi11"), os.O_RDWR | os.O_NOCTTY)
+            typed = time.monotonic()
+            os.write(end, b"Z")
+            self.goes_off(typed, 2400 / 600, 3600 / 600)
+            os.close(end)
+
+
+class Commands(Case):
+    """`tools/odt_peer.py` as a command: each of its options, and what it tells."""
+
+    def begun(self, *options):
+        """It with these options; what it tells first is where it is."""
+        process = subprocess.Popen([sys.executable, "-B", f"{TOP}/tools/odt_peer.py", *options], stdin=subprocess.DEVNULL, stdout=subprocess.PIPE, text=True)
+        self.addCleanup(process.stdout.close)
+        self.addCleanup(process.wait)
+        self.addCleanup(process.kill)
+        return process, process.stdout.readline().strip()
+
+    def at_a_port(self, *options):
+        """It, and a person at its port."""
+        process, name = self.begun(*options)
+        host, port = name.split(":")
+        self.is_so((host, process.stdout.closed), ("127.0.0.1", False))
+        end = socket.create_connection((host, int(port)), SECONDS)
+        self.addCleanup(end.close)
+        self.is_so(process.stdout.readline(), "connected\n")
+        return process, Terminal((end, end.recv), end.sendall)
+
+    def test_a_port_that_is_asked_for(self):
+        """There it is until it is interrupted, which ends it without a word."""
+        with socket.create_server(("127.0.0.1", 0)) as free:
+            port = free.getsockname()[1]
+        heed = lambda: signal.signal(signal.SIGINT, signal.default_int_handler)
+        process = subprocess.Popen([sys.executable, "-B", f"{TOP}/tools/odt_peer.py", "--port", str(port)], stdin=subprocess.DEVNULL, stdout=subprocess.PIPE,
+                                   stderr=subprocess.PIPE, text=True, preexec_fn=heed)
+        self.addCleanup(process.kill)
+        self.is_so(process.stdout.readline(), f"127.0.0.1:{port}\n")
+        process.send_signal(signal.SIGINT)
+        self.is_so((process.communicate(timeout=SECONDS), process.returncode), (("", ""), 0))
+
+    def test_what_it_tells(self):
+        """Each start and each end of a connection; what the program prints, which is started."""
+        process, it = self.at_a_port("--says", "HI\\r\\n", "--style", "2", "--words", "256", "--console", "wide")
+        it.types("776/\r1000/")
+        self.is_so(it.hears("?\r\r\n@"), "776/00000000 \r\r\n@1000/?\r\r\n@")
+        # At an odd address nothing starts.
+        it.types("000101G")
+        self.is_so(it.hears("@"), "000101G?\r\r\n@")
+        it.types("000100G")
+        self.is_so(it.hears("\n"), "000100GHI\r\n")
+        self.is_so(process.stdout.readline(), "started at 000100\n")
+        it.end.close()
+        self.is_so(process.stdout.readline(), f"gone: 24 keys, {4 + 10 + 3 + 5 + 5 + 12 + 7 + 4} characters answered, 0 lost\n")
+
+    def test_losses_and_changes(self):
+        """Of a hundred characters so many, each way, by a chance that can be had again."""
+        shown = []
+        for seed in ("1", "1", "2"):
+            process, it = self.at_a_port("--loss", "50", "--seed", seed)
+            it.types("Z" * 200)
+            while not it.hears_nothing(3 * self.quiet / 1000):
+                it.heard += it.read(64).decode()
+            self.assertTrue(140 < len(it.heard) < 260, len(it.heard))
+            it.end.close()
+            self.assertRegex(process.stdout.readline(), rf"^gone: 200 keys, {len(it.heard)} characters answered, \d+ lost\n$")
+            shown.append(it.heard)
+        self.is_so((shown[0] == shown[1], shown[0] == shown[2]), (True, False))
+        process, it = self.at_a_port("--change", "100")
+        it.types("Z")
+        self.is_so([(ord(it.read(1)) ^ ord(wanted)).bit_count() for wanted in "?\r\n@"], [1] * 4)
+        it.end.close()
+        self.is_so(process.stdout.readline(), "gone: 1 keys, 4 characters answered, 0 lost, 5 changed\n")
+        process, it = self.at_a_port("--change", "25")
+        it.types("Z" * 100)
+        changed = sum(it.read(1) != wanted.encode() for wanted in "?\r\n@" * 100)
+        self.assertTrue(60 < changed < 140, changed)
+
+    def test_a_line_that_breaks(self):
+        """Behind five keys and twelve characters it is over."""
+        _, it = self.at_a_port("--break-after", "17")
+        it.types("1000/")
+        self.is_so(it.hears(" "), "1000/000000 ")
+        self.is_so(it.read(1), b"")
+
+    def test_a_line_of_a_speed(self):
+        """Five keys and twelve characters of a thirtieth of a second."""
+        _, it = self.at_a_port("--baud", "300")
+        began = time.monotonic()
+        it.types("1000/")
+        it.hears(" ")
+        self.assertGreaterEqual(time.monotonic() - began, 17 / 30)
+
+    def test_a_device(self):
+        """Set as it is asked for; else as a load wants it."""
+        for options, speed in (((), termios.B38400), (("--stty", "raw -echo 300"), termios.B300)):
+            _, name = self.begun("--device", *options)
+            end = os.open(name, os.O_RDWR | os.O_NOCTTY)
+            self.addCleanup(os.close, end)
+            _, _, _, local, *speeds = termios.tcgetattr(end)[:6]
+            self.is_so((local & (termios.ECHO | termios.ICANON), speeds), (0, [speed] * 2))
+            it = Terminal((end, lambda size, end=end: os.read(end, size)), lambda keys, end=end: os.write(end, keys))
+            it.types("1000/")
+            self.is_so(it.hears(" "), "1000/000000 ")
+
+
+class Busy:
+    """A machine whose program computes on and on."""
+
+    is_busy = True
+
+    def go_on(self):
+        return ""
+
+    def take(self, _key):
+        return ""
+
+
+class Rests(unittest.TestCase):
+    """How long a machine rests, so that a program which computes on and on leaves this computer to others."""
+
+    def setUp(self):
+        loader = importlib.machinery.SourceFileLoader("machine", f"{TOP}/tools/machine")
+        self.machine = importlib.util.module_from_spec(importlib.util.spec_from_loader("machine", loader))
+        loader.exec_module(self.machine)
+        keys, self.keyboard = os.pipe()
+        for end in (keys, self.keyboard):
+            self.addCleanup(os.close, end)
+        self.console = self.machine.Console(Busy(), keys, 0, 0, 0, None)
+
+    def rests(self, turns):
+        """How long it rests behind each of so many turns."""
+        with unittest.mock.patch.object(self.machine.time, "sleep") as sleep:
+            for _ in range(turns):
+                self.console.turn()
+        return [call.args[0] for call in sleep.call_args_list]
+
+    def test_a_program_without_an_end(self):
+        """Behind 10,000 characters' times without a key a millisecond behind each; a key is heard at once, and it is awake again."""
+        self.assertEqual(sum(self.rests(10_000)), 0)
+        self.assertEqual(self.rests(100), [0.001] * 100)
+        os.write(self.keyboard, b"A")
+        self.assertEqual(sum(self.rests(10_001)), 0)
+        self.assertEqual(self.rests(1), [0.001])
 
 
 def bytes_of_tape(address, data):
@@ -396,6 +694,11 @@ def bytes_of_process(path):
         return bytes_of(path)
     except OSError:
         return b""
+
+
+def turns_of(process):
+    """How often a process has come to its turn on a processor because it had waited for something."""
+    return int(bytes_of(f"/proc/{process}/status").split(b"voluntary_ctxt_switches:")[1].split()[0])
 
 
 def processor_time(process):
@@ -467,6 +770,15 @@ class Lines(Case):
         it.types(typed(data))
         wanted = answered(data)[:3] + answered(data)[4:]
         self.is_so(it.hears(wanted), wanted)
+
+    def test_a_line_that_breaks_while_a_program_prints(self):
+        """Behind the last of these keys, and before the last answer."""
+        peer = self.console_at(self.with_stub(RunningConsole()), close_after=14 + 4 * PART - 1)
+        it = self.at(peer)
+        it.starts(0o4000)
+        it.types(typed(bytes(PART)))
+        self.is_so(it.hears("o" * (2 * PART - 1)), "o" * (2 * PART - 1))
+        self.is_so(it.end.recv(64), b"")
 
 
 if __name__ == "__main__":

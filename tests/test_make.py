@@ -29,72 +29,46 @@ class Refused(Exception):
 
 def numbers_of(text):
     """The octal numbers that a text is, with blanks between them."""
-    fields = text.translate(bytes.maketrans(b"\t\r@", b"   ")).split(b" ")
+    fields = text.translate(bytes.maketrans(b"\t\r", b"  ")).split(b" ")
     numbers = [int(it, 8) for it in fields if re.fullmatch(rb"[0-7]{1,6}", it)]
     if len(numbers) != len([it for it in fields if it]) or any(it > 0o177777 for it in numbers):
         raise ValueError
     return numbers
 
 
-def numbers_on(line):
-    """The numbers of a line, and whether it is one of ODT's; None where it has something else."""
-    address, mark, words = re.fullmatch(rb"([^/:;#]*)([/:]?)([^;#]*)(?:[;#].*)?", line, re.DOTALL).groups()
+def said_by(line):
+    """The address and the words of a line; None where it says nothing, or why it is refused."""
+    said = re.split(rb"[;#]", line)[0]
+    address, slash, words = said.partition(b"/")
     try:
         numbers = numbers_of(address) + numbers_of(words)
-        return None if mark and len(numbers_of(address)) != 1 else (numbers, mark == b"/")
+        if slash and len(numbers_of(address)) != 1:
+            return "BadNumber"
     except ValueError:
-        return None
-
-
-def neighbours_in(lines):
-    """The addresses that lines of ODT's are beside: the next one's, or that of the second of two words."""
-    shown = [it[0] for it in map(numbers_on, lines) if it and it[1]]
-    return {it[0] - 2 for it in shown} | {it[0] + 2 for it in shown if len(it) == 3}
-
-
-def said_by(line, neighbours):
-    """The address and the words of a line; None where it says nothing, or why it is refused."""
-    found = numbers_on(line)
-    if found is None:
         return "BadNumber"
-    numbers, shown = found
     if not numbers:
         return None
-    address, *words = numbers
-    if not words:
+    if len(numbers) == 1:
         return "NoWords"
-    if address % 2:
+    if numbers[0] % 2:
         return "OddAddress"
-    if shown and len(words) > 2:
-        return "BadNumber"
-    if shown and len(words) == 2:
-        if address not in neighbours:
-            return "Ambiguous"
-        words = words[1:]
-    return "PastTop" if address + 2 * len(words) > MEMORY_END else (address, words)
+    if numbers[0] + 2 * (len(numbers) - 1) > MEMORY_END:
+        return "PastTop"
+    return numbers[0], numbers[1:]
 
 
-def memory_of(text, start=1):
-    """The bytes that the words of a text leave in memory, by their addresses; there has to be one, or a start."""
+def memory_of(text):
+    """The bytes that the words of a text leave in memory, by their addresses."""
     if len(text) > MOST:
         raise Refused(0, "TooLong")
-    words, lines = {}, text.split(b"\n")
-    neighbours = neighbours_in(lines)
-    for number, line in enumerate(lines, 1):
-        said = said_by(line, neighbours)
+    memory = {}
+    for number, line in enumerate(text.split(b"\n"), 1):
+        said = said_by(line)
         if isinstance(said, str):
             raise Refused(number, said)
         for place, word in enumerate(said[1] if said else ()):
-            if words.setdefault(said[0] + 2 * place, word) != word:
-                raise Refused(number, "Twice")
-    if not words and start % 2:
-        raise Refused(0, "Empty")
-    return bytes_by_address(words)
-
-
-def bytes_by_address(words):
-    """The bytes of words, each by its address."""
-    return {address + it: word >> 8 * it & 255 for address, word in words.items() for it in (0, 1)}
+            memory[said[0] + 2 * place], memory[said[0] + 2 * place + 1] = word % 256, word // 256
+    return memory
 
 
 def blocks_of(memory):
@@ -130,31 +104,22 @@ def refusal_of(text):
 
 # A text, and the words that it leaves, by their addresses.
 TEXTS = (
+    (b"", {}, "nothing is a text, too"),
+    (b"\n\n", {}, "and empty lines are"),
+    (b" \t\r\n", {}, "and blanks"),
+    (b"; a remark 8\n# 9\n", {}, "and remarks"),
     (b"001000 012700 000377", {0o1000: 0o012700, 0o1002: 0o000377}, "the end of a line may be missing"),
     (b"001000/012700\n", {0o1000: 0o012700}, "as ODT shows a word"),
-    (b"001000/ 012700\n", {0o1000: 0o012700}, "with a blank behind the slash"),
-    (b"001000: 012700\n1002:\t000377\n", {0o1000: 0o012700, 0o1002: 0o000377}, "as SIMH shows it"),
-    (b"001000: 012700 000377\n", {0o1000: 0o012700, 0o1002: 0o000377}, "with more words"),
-    (b"@001000/012700 \r\n@", {0o1000: 0o012700}, "with ODT's prompt"),
-    (b"@001000/000000 012701\r\n@001002/000000 000377\r\n@", {0o1000: 0o012701, 0o1002: 0o377}, "a session: of old contents and what was typed the latter"),
-    (b"001000/ 000000 012701\r\n001002/ 000000 000377\r\n", {0o1000: 0o012701, 0o1002: 0o377}, "of another style"),
-    (b"1000/000000 000000\n1002/000000 000123\n", {0o1000: 0, 0o1002: 0o123}, "also where the words would be the same"),
-    (b"1004/000001 2\n1006/012700\n", {0o1004: 2, 0o1006: 0o12700}, "one word was looked at alone"),
-    (b"1006/012700\n; 1\n1004/000001 2\n", {0o1004: 2, 0o1006: 0o12700}, "in any order"),
-    (b"1000/0 1\n1002/0 2\n1000/1\n1002/2\n", {0o1000: 1, 0o1002: 2}, "looked at again"),
-    (b"157774/1 2\n157776/3 4\n", {0o157774: 2, 0o157776: 4}, "the last word"),
+    (b"001000/ 012700 000377\n", {0o1000: 0o012700, 0o1002: 0o000377}, "with a blank behind the slash"),
     (b"  001000\t/\t012700  \r\n", {0o1000: 0o012700}, "blanks stand wherever they may"),
     (b"0 7\n", {0: 7}, "one digit is enough"),
     (b"157776 177777\n", {0o157776: 0o177777}, "the last word, the largest number"),
     (b"001000 1;2\n001002 3#4\n", {0o1000: 1, 0o1002: 3}, "a remark stands behind words"),
-    (b"1000 1\n1000 000001\n", {0o1000: 1}, "a word may be given again"),
-    (b"1000 1 2 3\n1002 2\n", {0o1000: 1, 0o1002: 2, 0o1004: 3}, "in the midst of an earlier line"),
+    (b"1000 1\n1000 2\n", {0o1000: 2}, "a later word counts"),
+    (b"1000 1 2 3\n1002 7\n", {0o1000: 1, 0o1002: 7, 0o1004: 3}, "in the midst of an earlier line"),
     (b"2000 1\n1000 2\n", {0o1000: 2, 0o2000: 1}, "lines stand in any order"),
     (b"001000 000000\n", {0o1000: 0}, "a word of zeroes is one"),
 )
-
-# Texts that have no word.
-EMPTY = (b"", b"\n\n", b" \t\r\n", b"; a remark 8\n# 9\n", b"\r\n@")
 
 # A line that is refused, and why.
 LINES = (
@@ -175,52 +140,17 @@ LINES = (
     (b"001000 -1", "BadNumber", ""),
     (b"001000 +1", "BadNumber", ""),
     (b"001000 0o12", "BadNumber", ""),
-    (b"001000:: 012700", "BadNumber", ""),
-    (b"001000:/012700", "BadNumber", ""),
-    (b"001000 012700: 1", "BadNumber", ""),
-    (b"001000/012700 000377", "Ambiguous", "two words from there on, or what stood there and what was typed"),
-    (b"001001/012700 000377", "OddAddress", "which is said first"),
-    (b"001000/012700 000377 000001", "BadNumber", "three"),
-    (b"157776/000001 000002", "Ambiguous", ""),
+    (b"001000: 012700", "BadNumber", ""),
     (b"001000,012700", "BadNumber", ""),
     (b"/012700", "BadNumber", "a slash with no address"),
     (b"001000 012700/000377", "BadNumber", "a slash behind a word"),
     (b"001000/012700/000377", "BadNumber", "a second slash"),
-    (b"001000/012700 @1000G", "BadNumber", "a start"),
+    (b"001000/012700 @", "BadNumber", "the prompt"),
     (b"// 1", "BadNumber", ""),
     (b"001000 \xe2\x82\x80", "BadNumber", "a digit of another kind"),
     (b"001000\x0b1", "BadNumber", "another blank"),
     (b"001000\x001", "BadNumber", ""),
     (b"\xef\xbb\xbf001000 1", "BadNumber", "a mark of byte order"),
-)
-
-
-# Texts that give an address two values, and the line that does.
-TWICE = (
-    (b"1000 1\n1000 2\n", 2),
-    (b"1000 1\n1000 0\n", 2),
-    (b"1000 1\n1000 400\n", 2),
-    (b"1000 1\n1000 401\n", 2),
-    (b"1000 1 2 3\n; 1002 7\n1004 7\n", 3),
-    (b"1002 7\n1000 1 2 3", 2),
-    (b"1000 1\n1002 2\n1004 3\n\n1000 1 2 4\n", 5),
-    (b"1000 1\n1000 1\n1000 2\n1000 1\n", 3),
-    (b"0 1\n157776 1\n157774 1 2\n0 2\n", 3),
-    (b"1000/000001\n1000 000002\n", 2),
-)
-
-
-# Texts of which some lines may be read in two ways, and the first that no other decides.
-AMBIGUOUS = (
-    (b"1000/1 2\n1004/3 4\n1010/5 6\n", 1),
-    (b"1000/0 1\n1002/0 2\n2000/0 3\n", 3),
-    (b"1000/0 1\n1002 2\n", 1),
-    (b"1000/0 1\n1002: 2\n", 1),
-    (b"1000/0 1\n;1002/0 2\n", 1),
-    (b"1000/0 1\n1000/1\n", 1),
-    (b"1002/1\n1004/0 1\n", 2),
-    (b"1002/1\n2000/0 1\n777/1\n1776/1\n", 2),
-    (b"1000/1 2\n1004/3 4\n1004/5 6\n", 1),
 )
 
 
@@ -238,7 +168,7 @@ class Makes(Case):
     def is_made(self, text, start=1, *more):
         """Asserts that a tape was made of a text, silently, and lets it go."""
         self.ends(self.make(text, *more), 0)
-        self.holds({"a.lda": tape_of(blocks_of(memory_of(text, start)), start)})
+        self.holds({"a.lda": tape_of(blocks_of(memory_of(text)), start)})
         os.remove(self.path("a.lda"))
 
 
@@ -248,18 +178,11 @@ class Words(Makes):
     def test_texts_by_hand(self):
         for text, words, why in TEXTS:
             with self.subTest(why):
-                self.is_so(memory_of(text), bytes_by_address(words))
+                memory = {}
+                for address, word in words.items():
+                    memory[address], memory[address + 1] = word & 255, word >> 8
+                self.is_so(memory_of(text), memory)
                 self.is_made(text)
-
-    def test_texts_without_a_word(self):
-        """Of them a tape is made that starts something, and no other."""
-        for text in EMPTY:
-            with self.subTest(text):
-                for more in ((), ("--start", "1"), ("--start", "173001")):
-                    self.ends(self.make(text, *more), 3, "", "ldaodt: words refused at line 0: Empty\n")
-                    self.holds({})
-                self.is_made(text, 0o173000, "--start", "173000")
-                self.is_made(text, 0, "--start", "0")
 
     def test_lines_that_are_refused(self):
         """At the first line, behind others, and before lines that are worse. Nothing is written."""
@@ -271,24 +194,6 @@ class Words(Makes):
                     self.ends(self.make(text), 3, "", f"ldaodt: words refused at line {number}: {why}\n")
                     self.is_so(refusal_of(text), f"ldaodt: words refused at line {number}: {why}\n")
                     self.holds({})
-
-    def test_an_address_with_two_values(self):
-        for text, number in TWICE:
-            for after in (b"", b"\nworse\n"):
-                with self.subTest((text, after)):
-                    self.ends(self.make(text + after), 3, "", f"ldaodt: words refused at line {number}: Twice\n")
-                    self.is_so(refusal_of(text + after), f"ldaodt: words refused at line {number}: Twice\n")
-                    self.holds({})
-
-    def test_lines_that_may_be_read_in_two_ways(self):
-        for text, number in AMBIGUOUS:
-            with self.subTest(text):
-                self.ends(self.make(text), 3, "", f"ldaodt: words refused at line {number}: Ambiguous\n")
-                self.is_so(refusal_of(text), f"ldaodt: words refused at line {number}: Ambiguous\n")
-                self.holds({})
-
-    def test_sessions_by_chance(self):
-        self.agrees(session_by_chance(random.Random(seed)) for seed in range(400))
 
     def test_each_length_of_a_number(self):
         for digits in range(1, 12):
@@ -320,7 +225,7 @@ class Words(Makes):
             self.is_made(b"\n".join(b"%06o/%06o" % (0o1000 + 2 * number, it) for number, it in enumerate(words)))
 
     def test_all_of_memory(self):
-        for behind in (b" ", b":"):
+        for behind in (b" ", b"/"):
             self.is_made(b"0" + behind + b"177777 " * 28672)
         self.is_made(b"".join(b"%o %o\n" % (address, address) for address in range(0, MEMORY_END, 2)))
         self.is_made(b"".join(b"%o 1\n" % address for address in range(0, MEMORY_END, 4)))
@@ -361,15 +266,12 @@ class Words(Makes):
 
 
 def text_by_chance(chance):
-    """Lines of words near some addresses, seldom with a fault: most addresses have one value, wherever it stands."""
-    lines, held = [], {}
+    """Lines of words near some addresses, seldom with a fault."""
+    lines = []
     for _ in range(chance.choice((0, 1, 2, 3, 8, 20))):
         address = 2 * chance.choice((0, 256, 256, 257, 300, 28669, 28670, chance.randrange(28600)))
-        words = [held.setdefault(address + 2 * place, chance.choice((0, 1, 0o377, 0o400, 0o177777, chance.randrange(65536))))
-                 for place in range(chance.choice((1, 1, 2, 3, 5, 300)))]
-        if chance.random() < 0.02:
-            words[-1] ^= chance.choice((1, 0o400, 0o177777))
-        behind = chance.choice((b" ", b" ", b"/" if len(words) == 1 else b":"))
+        words = [chance.choice((0, 1, 0o377, 0o400, 0o177777, chance.randrange(65536))) for _ in range(chance.choice((1, 1, 2, 3, 5, 300)))]
+        behind = b"/" if chance.random() < 0.3 else b" "
         line = chance.choice((b"%o", b"%06o")) % address + behind + b" ".join(chance.choice((b"%o", b"%06o")) % it for it in words)
         if chance.random() < 0.04:
             place = chance.randrange(len(line) + 1)
@@ -378,16 +280,6 @@ def text_by_chance(chance):
         if chance.random() < 0.1:
             lines.append(chance.choice((b"", b"\r", b"; remark", b"  # 1001 1")))
     return b"\n".join(lines) + chance.choice((b"", b"\n"))
-
-
-def session_by_chance(chance):
-    """Lines of ODT's, mostly at one address behind the other, some of which only show a word."""
-    lines, address = [], 0o1000
-    for _ in range(chance.choice((1, 2, 2, 3, 8))):
-        typed = chance.choice((b"", b" ", b" 1", b" 000377", b"177777 ", b" 1 2"))
-        lines.append(chance.choice((b"", b"@")) + b"%06o/%06o " % (address, chance.choice((0, 1, 0o377))) + typed + chance.choice((b"", b"\r", b" ; 1")))
-        address += chance.choice((2, 2, 2, 2, 0, 4, -2, 0o20, 1 if chance.random() < 0.1 else 2))
-    return b"\n".join(lines) + chance.choice((b"", b"\r\n@"))
 
 
 class Inputs(Makes):

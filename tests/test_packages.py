@@ -38,9 +38,6 @@ NOBODY = 65534
 DEVICES = ["serial/by-id/usb-FTDI-1", "ttyACM0", "ttyS0", "ttyUSB0"]
 STANDING = [*DEVICES, "tty1"]
 
-# Files whose names begin alike: two tapes and a record.
-OTHERS = ["another.BIC", "another.lda", "another.record"]
-
 # The speeds of a scan, as its help has them.
 SPEEDS = "9600 300 1200 2400 4800 19200 38400 110".split()
 
@@ -345,7 +342,7 @@ class Completion(Case):
 
     def setUp(self):
         super().setUp()
-        for name in ("a tape.lda", *OTHERS, *(f"dev/{it}" for it in STANDING)):
+        for name in ("a tape.lda", "another.lda", *(f"dev/{it}" for it in STANDING)):
             os.makedirs(os.path.dirname(self.path(name)), exist_ok=True)
             open(self.path(name), "w", encoding="utf-8").close()
         for name in ("ldaodt", "_ldaodt"):
@@ -382,12 +379,12 @@ class Bash(Completion):
         self.assertEqual(self.offers("ldaodt", "load", "--rec"), [it for it in options_of("load") if it.startswith("--rec")])
 
     def test_the_values_of_the_options_of_each_command(self):
-        """A file is offered that is no tape, and each style; a number or an address is nobody's to guess."""
+        """A file is offered, and each style; a number or an address is nobody's to guess."""
         tried = set()
         for command in COMMANDS[:-1]:
             for option, value in values_of(command):
                 with self.subTest(command=command, option=option):
-                    offered = list("01234567") if option == "--style" else ["another.record"] if value == "FILE" else []
+                    offered = list("01234567") if option == "--style" else ["another.lda"] if value == "FILE" else []
                     self.assertEqual(self.offers("ldaodt", command, option, "ano" if value == "FILE" else ""), offered)
                     tried.add(value)
         self.assertLessEqual({"FILE", "N", "MS", "SECONDS", "AAAAAA"}, tried)
@@ -395,7 +392,7 @@ class Bash(Completion):
 
     def test_files(self):
         self.assertIn("a tape.lda", self.offers("ldaodt", "check", "a"))
-        self.assertEqual(sorted(self.offers("ldaodt", "check", "ano")), OTHERS)
+        self.assertEqual(self.offers("ldaodt", "check", "ano"), ["another.lda"])
 
     def test_a_name_with_a_space_is_one_word(self):
         """At a terminal, where the shell quotes a name that it completes."""
@@ -444,8 +441,7 @@ class Bash(Completion):
             wanted = options_of(command) + ["--talk"] * (command == "load")
             self.assertEqual(self.offers("ldaodt-serial", "9600", "it", command, "--"), wanted)
             self.assertEqual(self.devices_of(self.offers("ldaodt-serial", "9600", "it", command, "")), [])
-        self.assertEqual(sorted(self.offers("ldaodt-serial", "9600", "it", "load", "ano")), OTHERS)
-        self.assertEqual(self.offers("ldaodt-serial", "9600", "it", "load", "--record", "ano"), ["another.record"])
+        self.assertEqual(self.offers("ldaodt-serial", "9600", "it", "load", "ano"), ["another.lda"])
         self.assertEqual(self.offers("ldaodt-serial", "9600", "it", "load", "--quiet", ""), [])
 
 
@@ -478,10 +474,10 @@ class Zsh(Completion):
         asked = {
             "ldaodt ": COMMANDS,
             "ldaodt help sa": ["save"],
-            "ldaodt check ano": OTHERS,
+            "ldaodt check ano": ["another.lda"],
             "ldaodt type --style ": list("01234567"),
             "ldaodt load --quiet ": [],
-            "ldaodt load --record ano": ["another.record"],
+            "ldaodt load --record ano": ["another.lda"],
             **{f"ldaodt {it} --": options_of(it) for it in COMMANDS[:-1]},
             **{f"ldaodt {it} {self.path('dev/')}": DEVICES if it in MACHINES else [] for it in COMMANDS[:-1]},
             "ldaodt-serial ": ["scan", *SPEEDS],
@@ -490,7 +486,7 @@ class Zsh(Completion):
             f"{script} ": [*MACHINES, "talk"],
             f"{script} load --": [*options_of("load"), "--talk"],
             f"{script} save --": options_of("save"),
-            f"{script} load ano": OTHERS,
+            f"{script} load ano": ["another.lda"],
             f"{script} load {self.path('dev/')}": [],
         }
         for (line, wanted), offered in zip(asked.items(), self.offers(*asked)):

@@ -151,7 +151,7 @@ class Endings(Case):
 
     def test_each_fault_of_the_program_is_one(self):
         """By the words of its line, up to a colon or a comma. And each that the manual page explains."""
-        told = re.findall(r"`(ldaodt: [^`]*)`", section(self.page, "## Faults"))
+        told = re.findall(r"`(ldaodt: [^`]*)`", "\n".join(cells[0] for cells in rows_of(section(self.page, "## Faults"))))
         text = "".join(text_at(f"crates/endings/src/{it}.rt") for it in ("line_words", "printing"))
         words = re.findall(r'b"([^"]*[a-z ]{8}[^"]*)"', text)
         said = {re.split("[:,]", next(filter(None, re.split(r"\\n|ldaodt: ", it))))[0].strip() for it in words}
@@ -206,15 +206,11 @@ class Options(Case):
         return found
 
     def test_readme_says_the_same(self):
-        """In each command's row; and once behind the table what all at a machine have."""
-        found, page = {}, text_at("README.md")
-        options_in = lambda text: dict(re.findall(r"`--([\w-]+)(?: (\w+))?`", text))
-        at_a_machine = options_in(re.search(r"^Those with a LINE also have (.*?)\.", page, re.MULTILINE)[1])
-        for cells in rows_of(page):
+        found = {}
+        for cells in rows_of(text_at("README.md")):
             command = re.fullmatch(r"`ldaodt (\w+)(.*)`", cells[0])
             if command:
-                shared = at_a_machine if command[1] in ALL else {}
-                found[command[1]] = re.findall(r"\w+", command[2]), {**options_in(cells[1]), **shared}
+                found[command[1]] = re.findall(r"\w+", command[2]), dict(re.findall(r"`--([\w-]+)(?: (\w+))?`", cells[1]))
         self.is_so(found, self.words_and_options())
 
     def test_the_manual_page_says_the_same(self):
@@ -324,11 +320,11 @@ class Numbers(Case):
         """Where the tape starts it that a page loads: first.lda and hello.lda both at one address."""
         starts = {re.search(r"^start (\d+)$", run(["check", it]).out, re.MULTILINE)[1] for it in (FIRST, HELLO)}
         named = 0
-        for page in ("docs/REAL-MACHINE.md", "docs/PROBE.md", "docs/ENDINGS.md", "README.md", "examples/README.md"):
+        for page in ("docs/REAL-MACHINE.md", "docs/PROBE.md", "docs/CONSOLE.md", "README.md", "examples/README.md"):
             for start in re.findall(r"\b([0-7]{6})G\b", text_at(page)):
                 named += 1
                 self.is_so((page, {start}), (page, starts))
-        self.assertGreater(named, 0)
+        self.assertGreater(named, 1)
 
     def test_how_long_characters_take(self):
         """Of LINE what is told of two and of 34 characters, of 10 and 11 bits, at each speed."""
@@ -434,9 +430,21 @@ class Crates(Case):
     def test_what_tells_is_there(self):
         """Of each clause of the table, by a name that tests may have alone."""
         there, rows = defined_in(CRATES), rows_of(section(text_at("docs/PROVED.md"), "## What tells"))[2:]
-        self.assertGreater(len(rows), 7)
+        self.assertGreater(len(rows), 8)
         for function in re.findall(r"`(?:\w+::)?(\w+)`", " ".join(f"{clauses} {told}" for clauses, told in rows)):
             self.assertTrue(there[function], f"{function} is not there")
+
+    def test_promises_are_printed(self):
+        ran = subprocess.run([f"{TOP}/tools/promises", "octal", "host_devices"], capture_output=True, text=True)
+        self.is_so((ran.returncode, ran.stderr), (0, ""))
+        self.assertIn("\nfn oct6(word: u16) -> [u8; 6]\n    The octal text of `word`: six ASCII digits, the first `0` or `1`.\n"
+                      "    ensures text: result ≡ octal_text word\n    ensures is_octal: IsOct6 word result\n", ran.stdout)
+        self.assertIn("line.rt: pub trait Line\n\nfn send(&mut self, key: u8)", ran.stdout)
+        self.assertNotIn("digit_at", ran.stdout)
+        ran = subprocess.run([f"{TOP}/tools/promises"], capture_output=True, text=True)
+        self.is_so(re.findall("^# (.*)", ran.stdout, re.MULTILINE), [it for it in self.crates if not it.endswith("_tests")])
+        ran = subprocess.run([f"{TOP}/tools/promises", "nothing"], capture_output=True, text=True)
+        self.is_so((ran.returncode, ran.stderr), (2, "promises: crates.txt has no nothing\n"))
 
     def test_no_page_names_a_crate_that_is_gone(self):
         gone = {"load_command", "socket_line", "load_reports", "tape_check", "console_typing", "rehearsals", "tape_requests", "command_words",

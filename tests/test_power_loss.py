@@ -21,7 +21,7 @@ BEHIND_ONE_WORD = 1 + 4 + 22 + 40
 FAILED = line_failed("closed")
 STALE = "ldaodt: memory does not hold what the record says: load with --recheck\n"
 LOOK_FIRST = "ldaodt: the start may have gone out: look at the machine first\n"
-GOING_ON = "power lost? use --recheck; going on behind 1 of 2 words, listening"
+GOING_ON = "going on behind 1 of 2 words, listening; power lost? use --recheck"
 
 
 class Loads(Case):

@@ -93,14 +93,6 @@ class FlickeringConsole(Flickering, Console):
     """ODT over memory that does so."""
 
 
-class GarbledConsole(FlickeringConsole):
-    """The line changes the echo of its first digit, too."""
-
-    def take(self, key):
-        answer = super().take(key)
-        return chr(ord(key) ^ 2) if self.typed == "Z0" else answer
-
-
 class Babbling:
     """Behind the third digit of the trial it prints more than a run may hear."""
 
@@ -462,14 +454,6 @@ class Bad(Probes):
             self.ends(given, 0, found())
             self.is_so(line.machine.typed, tried() + searched(28672))
 
-    def test_a_line_that_changes_characters(self):
-        """A terminal is told to probe once more."""
-        again = "the line changed characters: look at that word, and probe once more\r\n"
-        for console, is_told in ((GarbledConsole, True), (FlickeringConsole, False)):
-            line = self.console_at(console(self.SECOND, HELD ^ 0o20, memory={WORD: HELD}))
-            given, shown = self.at_a_terminal(lambda it, line=line: self.ldaodt(["probe", line.address, "--quiet", str(self.quiet)], stderr=it))
-            self.is_so((given.status, given.out.split("\n")[-2], again in shown), (5, "end NotTrusted", is_told))
-
     def test_a_trial_that_gave_up(self):
         """The echo of its second digit is lost, and then the second look reads wrong: what the first one or two digits make is taken for stored,
         all else is not. The word holds its number, so that nothing is deposited to put it back."""
@@ -588,7 +572,7 @@ class Strangers(Probes):
         """The last answer is heard up to its first character, which is no answer to `Z`; so is that of each, and no loss explains it."""
         report = said("prompt no", "heard " + "\\033[2J\\\\\\177~\\011" * 2 + "\\033", look_at("Something else answers"), "changed characters 3",
                       "end NoPrompt")
-        self.stranger(OddConsole, report, "ZZZ", err="ldaodt: 3 characters came changed, late for --quiet, or not from ODT: docs/REAL-MACHINE.md, step 7\n")
+        self.stranger(OddConsole, report, "ZZZ", err="ldaodt: 3 characters came changed, or not from ODT: docs/REAL-MACHINE.md, step 7\n")
 
     def test_nothing_answers(self):
         self.stranger(DeafConsole, said("prompt no", "heard nothing", look_at("Nothing answers"), "end NoPrompt"), "ZZZ")

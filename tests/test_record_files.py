@@ -2,7 +2,6 @@
 can be no record is refused at once. And what a load makes for its record, and takes away again.
 """
 import errno
-import fcntl
 import os
 import re
 import shutil
@@ -72,6 +71,15 @@ class NoRecords(Files):
         self.was_nothing_typed()
         self.is_so([it for it in os.listdir(self.room) if "ldaodt-new" in it], [])
 
+    def test_each_front_of_a_header_is_an_empty_record(self):
+        for header in (b"LDAODT 1", b"LDAODT 2"):
+            for length in range(len(header) + 1):
+                with self.subTest(header[:length]):
+                    self.put("a.record", header[:length])
+                    self.peer.machine = Console()
+                    self.ends(self.load("a.record"), 0, STARTED)
+                    self.holds({"a.record": MARKED})
+
     def test_a_tape_as_its_own_record(self):
         """By each name, with the tape in each place, and before anything else is looked at."""
         os.symlink("first.lda", self.path("a.link"))
@@ -84,6 +92,14 @@ class NoRecords(Files):
                     self.ends(self.load(record, tape, more), 3, "", NO_RECORD)
                     self.is_untouched("first.lda", before)
         self.assertTrue(os.path.islink(self.path("a.link")))
+        self.was_nothing_typed()
+
+    def test_another_tape_as_record(self):
+        """It has no line end, or a first line that is no header."""
+        for name in ("two-words.lda", "no-word.lda", "bad-sum.lda"):
+            before = os.lstat(self.path(name))
+            self.ends(self.load(name), 3, "", NO_RECORD)
+            self.is_untouched(name, before)
         self.was_nothing_typed()
 
     def test_folders(self):
@@ -162,6 +178,13 @@ class Protected(Files):
         self.ends(self.load("a.record", more="--recheck"), 4, "", fault("cannot write a.record", errno.EACCES))
         self.is_untouched("a.record", before)
         self.holds({"a.record": VERIFIED})
+        self.was_nothing_typed()
+
+    def test_behind_a_link(self):
+        before = self.protect(VERIFIED)
+        os.symlink("a.record", self.path("a.link"))
+        self.ends(self.load("a.link"), 4, "", fault("cannot write a.link", errno.EACCES))
+        self.is_untouched("a.record", before)
         self.was_nothing_typed()
 
     def test_a_life_that_is_over(self):
@@ -276,6 +299,17 @@ class OutOfReach(Files):
                     self.is_so(os.lstat(self.path("b.record")).st_ino, before.st_ino)
                     os.remove(self.path("a.record"))
 
+    def test_a_life_that_is_over(self):
+        """Nothing has to be written, and it says so as ever."""
+        text = b"LDAODT 1\n001000 177777 000001\n001002 177777 000002\n001004 177777 000003\nG\n"
+        for put in (self.by_a_link, self.by_a_second_name):
+            put(text)
+            before = os.lstat(self.path("b.record"))
+            self.ends(self.load("a.record", tape="row.lda"), 6, "sent 0 spent 0 verified 3 of 3\nend MaybeStarted\n")
+            self.is_untouched("b.record", before)
+            self.was_nothing_typed(connections=0)
+            os.remove(self.path("a.record"))
+
 
 class Made(Files):
     """What a load makes, and takes away where it came to nothing."""
@@ -337,6 +371,12 @@ class Made(Files):
         self.is_untouched("a.record", before)
         self.is_so(self.peer.machine.typed, "Z001000/\r")
 
+    def test_permissions_stay(self):
+        self.put("a.record", b"")
+        os.chmod(self.path("a.record"), 0o640)
+        self.ends(self.load("a.record"), 0, STARTED)
+        self.is_so(stat.S_IMODE(os.stat(self.path("a.record")).st_mode), 0o640)
+
     def test_two_hard_names(self):
         """A rename would leave the old record under the other name: it is written in place."""
         self.put("a.record", b"")
@@ -375,15 +415,6 @@ class Made(Files):
         self.ends(self.load("a.record"), 0, STARTED)
         self.is_so(bytes_of(self.path("a.record")).decode(), MARKED)
         self.is_so(os.lstat(self.path("a.record")).st_ino, before.st_ino)
-
-    def test_a_new_file_that_somebody_holds(self):
-        """Another load is at work with it: it stays as it is, and the record is written in place."""
-        self.put("a.record.ldaodt-new", b"LDAODT 2\n")
-        before = os.lstat(self.path("a.record.ldaodt-new"))
-        with open(self.path("a.record.ldaodt-new"), "rb") as held:
-            fcntl.flock(held, fcntl.LOCK_EX)
-            self.is_written_in_place()
-        self.is_untouched("a.record.ldaodt-new", before)
 
     def test_a_folder_in_the_new_files_place(self):
         """The record is written in place then."""

@@ -172,11 +172,6 @@ class Records(Case):
         self.is_so([read(it, words_of(WORD_AND_BYTE), True) for it in cut], [(count, False) for count in done])
         self.is_so(self.loaded(WORD_AND_BYTE, 0o1000, [*cut, record]), [0, 1, 48])
 
-    def test_as_many_bytes_as_a_record_may_have_and_one_more(self):
-        """None of what stands behind the last line end is a word."""
-        records = [header.ljust(length, b"0") for header in HEADERS for length in (1 << 20, (1 << 20) + 1)]
-        self.is_so(self.loaded(PIECES, 0o1000, records), [2, 0, 2])
-
     def test_a_seventeenth_word_begins_another_run(self):
         """The words stand in memory already: one `Z`, and for each word its address, `/` and a return."""
         record = "LDAODT 2\n001000" + 16 * " 000000" + "\n001040 000000"

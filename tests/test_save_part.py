@@ -423,12 +423,6 @@ class AtEachCall(Part):
                 return False
         return call.name in ("link", "unlink")
 
-    def test_a_part_that_is_read_byte_by_byte(self):
-        """Its end is where nothing more comes."""
-        self.leave()
-        _, given = self.ask(lambda call: call.takes(1) if call.name == "read" and call.file() == "a.lda.part" else None)
-        self.is_saved(given)
-
     def test_the_order(self):
         """Room is on the disk before anything else, with its name; a block is written and synced; the tape is cut, synced and named, and
         its folder synced, before its own name goes."""

@@ -181,6 +181,9 @@ class Trials:
     def test_each_illegal_character_as_the_first(self):
         self.halts_at("", 0)
 
+    def test_each_illegal_character_behind_ten_bytes(self):
+        self.halts_at("", 10)
+
     def test_each_illegal_character_behind_a_high_nibble(self):
         self.halts_at("h", 2)
 
@@ -216,6 +219,15 @@ class InTheProcessor(Trials, unittest.TestCase):
         it.start(PLACE)
         self.assertEqual(it.machine.computer.processor.upper, 0o340)
 
+    def test_a_pace_at_which_some_are_lost(self):
+        """Two characters take 33 instructions."""
+        it, wanted, sent = self.paced(16)
+        it.talk(sent)
+        self.assertGreater(it.machine.computer.line.overrun, 0)
+        self.assertLess(len(it.heard), len(wanted))
+        it.talk(b"Z")
+        self.assertEqual(it.halted(PLACE + HALTED), it.heard.partition("\r")[0])
+
     def test_no_character_is_lost_however_it_falls(self):
         """At the pace and slower, while the transmitter is ready after other times, as the clocks of a line's ends differ."""
         chance, data = random.Random(86), bytes(range(256))
@@ -230,6 +242,39 @@ class InTheProcessor(Trials, unittest.TestCase):
             it.talk(b"")
             self.assertEqual((it.heard[:512], computer.line.overrun), (answered(data), 0))
 
+    def test_one_that_comes_too_early(self):
+        """Behind the look before a high nibble is answered one comes, and a second so many instructions later."""
+        for pace, overrun in ((PACE, 0), (PACE - 1, 1)):
+            it = self.station()
+            it.put(PLACE, stub_words(PLACE, [(0o1000, 0o1400)]))
+            it.start(PLACE)
+            it.talk(b"a")
+            computer = it.machine.computer
+            computer.arrive(ord("b"))
+            while computer.processor.registers[pdp11.PC] != PLACE + behind("tstb @#177560") or computer.processor.registers[0] != 0o1001:
+                computer.execute()
+            for character in b"cd":
+                computer.arrive(character)
+                computer.run(pace)
+            self.assertEqual(computer.line.overrun, overrun)
+
+    def test_characters_that_come_behind_a_stretch(self):
+        """They are not fetched before all of it is answered: the last of them is the next stretch's first nibble, the others are lost."""
+        it, data = self.station(), bytes(range(0o20))
+        it.put(PLACE, stub_words(PLACE, [(0o1000, 0o1020), (0o1020, 0o1021)]))
+        it.start(PLACE)
+        it.talk(typed(data).encode() + b"bZZa")
+        it.talk(b"c")
+        self.assertEqual(it.halted(PLACE + HALTED), answered(data + b"\x13"))
+        self.assertEqual(it.machine.computer.line.overrun, 3)
+
+    def test_a_halted_machine_takes_what_the_receiver_holds(self):
+        """It is ODT's next key: here a digit, and then a slash that finds a number."""
+        it, wanted, sent = self.paced(PACE)
+        it.talk(sent + b"10")
+        it.talk(b"/")
+        self.assertEqual(it.heard, f"{wanted}\r\n{PLACE + HALTED:06o}\r\n@0/{BACKGROUND:06o} ")
+
     def test_a_byte_for_memory_that_is_not_there(self):
         """It would trap through 000004, but SP leads to no stack: the machine halts behind the instruction, as an LSI-11 does."""
         it = self.station()
@@ -239,12 +284,25 @@ class InTheProcessor(Trials, unittest.TestCase):
         it.talk(b"aa")
         self.assertEqual(it.halted(0o10000 + behind("movb r3,(r0)+")), answered(b"\x41"))
 
+    def test_the_halt_switch(self):
+        """The machine halts before the stub has done anything."""
+        it = self.station()
+        it.machine.has_halt_switch_on = True
+        it.put(PLACE, stub_words(PLACE, LARGE))
+        it.start(PLACE)
+        self.assertEqual(it.halted(PLACE), "")
+
 
 class InSimhs(Trials, unittest.TestCase):
     kind = InSimh
 
     def setUp(self):
         simh.ask_for(self)
+
+    def test_a_pace_at_which_some_are_lost(self):
+        it, wanted, sent = self.paced(16)
+        it.talk(sent)
+        self.assertLess(len(it.simh.hear_more(0.5)), len(it.before) + len(wanted))
 
     def test_the_words_are_those_of_the_instructions(self):
         """SIMH's own assembler makes the same words of the listing."""

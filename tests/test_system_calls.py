@@ -26,8 +26,9 @@ WRITES, SYNCS, RENAMES = ("write", "sendto"), ("fsync", "fdatasync"), ("rename",
 # A record that is replaced, and one behind a link, each with the names of the files that it is written to.
 WAYS = (("a.record", ("a.record", "a.record.ldaodt-new")), ("a.link", ("b.record",)))
 
-# The time limit of a socket's reads, as a call's level and option; and how a device is made to answer at once, as a call and what it is asked for.
-TIME_LIMITS = ((1, 20), (1, 66))
+# The time limit of a socket's reads and that its keys wait for nothing, as a call's level and option; and how a device is made
+# to answer at once, as a call and what it is asked for.
+TIME_LIMITS, NO_DELAY = ((1, 20), (1, 66)), (6, 1)
 NO_WAITING = (("ioctl", 0x5421), ("fcntl", 4))
 
 
@@ -218,29 +219,6 @@ class Answers(Calls):
                 self.ends(given, 0, "sent 17 spent 0 read 1 of 1\nend Saved\n")
                 self.is_so(bytes_of(self.path("a.lda")), tape_of([(0o1000, b"\0\0")]))
                 os.remove(self.path("a.lda"))
-
-    def test_files_that_have_no_disk(self):
-        """They say so where they are to be brought to it, as those of some file systems do: a load and a save go on."""
-        no_disk = lambda call: call.fails(errno.EINVAL) if call.name in SYNCS else None
-        os.symlink("b.record", self.path("a.link"))
-        for record, _ in WAYS:
-            for text in (b"", VERIFIED.encode()):
-                self.put("a.record", text)
-                self.put("b.record", text)
-                with self.subTest(record, text=text):
-                    given = self.load(self.console_at(Console(memory=HELD)), no_disk, f"--record {record}")
-                    self.ends(given, 0, STOOD if text else STARTED.replace("30", "16"))
-                    self.is_so(bytes_of(self.path(record)).decode(), MARKED)
-        given = self.ask(self.console_at(Console(memory=HELD)), "save a.lda LINE 1000 1000", no_disk)
-        self.ends(given, 0, "sent 17 spent 0 read 1 of 1\nend Saved\n")
-        self.is_so(bytes_of(self.path("a.lda")), tape_of([(0o1000, b"\x34\x12")]))
-
-    def test_a_record_that_is_read_byte_by_byte(self):
-        """Its end is where nothing more comes."""
-        self.put("a.record", VERIFIED.encode())
-        given = self.load(self.console_at(Console(memory=HELD)), lambda call: call.takes(1) if call.name == "read" and call.file() == "a.record" else None)
-        self.ends(given, 0, STOOD)
-        self.holds({"a.record": MARKED})
 
     def test_writes_that_take_one_byte(self):
         """What is written is written whole all the same: a record that is replaced, one behind a link, which is written in
@@ -550,7 +528,7 @@ class Orders(Calls):
         def before(call):
             if call.name in WRITES and call.file().startswith("socket:"):
                 early.extend(unsynced)
-            elif call.name in (*WRITES, "ftruncate") and call.file() in names:
+            elif call.name in WRITES and call.file() in names:
                 unsynced.add("record")
             elif call.name in SYNCS and call.file() in names:
                 unsynced.discard("record")
@@ -593,6 +571,20 @@ class Orders(Calls):
         self.ends(self.load(self.console_at(Console(memory=HELD)), before), 0, STOOD)
         self.is_so((told[0], set(told[1:])), (0o600, {"written"}))
 
+    def test_the_console_is_reached_once(self):
+        """A device is opened once, since some adapters reset the machine where it is closed; a port is dialled once, also where
+        nobody listens."""
+        found = []
+        device = self.device_at(Console())
+        self.ends(self.load(device, lambda call: found.append(call.opened()), ""), 0, STARTED)
+        self.is_so(found.count(device.address), 1)
+        port = self.console_at(Console())
+        ours, nobody = port.address, self.taken_port()
+        for address, status in ((ours, 0), (nobody, 4)):
+            found.clear()
+            given = traced.run(["load", "first.lda", address, "--quiet", str(self.quiet)], lambda call: found.append(call.name), cwd=self.room)
+            self.is_so((given.status, found.count("connect")), (status, 1))
+
     def test_much_is_read_at_once(self):
         """Of a tape as much as there is room for, and the rest of a block of 57,344 bytes whole; what a console has answered to a key with one
         read."""
@@ -608,6 +600,19 @@ class Orders(Calls):
         line = self.until_the_end(odt_peer.Peer(Console(), at_once=True))
         self.ends(self.load(line, before, ""), 0, STARTED)
         self.assertLessEqual(counts["line"], 1 + 30)
+
+    def test_a_key_is_a_packet_of_its_own(self):
+        """The socket is told so before the first key."""
+        told = []
+
+        def before(call):
+            if call.name == "setsockopt" and tuple(call.arguments[1:3]) == NO_DELAY:
+                told.append("no delay" if call.option() else "delay")
+            elif call.name in WRITES and call.file().startswith("socket:"):
+                told.append("key")
+
+        self.ends(self.load(self.console_at(Console()), before, ""), 0, STARTED)
+        self.is_so(told, ["no delay", *["key"] * 30])
 
 
 if __name__ == "__main__":

@@ -25,9 +25,9 @@ SHOWN = "\r\x1b[?7l{}\x1b[K\x1b[?7h"
 LISTENING = SHOWN.format("0 of 1 words, 0%, listening")
 NO_WORD = SHOWN.format("0 of 1 words, 0%")
 CLEARED = "\r\x1b[K"
-GOING_ON = "power lost? use --recheck; going on behind 1 of 2 words, listening"
-SAVING_ON = "power lost? remove the .part file; going on behind 256 of 512 words, listening"
-GOING_TO = "\rafter Ctrl-C the same line goes on\x1b[K\r\n"
+GOING_ON = "going on behind 1 of 2 words, listening; power lost? use --recheck"
+SAVING_ON = "going on behind 256 of 512 words, listening; power lost? remove the .part file"
+SAVING = "\rafter Ctrl-C the same line goes on\x1b[K\r\n"
 PROBING = "probing: mostly {}; {} where nothing answers\r\n"
 STARTED = "sent 30 spent 0 verified 1 of 1\nend Started\n"
 
@@ -44,7 +44,6 @@ def shown_as(text):
 
 
 FAILED = shown_as(line_failed("closed"))
-SET_ANEW = "an adapter that was pulled has to be set anew: by 'ldaodt-serial', or stty\r\n"
 GOES_ON = "the same line goes on where it was; power lost? add --recheck\r\n"
 
 
@@ -203,7 +202,7 @@ class Terminal(Case):
         machine = SlowConsole(9 + 6, memory=BOTH_WORDS)
         given, shown = self.load_at_a_terminal(machine, "two-words.lda --record a.record", quiet=1000)
         self.is_so(given.status, 0)
-        for columns, seen in ((20, "power lost? use --re"), (40, "power lost? use --recheck; going on behi"), (80, GOING_ON)):
+        for columns, seen in ((20, "going on behind 1 of"), (40, "going on behind 1 of 2 words, listening"), (80, GOING_ON)):
             screen, lines = Screen(columns), []
             progress, told = shown.split(CLEARED)
             for one in (progress + CLEARED).split("\r")[1:]:
@@ -278,32 +277,19 @@ class Terminal(Case):
                 told = re.findall(r"\rsome (\d+) minutes at this pace(; after Ctrl-C the same line goes on)?\x1b\[K\r\n", shown)
                 is_save = words.startswith("save")
                 self.is_so([behind for _, behind in told], ["; after Ctrl-C the same line goes on" if goes_on and not is_save else ""])
-                self.is_so((shown.startswith(GOING_TO), shown.count("Ctrl-C")), (is_save, int(goes_on)))
+                self.is_so((shown.startswith(SAVING), shown.count("Ctrl-C")), (is_save, int(goes_on)))
                 # A key takes a hundredth of a second or more: as long as one took on the average where ten seconds were over. A fifth of them
                 # may be lost with the mishap.
                 pace = (len(machine.times) - machine.typed_behind(10)) / 10
                 self.assertLessEqual(int(told[0][0]), 4000 * keys / pace / 60 * 1.6)
 
-    def test_a_tape_that_starts_nothing(self):
-        """It is said how it is started, where that is not what was asked for."""
-        told = "the tape has no start: --start AAAAAA gives one; XXDP's diagnostics mostly have 200\r\n"
-        self.put("no-start.lda", tape_of([(0o1000, b"\x34\x12")], 1))
-        self.put_tapes("first.lda")
-        for words, said in (("no-start.lda", told), ("no-start.lda --no-start", ""), ("no-start.lda --start 1000", ""), ("first.lda --no-start", "")):
-            given, shown = self.load_at_a_terminal(Console(), words)
-            self.is_so((words, given.status, shown.split(CLEARED)[-1]), (words, 0, said))
-
-    def test_what_goes_on_says_so_at_once(self):
-        """Before its first key, where it is of more words than a block has: a save, and a load with a record."""
-        for words, goes_on in (("save {last}.lda LINE 1000 {last:o}", True), ("load a.lda LINE --record a.record", True), ("load a.lda LINE", False)):
-            for last in (0o1776, 0o2000, 0o17776):
-                count = (last - 0o776) // 2
-                self.put("a.lda", tape_of([(0o1000, bytes(2 * count))], 0o1000))
-                ended, shown = self.interrupted(words.format(last=last), DeafConsole(), lambda machine: machine.typed)
-                self.is_so((words, last, ended), (words, last, (-signal.SIGINT, b"")))
-                said = GOING_TO if goes_on and count > 256 else ""
-                begins = SHOWN.format(f"0 of {count} words, 0%, listening")
-                self.assertTrue(shown.startswith(said + begins) and shown.count("Ctrl-C") == bool(said), repr(shown))
+    def test_a_save_says_at_once_that_it_goes_on(self):
+        """Before its first key, where it is of more words than a block has."""
+        for last, said in ((0o1776, ""), (0o2000, SAVING), (0o17776, SAVING)):
+            ended, shown = self.interrupted(f"save {last}.lda LINE 1000 {last:o}", DeafConsole(), lambda machine: machine.typed)
+            self.is_so((last, ended), (last, (-signal.SIGINT, b"")))
+            begins = SHOWN.format(f"0 of {(last - 0o776) // 2} words, 0%, listening")
+            self.assertTrue(shown.startswith(said + begins) and shown.count("Ctrl-C") == bool(said), repr(shown))
 
     def test_it_is_not_said_before_a_pace_tells(self):
         """Not in the first ten seconds, nor where fewer than eight words were done by then, each of which has eight keys."""
@@ -324,7 +310,7 @@ class Terminal(Case):
         given, shown = self.load_at_a_terminal(close_after=3)
         self.is_so((given.status, given.out), (4, "sent 1 spent 0 verified 0 of 1\nend LineFailed\n"))
         self.assertTrue(shown.startswith(LISTENING), repr(shown))
-        self.assertTrue(shown.endswith(CLEARED + FAILED + SET_ANEW), repr(shown))
+        self.assertTrue(shown.endswith(CLEARED + FAILED), repr(shown))
 
     def test_a_record_that_can_not_be_begun(self):
         """It is told on a cleared line, too."""
@@ -402,9 +388,9 @@ class Terminal(Case):
             (f"{both}G\n", None, "", "MaybeStarted",
              "2 of 2 by the record\r\nlook at the machine first: the program may run; to load it again remove the record\r\n"),
             (both, None, "--no-start", "Loaded", "2 of 2 by the record\r\n"),
-            (one, 4, "", "LineFailed", f"1 of 2 by the record\r\n{GOES_ON}{FAILED}{SET_ANEW}"),
-            ("", 4, "", "LineFailed", f"{GOES_ON}{FAILED}{SET_ANEW}"),
-            (None, 4, "", "LineFailed", FAILED + SET_ANEW),
+            (one, 4, "", "LineFailed", f"1 of 2 by the record\r\n{GOES_ON}{FAILED}"),
+            ("", 4, "", "LineFailed", f"{GOES_ON}{FAILED}"),
+            (None, 4, "", "LineFailed", FAILED),
             (both, 5 + 2 * 25 + 4 + 2 * 6 + 1, "", "LineFailed",
              f"2 of 2 by the record\r\n{FAILED}ldaodt: the start may have gone out: look at the machine first\r\n"),
         ):
@@ -508,7 +494,7 @@ class Looks(Case):
                 given, shown = self.look_at_a_terminal(SlowConsole(0, memory={0o1000: 0o031421, 0o1002: 0o104}), words, quiet=1000)
                 self.is_so((given.status, given.out), (0, report))
                 texts = re.findall(re.escape(SHOWN).replace(r"\{\}", "(.*?)"), shown)
-                self.is_so([re.sub(r", 0:\d\d left", "", it) for it in texts],
+                self.is_so([re.sub(r", 0:\d\d left$", "", it) for it in texts],
                            ["0 of 2 words, 0%, listening", "0 of 2 words, 0%", "1 of 2 words, 50%", "2 of 2 words, 100%"])
                 self.assertTrue(shown.endswith(CLEARED), repr(shown))
 
@@ -542,7 +528,7 @@ class Looks(Case):
         """A key of the looks is lost, and none behind them."""
         given, shown = self.goes_on_with(LossyConsole(lost_key=30))
         self.is_so((given.status, given.out.split()[2:4]), (0, ["spent", "1"]))
-        self.assertRegex(shown, r"256 of 512 words, 50%, [\d:]+ left, 1 mishap")
+        self.assertRegex(shown, r"256 of 512 words, 50%, 1 mishap")
         self.assertNotRegex(shown, r"\d%\x1b|\d%, \d+:")
 
     def test_what_is_told_of_a_save_that_ends_early(self):
@@ -558,7 +544,7 @@ class Looks(Case):
         # Each of the two looks at a word has 25 keys and answers. The line breaks behind 300 words, and behind one.
         for words, told in ((300, goes_on), (1, "")):
             given, shown = self.look_at_a_terminal(Console(), "save a.lda LINE 1000 2776", close_after=5 + words * 50)
-            self.is_so((given.status, given.out.split("\n")[1], shown.split(CLEARED)[-1]), (4, "end LineFailed", told + FAILED + SET_ANEW))
+            self.is_so((given.status, given.out.split("\n")[1], shown.split(CLEARED)[-1]), (4, "end LineFailed", told + FAILED))
             self.let_go_of("a.lda.part")
 
     def let_go_of(self, name):
@@ -592,8 +578,7 @@ class Together(Case):
         """Asserts that behind the line that was cleared the report stands, and last a fault; returns what was shown before."""
         status, progress, told = self.shown_at(machine, words, **named)
         self.is_so(len(told), 1)
-        helps = SET_ANEW if err.endswith(line_failed("closed")) else ""
-        self.assertTrue(told[0].startswith(shown_as(report)) and told[0].endswith(shown_as(err) + helps), repr(told))
+        self.assertTrue(told[0].startswith(shown_as(report)) and told[0].endswith(shown_as(err)), repr(told))
         return status, progress
 
     def test_each_end(self):
@@ -632,18 +617,6 @@ class Together(Case):
                 self.assertIn(f"\r\nend {end}\r\n", told[0])
 
 
-class Own(Case):
-    """The terminal that the program is run at is no machine's."""
-
-    def test_it_is_no_line(self):
-        self.put_tapes("first.lda")
-        for words in ("probe LINE", "load first.lda LINE", "memory LINE"):
-            for name in (os.ttyname, lambda it: "/dev/stderr", lambda it: "/dev/tty"):
-                given, shown = self.at_a_terminal(lambda it, words=words, name=name: self.ldaodt(words.replace("LINE", name(it)), stderr=it))
-                self.is_so((given.status, given.out), (2, ""))
-                self.assertIn(" is no serial device: ", shown)
-
-
 class SlowChips(Losing, ChipConsole):
     """It takes its time for each CR: a line is shown with each word that was tested."""
 
@@ -679,7 +652,7 @@ class Tests(Case):
         given, shown = self.at_a_terminal(lambda it: self.ldaodt(self.words_at(peer, test.words(), 1000), stderr=it))
         self.is_so((given.status, given.out.split("\n")[-2]), (0, "end Tested"))
         texts = re.findall(re.escape(SHOWN).replace(r"\{\}", "(.*?)"), shown)
-        return list(dict.fromkeys(re.sub(r", [\d:]+ left", "", it) for it in texts)), held
+        return list(dict.fromkeys(re.sub(r", [\d:]+ left$", "", it) for it in texts)), held
 
     def test_each_word_counts(self):
         """Also those of an earlier bank, behind one that is not there. Behind them all the bus is tested at the first."""
@@ -734,7 +707,7 @@ class Plain(Case):
         for words, shown in self.each(rows, lambda memory: SlowConsole(0, memory=memory)).items():
             with self.subTest(words):
                 texts = re.findall(re.escape(SHOWN).replace(r"\{\}", "(.*?)"), shown)
-                self.is_so(list(dict.fromkeys(re.sub(r", 0:\d\d left", "", it) for it in texts)),
+                self.is_so(list(dict.fromkeys(re.sub(r", 0:\d\d left$", "", it) for it in texts)),
                            ["0 of 1 words, 0%, listening", "0 of 1 words, 0%", "1 of 1 words, 100%"])
                 self.assertTrue(shown.endswith(CLEARED), repr(shown))
 
@@ -815,7 +788,7 @@ class Input(Case):
         is_whole = lambda given, start: self.ends(given, 0, f"blocks 1 data 2 read 16\n{start}\ncanonical yes\nwords 1\n001000 177777 011064\n")
         is_whole(self.is_advised(tape[:-7], "\n(printf .*)\n", TAPE="a"), "no start 000001")
         is_whole(self.is_advised(gzip.compress(tape), ": (gunzip .*)\n", FILE="a", TAPE="b"), "start 001000")
-        is_whole(self.is_advised(b"hello\n" + tape, "'(tail .*)'", FILE="a", TAPE="c"), "start 001000")
+        is_whole(self.is_advised(b"hello\n" + tape, "'(tail .*)'", FILE="a", TAPE="c", N="7"), "start 001000")
         is_whole(self.is_advised(b"001000 11064\n", "'(ldaodt make)'", " d a", TAPE="d"), "no start 000001")
 
     def test_what_is_told_of_hex_makes_a_tape(self):

@@ -16,7 +16,7 @@ import tu58
 from odt_peer import RUNNING
 from outside import TOP, run
 from toolbox_cases import (CONTROL, DRIVES, ELSEWHERE, HALTED, LARGER, LEFT, LONG, NEVER_CAME, NOP, NOTHING_ANSWERS, NOWHERE, PRIORITY_7, REPORTED, SECONDS,
-                           START, TEXT, TOOLBOX, UNIT, UNSEEN, CrowdedLine, DamagingLine, LosingDrive, MachineWithBoards, PagedRom, Registers, Run, SilentDrive,
+                           START, TEXT, TOOLBOX, UNIT, CrowdedLine, DamagingLine, LosingDrive, MachineWithBoards, PagedRom, Registers, Run, SilentDrive,
                            attached, block_that_halts, block_that_prints, bytes_of_words, lines_of, made_ready, ran, start_of, words_of)
 
 NAMES = sorted(os.path.basename(it).removesuffix(".words") for it in glob.glob(f"{TOOLBOX}/*.words"))
@@ -282,11 +282,14 @@ class TapeAtPort:
 
 
 class ChangedWords(Case):
-    """Each word of each program, changed to one that does nothing: is it seen?"""
+    """Each word of each program, changed to one that does nothing: is it seen?
+
+    Of the others the page says why not."""
 
     def is_seen(self, name, seen):
-        """Asserts that each is, but for those of which UNSEEN says why not."""
-        self.is_so((name, [it for it, word in words_of(name).items() if word != NOP and not seen(it)]), (name, sorted(UNSEEN.get(name, ()))))
+        """Asserts that each is, but for those that the page names."""
+        told = [address for cells in rows() if len(cells) == 3 and cells[0] == f"`{name}`" for address in re.findall(r"`(\d{6})`", cells[1])]
+        self.is_so((name, [f"{it:06o}" for it, word in words_of(name).items() if word != NOP and not seen(it)]), (name, sorted(told)))
 
     def in_simh(self, name):
         """At each drive of this kind; what is not asked there is how long a boot waits."""

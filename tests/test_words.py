@@ -9,7 +9,7 @@ from commands import AT_A_MACHINE, COMMANDS, OF_TAPES
 from outside import FIRST, LOST_DIGIT, NO_PORT, TOP, bytes_of, fault
 
 NO_TEXT = "ldaodt: a word of the command line is not UTF-8\n"
-NO_LINE = "a line is HOST:PORT, or the path of a serial device, as /dev/ttyUSB0 or ./ttyUSB0"
+NO_LINE = "a line is HOST:PORT, or the path of a serial device, which has a '/'"
 CHECKED = "blocks 1 data 2 read 16\nstart 001000\ncanonical yes\nwords 1\n001000 177777 011064\n"
 
 # Names of files that are not there, and how a fault shows them.
@@ -136,11 +136,11 @@ class Commands(Case):
                   f"  [subcommands: {names}]\n\nUsage: ldaodt [COMMAND]\n\nFor more information, try '--help'.\n")
 
     def test_one_that_is_missing(self):
-        """It is said which are, and only those; and of a line what that is."""
+        """It is said which are, and only those."""
         for command in self.NAMED:
             wanted = [it for it in command.order.split() if it[0] != "["]
             for count in range(len(wanted)):
-                why = "\n  ".join(["the following required arguments were not provided:", *(f"<{it}>{', as /dev/ttyUSB0 or HOST:PORT' if it == 'LINE' else ''}" for it in wanted[count:])])
+                why = "\n  ".join(["the following required arguments were not provided:", *(f"<{it}>" for it in wanted[count:])])
                 words = command.words(line="b:1")[:1 + count]
                 self.is_refused(words, why, self.USAGES[command.name].replace(" [OPTIONS]", ""))
 
@@ -177,7 +177,6 @@ class Commands(Case):
 
 # What an address has to be, and a start.
 ADDRESS = "an address is octal, of one to six digits, even, and below 160000"
-IO_PAGE = "160000 and above is the I/O page, no memory: examples/toolbox.md has programs for it"
 START = "a start is octal, of one to six digits"
 
 # Words in which `{}` stands for one, what it is called there, what it has to be, and the last that there may be.
@@ -220,7 +219,7 @@ class Refusals(Case):
             for text in ("0", "000002", f"{last:o}"):
                 self.is_taken(with_address(text))
             for text in (f"{last + 1 + is_even:o}", "8", "", "0000002", "+0", "2x", *["1001"] * is_even):
-                self.is_refused(with_address(text), f"invalid value '{text}' for '{name}': {IO_PAGE if text == '160000' else rule}")
+                self.is_refused(with_address(text), f"invalid value '{text}' for '{name}': {rule}")
 
     def test_a_last_address_below_the_first(self):
         for command in ("save new.lda x:y", "memory x:y"):

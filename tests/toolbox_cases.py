@@ -23,19 +23,6 @@ NOWHERE, ELSEWHERE = 0o164000, 0o177554
 PRINT = (0o000240, 0o012702, 0o000034, 0o105737, 0o177564, 0o100375, 0o112237, 0o177566, 0o105712, 0o001371, 0o105737, 0o177564, 0o100375, 0o000000)
 TEXT = 0o34
 
-# Words that may be 000240, which does nothing, and no test sees it: of each program where, and why.
-WAITS_FOR_MORE = "000240 asks for the bit that is waited for, too, and for one that is never set, or not then"
-SIMH_IS_READY = "SIMH's drives are ready at once, and heed neither who was asked, nor errors of before, nor bit 0 of a seek"
-UNSEEN = {
-    "rk05": {0o2132: WAITS_FOR_MORE},
-    "rl": {0o2062: WAITS_FOR_MORE, 0o2212: WAITS_FOR_MORE,
-           **dict.fromkeys((0o2064, 0o2066, 0o2100, 0o2110, 0o2130, 0o2150), SIMH_IS_READY)},
-    "rx01": {0o2076: WAITS_FOR_MORE, 0o2136: WAITS_FOR_MORE},
-    "rx02": {0o2076: WAITS_FOR_MORE, 0o2122: WAITS_FOR_MORE, 0o2204: WAITS_FOR_MORE},
-    "boards": dict.fromkeys((0o6, 0o2254), "240 is a priority that no interrupt passes, and no board's address"),
-    "zero": {0o12: "the stack may be anywhere"},
-}
-
 # One that halts, and where that is; no other of the block's bytes is 0.
 HALTING = (NOP, NOP, 0o000000)
 HALTED = 0o6

@@ -1,10 +1,18 @@
+#!/usr/bin/env python3
 """A simulated LSI-11 console behind a TCP port or a serial device, with a line that may lose or change characters, or break.
 
-It is a second console, written from docs/CONSOLE.md alone, for trying `ldaodt` from outside: the built program meets a machine
-that shares no line of text with it; and others that are none as ldaodt knows it: see CONSOLES. A device is a pseudo-terminal, which is
-set by stty as a person sets a serial device. A machine's memory lasts from one connection to the next, as that of a machine does whose
-cable is pulled. It never sees the network: it listens on 127.0.0.1.
+    tools/odt_peer.py [--port N | --device [--stty "SETTING.."]] [--console KIND] [--words N] [--style N]
+                      [--says TEXT] [--loss PERCENT] [--seed N] [--baud N] [--break-after N] [--at-once]
+
+It is a second console, written from docs/CONSOLE.md alone, for trying `ldaodt` from outside: the built
+program meets a machine that shares no line of text with it. --console names one that is none as ldaodt
+knows it: see CONSOLES. Without --port the system chooses one;
+with --device it is behind a pseudo-terminal, which is set by stty as a person sets a serial device. It tells
+its port or its device on its first line, and each start and each end of a connection after it. Its memory
+lasts from one connection to the next, as that of a machine does whose cable is pulled. With --says the
+program that is started prints TEXT. It never sees the network: it listens on 127.0.0.1.
 """
+import argparse
 import contextlib
 import os
 import pty
@@ -12,6 +20,7 @@ import random
 import select
 import socket
 import subprocess
+import sys
 import threading
 import time
 
@@ -257,6 +266,10 @@ class Line:
     def is_over(self):
         return self.close_after is not None and self.keys + self.answered >= self.close_after
 
+    def count(self):
+        changed = f", {self.changes} changed" if self.change else ""
+        return f"{self.keys} keys, {self.answered} characters answered, {self.lost} lost{changed}"
+
 
 class Peer(Line):
     """A machine behind a port of this computer."""
@@ -278,6 +291,7 @@ class Peer(Line):
                 return
             self.connections += 1
             self.connection = connection
+            self.tell("connected")
             with connection:
                 try:
                     connection.setsockopt(socket.IPPROTO_TCP, socket.TCP_NODELAY, 1)
@@ -288,6 +302,7 @@ class Peer(Line):
                         pass
                 except OSError:
                     pass
+            self.tell(f"gone: {self.count()}")
 
     def receive(self, size):
         """Waits for keys."""
@@ -349,6 +364,7 @@ class Device(Line):
         os.close(self.ours)
         self.is_gone.set()
         self.is_settled.set()
+        self.tell(f"gone: {self.count()}")
 
     def receive(self, size):
         """Waits for keys; answers whoever asks whether there are none left; nothing once it is closed."""
@@ -412,3 +428,36 @@ class Device(Line):
         self.hang_up()
         for end in (self.theirs, self.asks, self.asked):
             os.close(end)
+
+
+def main():
+    words = argparse.ArgumentParser(description="A simulated LSI-11 console behind a TCP port or a serial device.")
+    words.add_argument("--port", type=int, default=0)
+    words.add_argument("--device", action="store_true", help="behind a pseudo-terminal, in place of a port")
+    words.add_argument("--stty", default="raw -echo", help="how the device is set: %(default)s")
+    words.add_argument("--console", choices=CONSOLES, default="odt", help="which console: %(default)s")
+    words.add_argument("--words", type=int, default=28672)
+    words.add_argument("--style", type=int, choices=range(8), default=0)
+    words.add_argument("--says", default="", help="what the program prints that is started; \\r and \\n as there")
+    words.add_argument("--loss", type=float, default=0, help="of a hundred characters, each way")
+    words.add_argument("--change", type=float, default=0, help="of a hundred characters, each way, by one bit of seven")
+    words.add_argument("--seed", type=int, default=0)
+    words.add_argument("--baud", type=int)
+    words.add_argument("--break-after", type=int, help="characters, keys and answers together, after which the line is dead")
+    words.add_argument("--at-once", action="store_true", help="each answer as a whole, as a bridge may send it; alone")
+    words.add_argument("--awake", action="store_true", help="it never sleeps, so that nobody who types has to wake it")
+    asked = words.parse_args()
+    tell = lambda text: print(text, flush=True)
+    says = asked.says.encode("latin-1").decode("unicode_escape")
+    machine = CONSOLES[asked.console](asked.words, asked.style, [(0, says)])
+    named = {"loss": asked.loss / 100, "change": asked.change / 100, "seed": asked.seed, "close_after": asked.break_after, "baud": asked.baud, "at_once": asked.at_once, "awake": asked.awake, "tell": tell}
+    line = Device(machine, asked.stty, **named) if asked.device else Peer(machine, asked.port, **named)
+    try:
+        tell(line.name)
+        threading.Event().wait()
+    except KeyboardInterrupt:
+        return 0
+
+
+if __name__ == "__main__":
+    sys.exit(main())

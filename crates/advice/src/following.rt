@@ -1,12 +1,11 @@
 //! What follows the tape in a file, as a person at the terminal is told.
 
-use crate::instead::RUBOUT;
+use crate::instead::{BLOCK, RUBOUT};
 use endings::write_name;
 use std::alloc::Global;
 use std::io;
 use std::io::{Print, Write};
 use tape_blocks::read_with_layout;
-use witness::BLOCK;
 
 // Where nothing is punched; a leader is of that or of rubouts.
 const BLANK: u8 = 0o000;

@@ -1,15 +1,13 @@
 //! What an input that is refused as a tape is instead, as a person at the terminal is told.
 ghost use Rattle.std.specs.Prelude.{◌≡◌};
-ghost use Rattle.advice.specs.Instead.{instead_of, is_head_of_elf, is_head_of_gzip, is_head_of_records, is_head_of_zip, is_readable, is_saved_program, is_text};
+ghost use Rattle.advice.specs.Instead.{instead_of, is_head_of_gzip, is_head_of_records, is_readable, is_text};
 
 use endings::Failure;
-use host_devices::LineFault;
 use load_record::RecordError;
 use std::alloc::Global;
 use std::io::Print;
 use tape_blocks::{Fault, Why};
-use tape_making::WordsWhy;
-use witness::{BLOCK, End, Front, Witness};
+use witness::{End, Front, Witness};
 
 /// What an input is that is no tape.
 #[derive(Clone, Copy)]
@@ -23,17 +21,8 @@ pub enum Instead {
     /// Something that gzip has compressed.
     Gzip,
 
-    /// A program that an assembler or a linker of today has made.
-    Elf,
-
-    /// An archive of the kind zip.
-    Zip,
-
     /// A text that can be read.
     Text,
-
-    /// A program that RT-11 or XXDP loads.
-    SavedProgram,
 }
 
 impl Instead {
@@ -49,20 +38,16 @@ impl Instead {
                  srec_cat FILE -o TAPE -dec_binary -execution-start-address N\n"
             }
             Instead::Gzip => "this is compressed: gunzip < FILE > TAPE\n",
-            Instead::Elf => {
-                "this is ELF: objcopy -O binary makes a flat file, of which srec_cat makes a tape\n"
-            }
-            Instead::Zip => "this is an archive: unzip FILE\n",
-            Instead::Text => "this is text: of octal words 'ldaodt make' makes a tape\n",
-            Instead::SavedProgram => {
-                "this may be a .SAV, which RT-11 or XXDP loads: boot that, from a disk or a TU58\n"
+            Instead::Text => {
+                "this is text: of octal words 'ldaodt make' makes a tape; of a tape behind a text\n\
+                 'tail -c +N FILE > TAPE' makes one, where its first 001 is byte N, from 1\n"
             }
         }
     }
 }
 
 /// Tells whoever waits at a terminal what a file is instead that was refused, by its first bytes and its last, or what
-/// makes it what was asked for; and what has to be done where a line failed.
+/// makes it what was asked for.
 pub fn say_instead<T: Print>(
     alloc: Global,
     terminal: Option<&T>,
@@ -78,9 +63,6 @@ pub fn say_instead<T: Print>(
     if let Some(advice) = advice(failure, witness) {
         let _ = terminal.write_all(advice.as_bytes());
     }
-    if let Some(block) = block_behind(failure, witness) {
-        say_block(alloc, terminal, block);
-    }
 }
 
 // Tells which one byte makes a tape of a file that lacks it, in octal digits.
@@ -92,28 +74,14 @@ fn say_checksum<T: Print>(alloc: Global, terminal: &T, checksum: u8) {
     }
 }
 
-// Tells which bytes of a file are a tape that begins behind something else.
-fn say_block<T: Print>(alloc: Global, terminal: &T, block: usize) {
-    let number = block.saturating_add(1);
-    if let Ok(text) = format!(in alloc;
-        "its first 001 is byte {number}: 'tail -c +{number} FILE > TAPE' makes a tape of what begins there\n"
-    ) {
-        let _ = terminal.write_all(text.as_bytes());
-    }
-}
-
-// What is told of the file that was begun last and refused so, or of a line that failed so.
+// What is told of the file that was begun last and refused so.
 fn advice(failure: Failure<'_>, witness: &Witness) -> Option<&'static str> {
     match failure {
         Failure::TapeRefused(fault) | Failure::OneTapeRefused(_, fault) => {
             advice_of_tape(fault, witness.front())
         }
-        Failure::WordsRefused(refusal) if matches!(refusal.why, WordsWhy::PastTop) => Some(
-            IN_IO_PAGE,
-        ),
-        Failure::WordsRefused(refusal) => advice_of_words(refusal.why, witness.front()),
+        Failure::WordsRefused(_) => advice_of_words(witness.front()?),
         Failure::RecordRefused(RecordError::Foreign(_)) => Some(advice_of_record(witness.end())),
-        Failure::LineFailed(fault) => advice_of_line(fault),
         _ => None,
     }
 }
@@ -131,46 +99,25 @@ fn advice_of_tape(fault: Fault, front: Option<Front>) -> Option<&'static str> {
     match fault.why {
         Why::NoTransfer if fault.at == 0 => Some(EMPTY),
         Why::NoTransfer => Some(NO_TRANSFER),
-        Why::PastTop => Some(IN_IO_PAGE),
-        Why::Stray => advice_of(fault.at, front?),
+        Why::Stray => advice_of(front?),
         _ => None,
     }
 }
 
-// The same of octal words: where they may be read in two ways, or seem to be what a console printed.
-fn advice_of_words(why: WordsWhy, front: Option<Front>) -> Option<&'static str> {
-    if let WordsWhy::Ambiguous = why {
-        return Some(OF_TWO_NUMBERS);
-    }
-    if front?.contains(&b'@') {
+// The same of octal words: where they seem to be what a console printed.
+fn advice_of_words(front: Front) -> Option<&'static str> {
+    if front.contains(&b'@') {
         Some(OF_CONSOLE)
     } else {
         None
     }
 }
 
-// The same of a line that failed so, with no start in doubt: where the adapter may have been pulled.
-fn advice_of_line(fault: LineFault) -> Option<&'static str> {
-    match fault {
-        LineFault::Send | LineFault::Closed | LineFault::Receive => Some(SET_ANEW),
-        LineFault::Connect | LineFault::Full | LineFault::Noise => None,
-    }
-}
-
-// Where in the file that was begun last and refused so a block may begin behind what no tape has.
-fn block_behind(failure: Failure<'_>, witness: &Witness) -> Option<usize> {
-    let (Failure::TapeRefused(fault) | Failure::OneTapeRefused(_, fault)) = failure else {
-        return None;
-    };
-    let is_behind = |block: &usize| *block > fault.at as usize;
-    match (fault.why, instead_at(fault.at, witness.front()?)) {
-        (Why::Stray, Some(Instead::Text) | None) => witness.block().filter(is_behind),
-        _ => None,
-    }
-}
-
 /// Every hole punched: what a leader of rubouts is made of.
 pub(crate) const RUBOUT: u8 = 0o377;
+
+/// What each block of a tape begins with.
+pub(crate) const BLOCK: [u8; 2] = [1, 0];
 
 // The front of the block that ends a tape, without the start and the checksum.
 const LAST_BLOCK: [u8; 4] = [1, 0, 6, 0];
@@ -203,49 +150,34 @@ const ANOTHER_RECORD: &str =
     "it is of another tape, or was edited: with another --record FILE the load begins anew\n";
 
 // What is told of what a console printed, where octal words should stand.
-const OF_CONSOLE: &str = "of what a console printed: grep / FILE > WORDS\n";
-
-// What is told of two numbers behind a slash.
-const OF_TWO_NUMBERS: &str = "two words from there on: tr / ' ' < FILE > WORDS\n\
-     what stood there and what was typed: sed -E 's|/ *[0-7]+ +([0-7])|/\\1|' FILE > WORDS\n";
+const OF_CONSOLE: &str = "of what a console printed: tr @/ '  ' < FILE > WORDS\n";
 
 // What is told of a tape with a leader of rubouts.
 const OF_RUBOUTS: &str = "its leader is rubouts: LC_ALL=C sed '1s/^\\o377*//' FILE > TAPE\n";
 
-// What is told of what is not known.
-const NO_TAPE: &str = "it is no tape, or a label stands before it\n";
-
-// What is told of a tape that has more than memory.
-const IN_IO_PAGE: &str =
-    "160000 and above is the I/O page, no memory: examples/toolbox.md has programs for it\n";
-
-// What is told where a line broke.
-const SET_ANEW: &str =
-    "an adapter that was pulled has to be set anew: by 'ldaodt-serial', or stty\n";
+// What is told of a tape before which something else stands.
+const OF_LABEL: &str =
+    "it is no tape, or a label stands before it: 'tail -c +N FILE > TAPE' makes one,\n\
+     where its first 001 is byte N, from 1\n";
 
 // What is told of a tape without a transfer block.
 const NO_TRANSFER: &str = "it lacks a block with a start; this one starts nothing:\n\
      printf '\\1\\0\\6\\0\\1\\0\\370' >> TAPE\n";
 
-// What is told of an input with these first bytes that is refused for this one of its bytes.
-fn advice_of(at: u32, front: Front) -> Option<&'static str> {
-    match instead_at(at, front) {
+// What is told of an input with these first bytes.
+fn advice_of(front: Front) -> Option<&'static str> {
+    let [first, second, third, fourth] = front;
+    match instead_of(first, second, third, fourth) {
         Some(instead) => Some(instead.advice()),
-        None if front[0] == RUBOUT => Some(OF_RUBOUTS),
+        None if first == RUBOUT => Some(OF_RUBOUTS),
         None if front.starts_with(&BLOCK) => None,
-        None => Some(NO_TAPE),
+        None => Some(OF_LABEL),
     }
 }
 
-// What an input is of which these are the first bytes and this the place of what is wrong, where that is known.
-fn instead_at(at: u32, front: Front) -> Option<Instead> {
-    let [first, second, third, fourth] = front;
-    instead_of(at, first, second, third, fourth)
-}
-
-// What an input is that is refused for this one of its bytes and has these first ones, where that is known.
-fn instead_of(at: u32, first: u8, second: u8, third: u8, fourth: u8) -> Option<Instead>
-    ensures { result ≡ instead_of at first second third fourth }
+// What an input with these first bytes is, where that is known.
+fn instead_of(first: u8, second: u8, third: u8, fourth: u8) -> Option<Instead>
+    ensures { result ≡ instead_of first second third fourth }
 {
     if first == b':' {
         return Some(Instead::IntelHex);
@@ -256,17 +188,8 @@ fn instead_of(at: u32, first: u8, second: u8, third: u8, fourth: u8) -> Option<I
     if is_head_of_gzip(first, second) {
         return Some(Instead::Gzip);
     }
-    if is_head_of_elf(first, second, third, fourth) {
-        return Some(Instead::Elf);
-    }
-    if is_head_of_zip(first, second, third, fourth) {
-        return Some(Instead::Zip);
-    }
     if is_text(first, second, third, fourth) {
         return Some(Instead::Text);
-    }
-    if is_saved_program(at, first, second) {
-        return Some(Instead::SavedProgram);
     }
     None
 }
@@ -283,27 +206,6 @@ fn is_head_of_gzip(first: u8, second: u8) -> bool
     ensures { result ≡ is_head_of_gzip first second }
 {
     first == 0x1F && second == 0x8B
-}
-
-// Whether four bytes begin what is ELF.
-fn is_head_of_elf(first: u8, second: u8, third: u8, fourth: u8) -> bool
-    ensures { result ≡ is_head_of_elf first second third fourth }
-{
-    first == 0x7F && second == b'E' && third == b'L' && fourth == b'F'
-}
-
-// Whether four bytes begin an archive of the kind zip.
-fn is_head_of_zip(first: u8, second: u8, third: u8, fourth: u8) -> bool
-    ensures { result ≡ is_head_of_zip first second third fourth }
-{
-    first == b'P' && second == b'K' && third == 3 && fourth == 4
-}
-
-// Whether an input may be a .SAV, whose word at 000040 is its start: a byte of that is the first that no tape has.
-fn is_saved_program(at: u32, first: u8, second: u8) -> bool
-    ensures { result ≡ is_saved_program at first second }
-{
-    (at == 32 || at == 33) && first == 0 && second == 0
 }
 
 // Whether four bytes begin a text.

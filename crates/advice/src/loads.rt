@@ -12,7 +12,7 @@ use std::alloc::{AllocError, Global};
 use std::fmt;
 use std::io::Print;
 use std::time::Clock;
-use tape_image::{Plan, Start};
+use tape_image::Plan;
 
 /// What helps where no word was done, for want of answers.
 pub(crate) const ASK_PROBE: &str = "'ldaodt probe LINE' says what is wrong\n";
@@ -20,10 +20,6 @@ pub(crate) const ASK_PROBE: &str = "'ldaodt probe LINE' says what is wrong\n";
 // What may be the cause, too, where a word does not hold, and what decides.
 const MAY_BE_CHANGED: &str =
     "or the line changed a character: the same line with --careful decides\n";
-
-// What helps where a tape has no start.
-const NO_START: &str =
-    "the tape has no start: --start AAAAAA gives one; XXDP's diagnostics mostly have 200\n";
 
 // What helps where a record goes on.
 const GOES_ON: &str = "the same line goes on where it was; power lost? add --recheck\n";
@@ -93,7 +89,6 @@ pub fn advise_load<C: Clock, T: Print, L: Line>(
             }
         }
         Stop::Ended(End::NoWord(address)) => say_unfit(alloc, progress, address, size.last),
-        Stop::Ended(End::Loaded) if matches!(load.start, Start::OfTape) => progress.say(NO_START),
         _ => {}
     }
 }

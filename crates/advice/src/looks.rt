@@ -20,9 +20,6 @@ const SAVE_AGAIN: &str = "again without --once\n";
 
 const REMOVE_PART: &str = "remove the .part file, and again without --once\n";
 
-// What helps where a test of memory gave up in its middle.
-const MORE_PATIENCE: &str = "--patience 1000 survives more of such a line\n";
-
 /// Tells behind the report of a look that came to this what helps where the line changed characters, or no word was done.
 pub fn advise_verify<C: Clock, T: Print>(
     progress: Option<&ProgressLine<'_, C, T>>,
@@ -57,18 +54,15 @@ pub fn advise_save<C: Clock, T: Print>(
     }
 }
 
-/// Tells behind the report of a test of memory that came to this what helps where it gave up.
+/// Tells behind the report of a test of memory that came to this what helps where no word was done.
 pub fn advise_test<C: Clock, T: Print>(
     progress: Option<&ProgressLine<'_, C, T>>,
     tested: Result<MemoryEnd, ProbeFault>,
 ) {
     if let (Some(progress), Ok(tested)) = (progress, tested)
         && tested.end == TestEnd::GaveUp
+        && progress.done() == 0
     {
-        progress.say(if progress.done() == 0 {
-            ASK_PROBE
-        } else {
-            MORE_PATIENCE
-        });
+        progress.say(ASK_PROBE);
     }
 }

@@ -1,6 +1,5 @@
-//! What is told at a terminal of a probe.
+//! The one line that a terminal has of a probe while it goes on.
 
-use probe_report::ProbeEnd;
 use request_values::Look;
 use std::alloc::Global;
 use std::io::Print;
@@ -11,9 +10,6 @@ const WAITS: u64 = 4;
 
 // How often a host waits that is answered nothing, beside its mishaps: at first, and for what ends it.
 const WAITS_BESIDE: u64 = 2;
-
-// What helps where a word read otherwise behind a trial, over a line that changes characters.
-const PROBE_AGAIN: &str = "the line changed characters: look at that word, and probe once more\n";
 
 /// Tells whoever waits at a terminal that a probe is under way, and for how long.
 pub fn say_probing<T: Print>(alloc: Global, terminal: Option<&T>, look: Look<'_>) {
@@ -29,15 +25,6 @@ pub fn say_probing<T: Print>(alloc: Global, terminal: Option<&T>, look: Look<'_>
         "probing: mostly {mostly} {unit}; {at_worst} where nothing answers\n"
     ) {
         let _ = terminal.write_all(text.as_bytes());
-    }
-}
-
-/// Tells behind the report of a probe that ended so what helps where so many characters came changed.
-pub fn advise_probe<T: Print>(terminal: Option<&T>, end: ProbeEnd, changed: u32) {
-    if let (Some(terminal), ProbeEnd::NotTrusted) = (terminal, end)
-        && changed > 0
-    {
-        let _ = terminal.write_all(PROBE_AGAIN.as_bytes());
     }
 }
 

@@ -25,10 +25,6 @@ const NO_SAVED_START: &str = "a start is octal, of one to six digits";
 // Why a word is no address of a word of memory.
 const NO_ADDRESS: &str = "an address is octal, of one to six digits, even, and below 160000";
 
-// The same of what is above.
-const IN_IO_PAGE: &str =
-    "160000 and above is the I/O page, no memory: examples/toolbox.md has programs for it";
-
 // Why a last address is none.
 const IS_BELOW: &str = "the last address is below the first";
 
@@ -128,8 +124,7 @@ fn word_of(alloc: Global, text: &str, argument: &str) -> Result<u16, NoRequest>
 {
     match even(text) {
         Some(address) if address < TOP as u16 => Ok(address),
-        Some(_) => Err(invalid_value(alloc, text, argument, IN_IO_PAGE)),
-        None => Err(invalid_value(alloc, text, argument, NO_ADDRESS)),
+        _ => Err(invalid_value(alloc, text, argument, NO_ADDRESS)),
     }
 }
 

@@ -14,8 +14,7 @@ use request_values::Console;
 use std::alloc::{AllocError, Global};
 
 // Why a word is no line.
-const NO_LINE: &str =
-    "a line is HOST:PORT, or the path of a serial device, as /dev/ttyUSB0 or ./ttyUSB0";
+const NO_LINE: &str = "a line is HOST:PORT, or the path of a serial device, which has a '/'";
 
 /// The text of a required argument.
 pub(crate) fn text_of<'a>(found: &ArgMatches<'a>, name: &str) -> Result<&'a str, NoRequest>

@@ -153,10 +153,10 @@ Each word is looked at twice, its complement is deposited and looked at, and
 what it held is put back and looked at. In the report a row is a bank of 4096
 words, and a column a bit of them, which is a chip: '.' held in every word, '0'
 or '1' reads so whatever is deposited, 'x' is bad in another way, as where two
-looks read two numbers, and then nothing is deposited. A word that did not hold
-is tested once more: bad is a bit that was bad both times. The first 8 words
-that do not hold are listed. FROM wants TO. First the bus is tested: data lines
-that touch and addresses that are one word are told.
+looks read two numbers, and then nothing is deposited. The first 8 words that
+do not hold are listed. FROM wants TO. Where each word of a range is tested,
+so is the bus: data lines that touch and addresses that are one word are told.
+Other tests may not show them.
 
 Leave the console at its @ before, with no program running; none is started. At
 the first word it is tried, as by probe, whether the console forgets digits: if

@@ -22,8 +22,8 @@ const MAKE: KnownCommand = KnownCommand {
     arguments: &[FILE, OCTAL_WORDS, SAVED_START],
     help: "\
 A line of WORDS is an address and the words from there on, each one to six
-octal digits; or, with a '/' behind the address, a word as ODT prints it, maybe
-behind what stood there. Empty lines, and what follows ';' or '#', are skipped.
+octal digits; a '/' may stand behind the address, as ODT prints it. Empty lines
+and what follows ';' or '#' are skipped, and later words at an address count.
 A file that is there is never overwritten. Nothing is printed.
 
 Exit status:
@@ -34,7 +34,7 @@ Exit status:
      written
 
 Example:
-  printf '001000 012700 000101\\n001004/000000\\n' | ldaodt make first.lda",
+  printf '001000/012700 000101\\n001004/000000\\n' | ldaodt make first.lda",
 };
 
 const CHECK: KnownCommand = KnownCommand {

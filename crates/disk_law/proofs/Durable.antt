@@ -41,7 +41,7 @@ what_is_renamed_is_seen name folder text history i fresh empty = let so = what_i
   ((so.0, so.1), tt),
   record {
     led = λ x. (
-      λ leads. leads_to (disk_of history) (new_name name) i x (led history.kind (made (disk_of history) (new_name name) i) name (new_name name) x (not_itself name) leads),
+      λ leads. leads_to (disk_of history) (new_name name) i x (led (made (disk_of history) (new_name name) i) name (new_name name) x (not_itself name) leads),
       λ is. inl (refl, inl (refl, is)),
     );
     held = λ t has. (held history.kind (disk_of history) (new_name name) text i empty t has, λ same. has);

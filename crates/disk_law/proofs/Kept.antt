@@ -1,12 +1,12 @@
 -- Calls that begin a record beside the old one keep a record.
-use Rattle.std.proofs.Common.{◌≡◌, ℕ, ◌+◌, ◌⊎◌, List, [], ◌∷◌, ◌++◌, length, Option, Some, None, inl, inr, arith, refl, ap, subst, ◌∙◌}
+use Rattle.std.proofs.Common.{◌≡◌, ℕ, ◌+◌, ◌⊎◌, List, [], ◌∷◌, ◌++◌, length, Option, Some, None, inl, inr, arith, ap, subst, ◌∙◌}
 use Rattle.std.specs.Prelude.{codes, ⊤}
 use Rattle.load_record.specs.Keeper.{Lasts}
 use Rattle.record_file.specs.Beginning.{new_name}
 use Rattle.record_file.specs.DiskStep.{Did, Open, Link, Rename, Remove, SyncFolder, Cut, SyncFile}
 use Rattle.record_file.specs.declared.disk.Access.TheVariants.{New}
-use Rattle.disk_law.specs.Disk.{Disk, Event, Asked, Written, Synced, Kind, Weakest, InOrder, History, Leaves, Nothing, File, disk_of, more, told, after, made, may_go, renamed, removed, folder_synced, file_synced, written}
-use Rattle.disk_law.specs.Laws.{IsFresh, IsOnDisk, IsBesideOnly, IsSo, AreSo, IsNewOrGone, ARecordIsKept}
+use Rattle.disk_law.specs.Disk.{Disk, Event, Asked, Written, Synced, Kind, History, Leaves, Nothing, File, disk_of, more, told, after, made, renamed, removed, folder_synced, file_synced, written}
+use Rattle.disk_law.specs.Laws.{IsFresh, IsOnDisk, IsBesideOnly, IsSo, AreSo, ARecordIsKept}
 use Rattle.disk_law.proofs.Names.{HasNames, HaveNames, front_of, back_of, beside}
 
 -- the record's name is not that of the new file
@@ -33,35 +33,23 @@ by_removed d new n left other (Nothing (inr same)) = absurd (other same.0)
 by_removed d new n left other (File j t (inl may) has) = File j t may has
 by_removed d new n left other (File j t (inr same) has) = absurd (other same.0)
 
-is_new : (kind : Kind) (text : List ℕ) (left : Option (List ℕ)) → left ≡ Some text → IsNewOrGone kind text left
-is_new Weakest text left is = inr is
-is_new InOrder text left is = is
-
-gone : (kind : Kind) (from name n text : List ℕ) → ((n ≡ from) → ⊥) → may_go kind from name n → (n ≡ name) × IsNewOrGone kind text None
-gone Weakest from name n text other (inl same) = absurd (other same)
-gone Weakest from name n text other (inr same) = (same, inl refl)
-gone InOrder from name n text other same = absurd (other same)
-
-by_renamed : (kind : Kind) (d : Disk) (name text from : List ℕ) (n : List ℕ) (left : Option (List ℕ)) → IsOnDisk d from text → ((n ≡ from) → ⊥)
-    → Leaves (renamed kind d from name) n left → Leaves d n left ⊎ ((n ≡ name) × IsNewOrGone kind text left)
-by_renamed kind d name text from n left whole other (Nothing (inl may)) = inl (Nothing may)
-by_renamed kind d name text from n left whole other (Nothing (inr (inl led))) =
+by_renamed : (d : Disk) (name text from : List ℕ) (n : List ℕ) (left : Option (List ℕ)) → IsOnDisk d from text → ((n ≡ from) → ⊥) → Leaves (renamed d from name) n left
+    → Leaves d n left ⊎ ((n ≡ name) × (left ≡ Some text))
+by_renamed d name text from n left whole other (Nothing (inl may)) = inl (Nothing may)
+by_renamed d name text from n left whole other (Nothing (inr (inl led))) =
     let some = whole None led.1 in absurd (none some.0 some.1)
   where
     none : (i : ℕ) → let x : Option ℕ = None in x ≡ Some i → ⊥
     none i e = cc e
-by_renamed kind d name text from n left whole other (Nothing (inr (inr goes))) = inr (gone kind from name n text other goes.0)
-by_renamed kind d name text from n left whole other (File j t (inl may) has) = inl (File j t may has)
-by_renamed kind d name text from n left whole other (File j t (inr (inl led)) has) =
+by_renamed d name text from n left whole other (Nothing (inr (inr same))) = absurd (other same.0)
+by_renamed d name text from n left whole other (File j t (inl may) has) = inl (File j t may has)
+by_renamed d name text from n left whole other (File j t (inr (inl led)) has) =
     let some = whole (Some j) led.1 in
-    inr (led.0, is_new kind text (Some t) (ap Some (some.2 t (subst (λ k. d.may_hold k t) (same some.0 some.1) has))))
+    inr (led.0, ap Some (some.2 t (subst (λ k. d.may_hold k t) (same some.0 some.1) has)))
   where
     same : (i : ℕ) → let x : Option ℕ = Some j in x ≡ Some i → j ≡ i
     same i e = cc e
-by_renamed kind d name text from n left whole other (File j t (inr (inr goes)) has) = absurd (none goes.1)
-  where
-    none : let x : Option ℕ = Some j in x ≡ None → ⊥
-    none e = cc e
+by_renamed d name text from n left whole other (File j t (inr (inr same)) has) = absurd (other same.0)
 
 by_folder : (d : Disk) (folder : List ℕ) (n : List ℕ) (left : Option (List ℕ)) → Leaves (folder_synced d folder) n left → Leaves d n left
 by_folder d folder n left (Nothing may) = Nothing may.0
@@ -90,15 +78,15 @@ pub same_text : (text other : List ℕ) → Lasts (Some other) (Some text) → o
 same_text text other is = cc is
 
 step : (kind : Kind) (d : Disk) (name text : List ℕ) (event : Event) (n : List ℕ) (left : Option (List ℕ)) → Names name text event → IsSo (new_name name) d event
-    → ((n ≡ new_name name) → ⊥) → Leaves (after kind d event) n left → Leaves d n left ⊎ ((n ≡ name) × IsNewOrGone kind text left)
+    → ((n ≡ new_name name) → ⊥) → Leaves (after kind d event) n left → Leaves d n left ⊎ ((n ≡ name) × (left ≡ Some text))
 step kind d name text (Asked i (Did (Open New new))) n left names so other leaves =
     inl (by_made d name text new i n left so (λ e. other (e ∙ names)) leaves)
 step kind d name text (Asked i (Did (Link from to))) n left names so other leaves = absurd names
 step kind d name text (Asked i (Did (Rename from to None))) n left names so other leaves = absurd so
 step kind d name text (Asked i (Did (Rename from to (Some whole)))) n left names so other leaves =
-    let come = by_renamed kind d to whole from n left so (λ e. other (e ∙ names.0)) leaves in
-    elim come as (λ c. Leaves d n left ⊎ ((n ≡ name) × IsNewOrGone kind text left))
-    [ inl l ↦ inl l | inr r ↦ inr (r.0 ∙ names.1, subst (λ t. IsNewOrGone kind t left) (same_text text whole names.2) r.1) ]
+    let come = by_renamed d to whole from n left so (λ e. other (e ∙ names.0)) leaves in
+    elim come as (λ c. Leaves d n left ⊎ ((n ≡ name) × (left ≡ Some text)))
+    [ inl l ↦ inl l | inr r ↦ inr (r.0 ∙ names.1, r.1 ∙ ap Some (same_text text whole names.2)) ]
 step kind d name text (Asked i (Did (Remove new))) n left names so other leaves = inl (by_removed d new n left (λ e. other (e ∙ names)) leaves)
 step kind d name text (Asked i (Did (SyncFolder folder))) n left names so other leaves = inl (by_folder d folder n left leaves)
 step kind d name text (Asked i (Did (Cut wrote m))) n left names so other leaves = absurd names
@@ -108,12 +96,11 @@ step kind d name text (Written i at bytes) n left names so other leaves = inl (b
 step kind d name text (Synced i) n left names so other leaves = inl (by_synced d i n left leaves)
 
 all_steps : (name text : List ℕ) (history : History) (events : List Event) → AllNames name text events → AreSo (new_name name) history events → (n : List ℕ) (left : Option (List ℕ))
-    → ((n ≡ new_name name) → ⊥) → Leaves (disk_of (more history events)) n left
-    → Leaves (disk_of history) n left ⊎ ((n ≡ name) × IsNewOrGone history.kind text left)
+    → ((n ≡ new_name name) → ⊥) → Leaves (disk_of (more history events)) n left → Leaves (disk_of history) n left ⊎ ((n ≡ name) × (left ≡ Some text))
 all_steps name text history [] names so n left other leaves = inl leaves
 all_steps name text history (event ∷ earlier) names so n left other leaves =
     let come = step history.kind (disk_of (more history earlier)) name text event n left names.1 so.1 other leaves in
-    elim come as (λ c. Leaves (disk_of history) n left ⊎ ((n ≡ name) × IsNewOrGone history.kind text left))
+    elim come as (λ c. Leaves (disk_of history) n left ⊎ ((n ≡ name) × (left ≡ Some text)))
     [ inl l ↦ all_steps name text history earlier names.0 so.0 n left other l | inr r ↦ inr r ]
 
 -- what is told has such names, and so have the events
@@ -146,12 +133,10 @@ a_record_is_kept name text was is course history later earlier list so = record 
     true : AreSo (new_name name) history earlier
     true = earlier_so (new_name name) history later earlier so
 
-    old_or_new : (left : Option (List ℕ)) → Leaves (disk_of history) name left ⊎ ((name ≡ name) × IsNewOrGone history.kind text left)
-        → Leaves (disk_of history) name left ⊎ IsNewOrGone history.kind text left
+    old_or_new : (left : Option (List ℕ)) → Leaves (disk_of history) name left ⊎ ((name ≡ name) × (left ≡ Some text)) → Leaves (disk_of history) name left ⊎ (left ≡ Some text)
     old_or_new left (inl l) = inl l
     old_or_new left (inr r) = inr r.1
 
-    rest : (n : List ℕ) (left : Option (List ℕ)) → ((n ≡ name) → ⊥) → Leaves (disk_of history) n left ⊎ ((n ≡ name) × IsNewOrGone history.kind text left)
-        → Leaves (disk_of history) n left
+    rest : (n : List ℕ) (left : Option (List ℕ)) → ((n ≡ name) → ⊥) → Leaves (disk_of history) n left ⊎ ((n ≡ name) × (left ≡ Some text)) → Leaves (disk_of history) n left
     rest n left not_name (inl l) = l
     rest n left not_name (inr r) = absurd (not_name r.0)

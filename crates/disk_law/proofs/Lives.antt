@@ -1,9 +1,8 @@
 -- What a crash leaves of a load's record is what a stopped life leaves.
-use Rattle.std.proofs.Common.{◌≡◌, ℕ, true, false, List, [], ◌∷◌, ◌++◌, Some, inl, inr, refl, ap, sym, ◌∙◌, append-nil, append_assoc}
+use Rattle.std.proofs.Common.{◌≡◌, ℕ, true, false, List, [], ◌∷◌, ◌++◌, inl, inr, refl, ap, sym, ◌∙◌, append-nil, append_assoc}
 use Rattle.std.specs.Prelude.{Contains}
-use Rattle.disk_law.specs.Disk.{Kind, Weakest, InOrder}
-use Rattle.disk_law.specs.Laws.{HasLasted, IsNewOrGone}
-use Rattle.disk_law.specs.Lives.{StoppedLife, IsLeftBy, LeavesRecordOf, LeavesRecordOrNone, BeginningsAreStops, AppendsAreStops}
+use Rattle.disk_law.specs.Laws.{HasLasted}
+use Rattle.disk_law.specs.Lives.{StoppedLife, BeginningsAreStops, AppendsAreStops}
 use Rattle.disk_law.proofs.Appends.{appends_last}
 use Rattle.disk_law.proofs.Kept.{a_record_is_kept}
 use Rattle.host_core.specs.Console.{go}
@@ -18,32 +17,17 @@ unmarked life now marked = absurd (cc (sym marked ∙ life.no_mark))
 pub beginnings_are_stops : BeginningsAreStops
 beginnings_are_stops life name words was is course history later earlier few no_go old list so left leaves =
     elim ((a_record_is_kept name (record_text Second life.plan words false) was is course history later earlier list so).record_is left leaves) [
-      | inl before ↦ inl (life.old, old left before, record { cut = inl refl; whole = λ has. absurd (no_go has); alone = unmarked life life.old })
-      | inr new ↦ new_or_gone history.kind new
+      | inl before ↦ (life.old, old left before, record { cut = inl refl; whole = λ has. absurd (no_go has); alone = unmarked life life.old })
+      | inr new ↦ (
+        record_text Second life.plan words false,
+        new,
+        record {
+          cut = inr (records_are_fronts.fewer life.plan words life.core.verified life.core.going few);
+          whole = λ has. absurd (no_go has);
+          alone = unmarked life (record_text Second life.plan words false);
+        },
+      )
     ]
-  where
-    begun : left ≡ Some (record_text Second life.plan words false) → LeavesRecordOf life left
-    begun new = (
-      record_text Second life.plan words false,
-      new,
-      record {
-        cut = inr (records_are_fronts.fewer life.plan words life.core.verified life.core.going few);
-        whole = λ has. absurd (no_go has);
-        alone = unmarked life (record_text Second life.plan words false);
-      },
-    )
-
-    empty : IsLeftBy life []
-    empty = record {
-      cut = inr (record_text Second life.plan life.core.verified life.core.going, refl);
-      whole = λ has. absurd (no_go has);
-      alone = unmarked life [];
-    }
-
-    new_or_gone : (kind : Kind) → IsNewOrGone kind (record_text Second life.plan words false) left → LeavesRecordOrNone kind life left
-    new_or_gone Weakest (inl none) = inr (refl, none, empty)
-    new_or_gone Weakest (inr new) = inl (begun new)
-    new_or_gone InOrder new = inl (begun new)
 
 pub appends_are_stops : AppendsAreStops
 appends_are_stops life name begun synced pending history i events kind durable appends begins typed left leaves = (

@@ -8,7 +8,7 @@ use Rattle.record_file.specs.InPlace.{IsFrontOf}
 use Rattle.record_file.specs.declared.disk.Access.TheVariants.{New}
 use Rattle.tape_shelf.specs.ShelfDisk.{Place, Room, part_name, IsGone, Goes, HasAnother, LeaveAll, IsSearch, Free, There, Unknown, NoFileName, IsNaming, Linked, LinkRefused, NotFoundFree, Renamed, NotRenamed, IsTakenBack, HasItsOwn, RenamedBack, syncing, IsNamed, Unsynced, Unnamed, Named, Unsettled}
 use Rattle.tape_shelf.specs.declared.shelf.ShelfFault.{ShelfFault}
-use Rattle.disk_law.specs.Disk.{Disk, Event, Asked, Written, Synced, Kind, Weakest, InOrder, History, Leaves, Nothing, File, disk_of, more, told, after, linked, may_go, renamed, file_synced, cut}
+use Rattle.disk_law.specs.Disk.{Disk, Event, Asked, Written, Synced, Kind, History, Leaves, Nothing, File, disk_of, more, told, after, linked, renamed, file_synced, cut}
 use Rattle.disk_law.specs.Shelf.{IsSoOf, AreSoOf, IsWrittenBeside, ATapeComesWhole, ATapeStays}
 use Rattle.disk_law.proofs.Stays.{ends_same, seen}
 
@@ -198,12 +198,6 @@ kept_all part history (event ∷ earlier) so keep n x may =
 abbrev IsOnly : Disk → List ℕ → List ℕ → ℕ → Type 0
 IsOnly d own name part = (n : List ℕ) → ((n ≡ own) → ⊥) → ((n ≡ name) → ⊥) → d.may_lead n (Some part) → ⊥
 
--- a rename lets no other name go
-stays : (kind : Kind) (from to n : List ℕ) → ((n ≡ from) → ⊥) → ((n ≡ to) → ⊥) → may_go kind from to n → ⊥
-stays Weakest from to n a b (inl same) = a same
-stays Weakest from to n a b (inr same) = b same
-stays InOrder from to n a b same = a same
-
 -- for any other name
 other_lead : (kind : Kind) (d : Disk) (own name : List ℕ) (part : ℕ) (event : Event) → IsSoOf part d event → Tells (Names ⊤ own name) event
     → (n : List ℕ) (x : Option ℕ) → ((n ≡ own) → ⊥) → ((n ≡ name) → ⊥) → (after kind d event).may_lead n x → d.may_lead n x
@@ -213,10 +207,8 @@ other_lead kind d own name part (Asked i (Did (Link from to))) so names n x a b 
 other_lead kind d own name part (Asked i (Did (Rename from to left))) so names n x a b (inl may) = may
 other_lead kind d own name part (Asked i (Did (Rename from to left))) so (inl names) n x a b (inr (inl led)) = absurd (b (led.0 ∙ names.1))
 other_lead kind d own name part (Asked i (Did (Rename from to left))) so (inr names) n x a b (inr (inl led)) = absurd (a (led.0 ∙ names.1))
-other_lead kind d own name part (Asked i (Did (Rename from to left))) so (inl names) n x a b (inr (inr gone)) =
-    absurd (stays kind from to n (λ e. a (e ∙ names.0)) (λ e. b (e ∙ names.1)) gone.0)
-other_lead kind d own name part (Asked i (Did (Rename from to left))) so (inr names) n x a b (inr (inr gone)) =
-    absurd (stays kind from to n (λ e. b (e ∙ names.0)) (λ e. a (e ∙ names.1)) gone.0)
+other_lead kind d own name part (Asked i (Did (Rename from to left))) so (inl names) n x a b (inr (inr gone)) = absurd (a (gone.0 ∙ names.0))
+other_lead kind d own name part (Asked i (Did (Rename from to left))) so (inr names) n x a b (inr (inr gone)) = absurd (b (gone.0 ∙ names.0))
 other_lead kind d own name part (Asked i (Did (Remove gone))) so names n x a b (inl may) = may
 other_lead kind d own name part (Asked i (Did (Remove gone))) so (inl is) n x a b (inr same) = absurd (a (same.0 ∙ is))
 other_lead kind d own name part (Asked i (Did (Remove gone))) so (inr is) n x a b (inr same) = absurd (b (same.0 ∙ is))
@@ -641,9 +633,9 @@ by_link d own name part text there led = record {
   leads = λ x lead. elim lead [ inl new ↦ led x new.1 | inr old ↦ absurd (old.0 refl) ];
 }
 
-by_rename : (kind : Kind) (d : Disk) (own name : List ℕ) (part : ℕ) (text : List ℕ) → ((name ≡ own) → ⊥) → IsThere d own name part text
-    → ((x : Option ℕ) → d.leads own x → x ≡ Some part) → IsNamedThere (renamed kind d own name) name part text
-by_rename kind d own name part text other there led = record {
+by_rename : (d : Disk) (own name : List ℕ) (part : ℕ) (text : List ℕ) → ((name ≡ own) → ⊥) → IsThere d own name part text
+    → ((x : Option ℕ) → d.leads own x → x ≡ Some part) → IsNamedThere (renamed d own name) name part text
+by_rename d own name part text other there led = record {
   whole = there.whole;
   leads = λ x lead. elim lead [
     | inl new ↦ led x new.1
@@ -677,7 +669,7 @@ named_there place room text history part events naming other so is Linked size b
     so' = subst (AreSoOf part history) link.all so
 named_there place room text history part events naming other so is (Renamed left) size beside =
     subst (λ e. IsNamedThere (disk_of (more history e)) place.name part text) (sym whole)
-    (by_rename history.kind (disk_of (more history linking.earlier)) room.name place.name part text other
+    (by_rename (disk_of (more history linking.earlier)) room.name place.name part text other
     (brought room place.name text history part linking.earlier so3.0 linking.before size beside) (own_led room place.name text history part linking.earlier so3.0 linking.before))
   where
     three : List DiskStep

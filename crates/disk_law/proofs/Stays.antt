@@ -6,23 +6,19 @@ use Rattle.record_file.specs.DiskStep.{DiskStep, Did, FindSoleFile, Look, Open, 
 use Rattle.record_file.specs.Folder.{IsFolderOf}
 use Rattle.record_file.specs.declared.disk.Access.TheVariants.{New}
 use Rattle.record_file.specs.declared.made.Made.{Made}
-use Rattle.disk_law.specs.Disk.{Disk, Event, Asked, Written, Synced, Kind, Weakest, InOrder, History, Leaves, Nothing, File, disk_of, more, told, may_go, renamed, folder_synced, file_synced, written, after, at_first, after_all}
+use Rattle.disk_law.specs.Disk.{Disk, Event, Asked, Written, Synced, Kind, History, Leaves, Nothing, File, disk_of, more, told, renamed, folder_synced, file_synced, written, after, at_first, after_all}
 use Rattle.disk_law.specs.Laws.{FoldersAreKept, IsOnDisk, IsBesideOnly, IsSo, AreSo, ANewRecordStays}
 use Rattle.disk_law.proofs.Kept.{not_itself, by_synced, by_written, same_text}
 
-pub led : (kind : Kind) (d : Disk) (name from : List ℕ) (x : Option ℕ) → ((name ≡ from) → ⊥) → (renamed kind d from name).leads name x → d.leads from x
-led kind d name from x other (inl to) = to.1
-led kind d name from x other (inr (inl gone)) = absurd (other gone.0)
-led kind d name from x other (inr (inr same)) = absurd (same.0 refl)
+pub led : (d : Disk) (name from : List ℕ) (x : Option ℕ) → ((name ≡ from) → ⊥) → (renamed d from name).leads name x → d.leads from x
+led d name from x other (inl to) = to.1
+led d name from x other (inr (inl gone)) = absurd (other gone.0)
+led d name from x other (inr (inr same)) = absurd (same.0 refl)
 
 pub folders_are_kept : FoldersAreKept
 folders_are_kept name folder history i j of leads x may = leads x (may.1 of)
 
 -- ---- what is seen a crash may leave
-
-first_goes : (kind : Kind) (from to n : List ℕ) → n ≡ from → may_go kind from to n
-first_goes Weakest from to n same = inl same
-first_goes InOrder from to n same = same
 
 seen_step : (kind : Kind) (d : Disk) (event : Event) → ((n : List ℕ) (x : Option ℕ) → d.leads n x → d.may_lead n x)
     → (n : List ℕ) (x : Option ℕ) → (after kind d event).leads n x → (after kind d event).may_lead n x
@@ -31,7 +27,7 @@ seen_step kind d (Asked i (Did (Open New name))) seen n x (inr other) = inl (see
 seen_step kind d (Asked i (Did (Link from to))) seen n x (inl led) = inr led
 seen_step kind d (Asked i (Did (Link from to))) seen n x (inr other) = inl (seen n x other.1)
 seen_step kind d (Asked i (Did (Rename from to left))) seen n x (inl led) = inr (inl led)
-seen_step kind d (Asked i (Did (Rename from to left))) seen n x (inr (inl gone)) = inr (inr (first_goes kind from to n gone.0, gone.1))
+seen_step kind d (Asked i (Did (Rename from to left))) seen n x (inr (inl gone)) = inr (inr gone)
 seen_step kind d (Asked i (Did (Rename from to left))) seen n x (inr (inr other)) = inl (seen n x other.2)
 seen_step kind d (Asked i (Did (Remove name))) seen n x (inl gone) = inr gone
 seen_step kind d (Asked i (Did (Remove name))) seen n x (inr other) = inl (seen n x other.1)
@@ -66,8 +62,8 @@ renamed_so : (d : Disk) (new from to text : List ℕ) (left : Option (List ℕ))
 renamed_so d new from to text None i lasts so = absurd so
 renamed_so d new from to text (Some whole) i lasts so = subst (λ t. IsOnDisk d from t) (same_text text whole lasts) so
 
-by_rename : (kind : Kind) (d : Disk) (name text : List ℕ) → IsOnDisk d (new_name name) text → IsOnDisk (renamed kind d (new_name name) name) name text
-by_rename kind d name text there x leads = there x (led kind d name (new_name name) x (not_itself name) leads)
+by_rename : (d : Disk) (name text : List ℕ) → IsOnDisk d (new_name name) text → IsOnDisk (renamed d (new_name name) name) name text
+by_rename d name text there x leads = there x (led d name (new_name name) x (not_itself name) leads)
 
 by_write : (kind : Kind) (d : Disk) (name text : List ℕ) (i at : ℕ) (bytes : List ℕ) → ((n : List ℕ) (x : Option ℕ) → d.leads n x → d.may_lead n x)
     → IsBesideOnly d (new_name name) i → IsOnDisk d name text → IsOnDisk (written kind d i at bytes) name text
@@ -90,7 +86,7 @@ behind_rename name text left history [] (x ∷ front) list lasts so = absurd (cc
 behind_rename name text left history (Asked i step ∷ earlier) front list lasts so =
     let last = ends_same (told earlier) front step (Did (Rename (new_name name) name left)) list in
     subst (λ s. IsOnDisk (after history.kind (disk_of (more history earlier)) (Asked i s)) name text) (sym last.1)
-    (by_rename history.kind (disk_of (more history earlier)) name text
+    (by_rename (disk_of (more history earlier)) name text
     (renamed_so (disk_of (more history earlier)) (new_name name) (new_name name) name text left i lasts
     (subst (λ s. IsSo (new_name name) (disk_of (more history earlier)) (Asked i s)) last.1 so.1)))
 behind_rename name text left history (Written i at bytes ∷ earlier) front list lasts so =

@@ -23,8 +23,7 @@ pub record Disk : Type 1 where
 abbrev pub put : ℕ → List ℕ → List ℕ → List ℕ
 put at bytes text = take at text ++ (bytes ++ drop (at + length bytes) text)
 
--- two kinds of disks: a file that is not synced may hold anything, and a name that was renamed over be gone; or a front of the bytes is there, where all
--- that stands before them is, and the name
+-- two kinds of disks: a file that is not synced may hold anything; or a front of the bytes is there, where all that stands before them is
 pub data Kind : Type 0 where
   Weakest : Kind
   InOrder : Kind
@@ -57,16 +56,11 @@ linked d from to = record d {
   may_lead = λ n x. d.may_lead n x ⊎ ((n ≡ to) × d.leads from x);
 }
 
--- which of a rename's two names may be gone on the disk: the first; and on the weakest disk the second, too, whose old file may go before the new one comes
-abbrev pub may_go : Kind → (from to : List ℕ) → List ℕ → Type 0
-may_go Weakest from to n = (n ≡ from) ⊎ (n ≡ to)
-may_go InOrder from to n = n ≡ from
-
--- each of the two names, on its own, may have changed on the disk or not
-abbrev pub renamed : Kind → Disk → List ℕ → List ℕ → Disk
-renamed kind d from to = record d {
+-- each of the two names, on its own, may have changed on the disk or not: nothing is asked of a rename but that the second name always leads somewhere
+abbrev pub renamed : Disk → List ℕ → List ℕ → Disk
+renamed d from to = record d {
   leads = λ n x. ((n ≡ to) × d.leads from x) ⊎ ((n ≡ from) × (x ≡ None)) ⊎ (((n ≡ to) → ⊥) × ((n ≡ from) → ⊥) × d.leads n x);
-  may_lead = λ n x. d.may_lead n x ⊎ ((n ≡ to) × d.leads from x) ⊎ (may_go kind from to n × (x ≡ None));
+  may_lead = λ n x. d.may_lead n x ⊎ ((n ≡ to) × d.leads from x) ⊎ ((n ≡ from) × (x ≡ None));
 }
 
 abbrev pub removed : Disk → List ℕ → Disk
@@ -98,7 +92,7 @@ written kind d i at bytes = record d {
 abbrev pub after : Kind → Disk → Event → Disk
 after kind d (Asked i (Did (Open New name))) = made d name i
 after kind d (Asked i (Did (Link from to))) = linked d from to
-after kind d (Asked i (Did (Rename from to left))) = renamed kind d from to
+after kind d (Asked i (Did (Rename from to left))) = renamed d from to
 after kind d (Asked i (Did (Remove name))) = removed d name
 after kind d (Asked i (Did (SyncFolder folder))) = folder_synced d folder
 after kind d (Asked i (Did (Cut text n))) = cut d i n

@@ -37,21 +37,15 @@ abbrev pub AreSo : List ℕ → History → List Event → Type 0
 AreSo new history [] = ⊤
 AreSo new history (event ∷ earlier) = AreSo new history earlier × IsSo new (disk_of (more history earlier)) event
 
--- a crash leaves the new record, whole; or on the weakest disk nothing, where its folder is not synced
-abbrev pub IsNewOrGone : Kind → List ℕ → Option (List ℕ) → Type 0
-IsNewOrGone Weakest text left = (left ≡ None) ⊎ (left ≡ Some text)
-IsNewOrGone InOrder text left = left ≡ Some text
-
--- behind these events a crash leaves of the record's name what it might have left before, or the new record; and of each other name, but that of
+-- behind these events a crash leaves of the record's name what it might have left before, or the new record whole; and of each other name, but that of
 -- the new file, what it might have left before
 pub record IsOldOrNew (name text : List ℕ) (history : History) (events : List Event) : Type 0 where
-  pub record_is : (left : Option (List ℕ)) → Leaves (disk_of (more history events)) name left
-      → Leaves (disk_of history) name left ⊎ IsNewOrGone history.kind text left
+  pub record_is : (left : Option (List ℕ)) → Leaves (disk_of (more history events)) name left → Leaves (disk_of history) name left ⊎ (left ≡ Some text)
   pub others : (n : List ℕ) (left : Option (List ℕ)) → ((n ≡ name) → ⊥) → ((n ≡ new_name name) → ⊥)
       → Leaves (disk_of (more history events)) n left → Leaves (disk_of history) n left
 
 -- behind any of the calls that begin a record beside the old one, as the contract of `RecordFile::begin` tells them, a crash leaves the old record or the
--- new one, whole, or on the weakest disk none, and each other file
+-- new one, whole, and each other file
 abbrev pub ARecordIsKept : Type 0
 ARecordIsKept =
     (name text : List ℕ) (was is : Made) (course : Course) (history : History) (later earlier : List Event)
@@ -172,13 +166,8 @@ marked name text i mark =
     Synced i ∷ Written i (length text) mark ∷ Asked i (Did (Rename (new_name name) name (Some text))) ∷ Synced i ∷ Written i 0 text
     ∷ Asked i (Did (Open New (new_name name))) ∷ []
 
--- so it may where another stood in its place, on the weakest disk
-abbrev pub renamed_over : List ℕ → List ℕ → ℕ → List Event
-renamed_over name text i = Asked i (Did (Rename (new_name name) name (Some text))) ∷ []
-
 abbrev pub SyncsAreNeeded : Type 0
 SyncsAreNeeded =
     (name text mark anything : List ℕ) (i : ℕ) →
     Leaves (disk_of (more (bare Weakest) (new_unsynced name text i))) name (Some anything)
     × ((kind : Kind) → Leaves (disk_of (more (bare kind) (marked name text i mark))) name None)
-    × Leaves (disk_of (more (record (bare Weakest) { names = λ _. Some i }) (renamed_over name text i))) name None

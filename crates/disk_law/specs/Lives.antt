@@ -1,6 +1,6 @@
 -- What a crash leaves of a load's record is what a life leaves that was stopped: so the law of loads in a row goes on from there.
-use Rattle.std.specs.Prelude.{◌≡◌, ◌⊎◌, ℕ, ◌≤◌, true, false, List, [], ◌++◌, Option, Some, None, Contains}
-use Rattle.disk_law.specs.Disk.{told, Event, Kind, InOrder, Weakest, History, Leaves, disk_of, more}
+use Rattle.std.specs.Prelude.{◌≡◌, ℕ, ◌≤◌, true, false, List, [], ◌++◌, Option, Some, Contains}
+use Rattle.disk_law.specs.Disk.{told, Event, InOrder, History, Leaves, disk_of, more}
 use Rattle.disk_law.specs.Laws.{AreAppends, AreSo, IsDurable}
 use Rattle.host_core.specs.Console.{go}
 use Rattle.host_core.specs.Core.{Core}
@@ -24,17 +24,9 @@ pub record StoppedLife : Type 0 where
   pub core : Core
   pub items : List Item
 
--- the text of a record, as that life leaves it
-abbrev pub IsLeftBy : StoppedLife → List ℕ → Type 0
-IsLeftBy life now = IsLeft life.plan life.progress life.core life.items life.old now
-
--- a crash leaves such a text of a name
+-- a crash leaves of a name the text of a record, as that life leaves it
 abbrev pub LeavesRecordOf : StoppedLife → Option (List ℕ) → Type 0
-LeavesRecordOf life left = (now : List ℕ) × (left ≡ Some now) × IsLeftBy life now
-
--- or, on the weakest disk, nothing: the empty record that the next load then finds is such a text, too
-abbrev pub LeavesRecordOrNone : Kind → StoppedLife → Option (List ℕ) → Type 0
-LeavesRecordOrNone kind life left = LeavesRecordOf life left ⊎ ((kind ≡ Weakest) × (left ≡ None) × IsLeftBy life [])
+LeavesRecordOf life left = (now : List ℕ) × (left ≡ Some now) × IsLeft life.plan life.progress life.core life.items life.old now
 
 -- where it stopped while its record was begun beside the old one, with the words that it went on from; nothing was typed yet that starts a program
 abbrev pub BeginningsAreStops : Type 0
@@ -42,7 +34,7 @@ BeginningsAreStops =
     (life : StoppedLife) (name : List ℕ) (words : ℕ) (was is : Made) (course : Course) (history : History) (later earlier : List Event) → words ≤ life.core.verified
     → (Contains (keys_of life.items) go → ⊥) → ((left : Option (List ℕ)) → Leaves (disk_of history) name left → left ≡ Some life.old)
     → IsBeside name (record_text Second life.plan words false) was course is (told (later ++ earlier)) → AreSo (new_name name) history (later ++ earlier)
-    → (left : Option (List ℕ)) → Leaves (disk_of (more history earlier)) name left → LeavesRecordOrNone history.kind life left
+    → (left : Option (List ℕ)) → Leaves (disk_of (more history earlier)) name left → LeavesRecordOf life left
 
 -- or later: what it appended begins the record of all that it verified, and where `G` was typed all of that was synced, the mark with it
 abbrev pub AppendsAreStops : Type 0

@@ -10,8 +10,8 @@ ghost use Rattle.disk_law.specs.Lives.{AppendsAreStops, BeginningsAreStops};
 ghost use Rattle.disk_law.specs.Removing.{OnlyItsOwnFileGoes};
 ghost use Rattle.disk_law.specs.Shelf.{APartBegins, ATapeComesWhole, ATapeStays, BlocksLast};
 
-/// Behind any of the calls that begin a record beside the old one a crash leaves the old record or the new one, whole; on the weakest disk perhaps
-/// none. This function does nothing: its contract is the law.
+/// Behind any of the calls that begin a record beside the old one a crash leaves the old record or the new one, whole. This function does
+/// nothing: its contract is the law.
 pub fn a_record_is_kept()
     ensures { ARecordIsKept }
 {}

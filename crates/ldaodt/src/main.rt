@@ -6,9 +6,7 @@ mod followed;
 mod misplaced;
 mod names;
 mod program;
-mod screen;
 
-use crate::screen::{Screen, ShownError, ShownOutput};
 use command_line::words_of;
 use endings::{PipedOutput, Streams, print_failure};
 use requests::WatchedSystem;
@@ -26,12 +24,12 @@ fn main(rt: HostRuntime) -> ExitCode {
     let alloc = rt.alloc();
     let witness = Witness::new();
     let input = rt.stdin();
+    let is_shown = rt.stdout().is_terminal();
     let is_typed = input.is_terminal();
-    let screen = Screen::new(rt.stdout().is_terminal() && rt.stderr().is_terminal());
     let mut streams = Streams {
         input: WatchedFile::new(input, &witness),
-        out: NotedOutput::<_, Brand>::new(PipedOutput::new(ShownOutput::new(rt.stdout(), &screen))),
-        err: ShownError::new(rt.stderr(), &screen),
+        out: NotedOutput::<_, Brand>::new(PipedOutput::new(rt.stdout())),
+        err: rt.stderr(),
     };
     let words = match words_of(&rt) {
         Ok(words) => words,
@@ -44,18 +42,24 @@ fn main(rt: HostRuntime) -> ExitCode {
     if words.is_empty() && is_typed {
         say_what_is_read(&rt);
     }
-    let err = rt.stderr();
-    let terminal = err.is_terminal().then_some(&err);
+    let screen = rt.stderr();
+    let terminal = screen.is_terminal().then_some(&screen);
     let system = WatchedSystem::watching(&rt, &witness);
     let (_, code) = program::program(&rt, system, alloc, &words, &mut streams, terminal, &witness);
-    // A shell's prompt does not stand in the line in which a machine fell silent.
-    screen.end_line(&mut rt.stderr());
+    if is_shown && terminal.is_some() && streams.out.is_mid_line() {
+        end_line(&rt);
+    }
     ExitCode::from(code)
 }
 
 // Says to whoever typed the program's name alone what it waits for. What can't be said is not told.
 fn say_what_is_read<R: Eprint>(rt: &R) {
     let _ = rt.eprint(&"ldaodt: reading a tape from standard input ('ldaodt --help' says more)\n");
+}
+
+// Ends the line in which a machine fell silent, so that a shell's prompt does not stand in it.
+fn end_line<R: Eprint>(rt: &R) {
+    let _ = rt.eprint(&"\n");
 }
 
 // Fills the descriptors 0 to 2 where the program was started without them, so that no file that it

@@ -3,9 +3,8 @@ ghost use Rattle.tape_values.specs.Told.{IsAsTold};
 ghost use Rattle.ldaodt.specs.Names.{NamesTold, untold};
 
 use std::fs;
-use std::fs::Metadata;
 use std::io::IsTerminal;
-use std::os::unix::fs::{FileTypeExt, MetadataExt};
+use std::os::unix::fs::FileTypeExt;
 use std::rt::Files;
 
 /// A system of files that is asked what a name leads to.
@@ -23,12 +22,9 @@ pub(crate) trait Names: Files {
 }
 
 impl Names for HostRuntime {
-    // Whoever runs the program sits at its own terminal.
     fn is_no_device(&self, path: &str) -> bool {
         match fs::metadata(self, path) {
-            Ok(metadata) => {
-                !metadata.file_type().is_char_device() || is_own_terminal(self, &metadata)
-            }
+            Ok(metadata) => !metadata.file_type().is_char_device(),
             Err(_) => false,
         }
     }
@@ -45,21 +41,5 @@ impl Names for HostRuntime {
             Ok(file) => file.is_terminal(),
             Err(_) => false,
         }
-    }
-}
-
-// Whether a file is the terminal that the program is run at: the one that each process has by this name, or that its keys
-// come from or its faults are shown on.
-fn is_own_terminal(rt: &HostRuntime, file: &Metadata) -> bool {
-    is_file(rt, "/dev/tty", file)
-        || rt.stdin().is_terminal() && is_file(rt, "/dev/stdin", file)
-        || rt.stderr().is_terminal() && is_file(rt, "/dev/stderr", file)
-}
-
-// Whether this name leads to a file.
-fn is_file(rt: &HostRuntime, name: &str, file: &Metadata) -> bool {
-    match fs::metadata(rt, name) {
-        Ok(named) => named.dev() == file.dev() && named.ino() == file.ino(),
-        Err(_) => false,
     }
 }

@@ -1,7 +1,7 @@
 -- What a test of memory leaves, over honest lines.
 use Rattle.std.proofs.Common.{◌≡◌, ℕ, zero, suc, ◌+◌, ◌^◌, ◌<◌, ◌≤◌, List, [], ◌∷◌, ◌++◌, length, get_or, Option, Some, None, Ok, Err, Bool, true, false, nat_lt, if◌then◌else◌, refl, arith, ap, sym, subst, inl, inr, ◌∙◌}
-use Rattle.std.specs.Prelude.{All, ⊤}
-use Rattle.std.proofs.lemmas.List.Elements.{All-nil, All-cons, All-append}
+use Rattle.std.specs.Prelude.{◌==◌, All, ⊤}
+use Rattle.std.proofs.lemmas.List.Elements.{All-nil, All-cons, All-append, All-head, All-tail}
 use Rattle.odt_machine.specs.Machine.{Machine, is_word, stored, word_at}
 use Rattle.host_devices.specs.declared.item.Item.{Item}
 use Rattle.engine.specs.declared.stop.Cut.TheVariants.{LineFailed, TurnsOver}
@@ -14,16 +14,12 @@ use Rattle.looking_law.specs.Rows.{AreHonest}
 use Rattle.reading_core.specs.Addresses.{AreAddresses, IsAddress, IsRange}
 use Rattle.memory_core.specs.declared.phase.End.{End}
 use Rattle.memory_core.specs.declared.phase.End.TheVariants as core
-use Rattle.memory_core.specs.declared.phase.Phase.{Phase}
-use Rattle.memory_core.specs.declared.phase.Phase.TheVariants.{Settle, Sync, Address, Slash, Before, Value, Deposit, Return, Close, Ended}
-use Rattle.memory_core.specs.declared.seen.Outcome.{Outcome}
-use Rattle.memory_core.specs.declared.stage.Stage.TheVariants.{Unseen}
+use Rattle.memory_core.specs.declared.seen.Seen.{Seen}
 use Rattle.memory_core.specs.Seen.{old_in}
-use Rattle.engine.specs.Stopping.{TellsEnd}
 use Rattle.memory_core.specs.declared.stage.Borrowed.{Borrowed}
 use Rattle.memory_core.specs.Addresses.{every_address}
-use Rattle.memory_core.specs.Invariant.{EndFits, IsTester, PhaseFits, basis_of}
-use Rattle.memory_core.specs.Tester.{Tester, address_under_way, begun as begun_test, borrowed, borrowed_at, ended}
+use Rattle.memory_core.specs.Invariant.{IsTester}
+use Rattle.memory_core.specs.Tester.{Tester, begun as begun_test, borrowed}
 use Rattle.memory_core.proofs.Asking.{range_asked}
 use Rattle.memory_core.proofs.Turns.{begun_kept}
 use Rattle.looking_law.specs.Trying.{IsToldOf}
@@ -33,7 +29,7 @@ use Rattle.memory_engine.specs.Belief.{IsBelievableAt}
 use Rattle.memory_engine.specs.Tested.{NoKeepFault}
 use Rattle.memory_engine.proofs.Beliefs.{led_is, said_told, tested_believable}
 use Rattle.memory_core.specs.Laws.{led}
-use Rattle.memory_core.proofs.Lives.{led_addresses, led_kept}
+use Rattle.memory_core.proofs.Lives.{led_addresses}
 use Rattle.memory_report.specs.declared.test_end.TestEnd.{TestEnd}
 use Rattle.memory_report.specs.declared.findings.Word.{Word}
 use Rattle.probe_report.specs.declared.findings.Findings.{Findings}
@@ -46,41 +42,39 @@ use Rattle.machine_probe.specs.Follow.{stores}
 use Rattle.machine_probe.specs.PuttingBack.{is_loaded}
 use Rattle.machine_probe.proofs.Believed.{TriedLeaves, IsOnePart, one_part, split, tried_leaves}
 use Rattle.machine_memory.specs.declared.course.Place.{Place}
-use Rattle.machine_memory.specs.declared.course.Place.TheVariants.{Trying, Proving, Testing, Marking, Looking, PuttingBack, LookingAgain, Over}
+use Rattle.machine_memory.specs.declared.course.Place.TheVariants.{Trying, Testing, Marking, Looking, PuttingBack, LookingAgain, Over}
 use Rattle.machine_memory.specs.declared.memory_options.MemoryOptions.{MemoryOptions}
 use Rattle.load_engine.specs.Driving.{LoadStop}
 use Rattle.host_core.specs.declared.phase.End.TheVariants as loaded
 use Rattle.looking_engine.specs.Stopping.{LookStop}
 use Rattle.reading_core.specs.declared.phase.End.TheVariants as looked_end
-use Rattle.memory_law.proofs.Ahead.{one_address, stored_own, stored_there, stored_twice}
+use Rattle.memory_law.proofs.Ahead.{stored_own, stored_there, stored_twice}
 use Rattle.memory_report.specs.declared.test_end.TestEnd.TheVariants as test
 use Rattle.memory_report.specs.Bus.{BusFound, same_words}
 use Rattle.machine_memory.specs.Belief.{AreBelievable, Remains}
 use Rattle.machine_memory.specs.Bus.{mark, number_at, reading}
-use Rattle.machine_memory.specs.BusCourse.{again_from, behind_mark, behind_put_back, bus_begins, by_proof, in_bus, on_from, proved, put_back_next, stopped_load, with_marked, with_returned, by_look, by_second_look}
+use Rattle.machine_memory.specs.BusCourse.{again_from, behind_mark, behind_put_back, bus_begins, first_good, in_bus, on_from, put_back_next, stopped_load, then_bus, with_marked, with_returned, by_look, by_second_look}
 use Rattle.machine_memory.specs.BusRuns.{IsLookAgainStep, IsLookStep, IsMarkStep, IsNamedStep, IsPutBackStep}
 use Rattle.machine_memory.proofs.BusFacts.{AreMarks, AtPlace, IsLent, IsUnread, Looked, looked, marked_hold, marks_apart, returned_hold, unread_apart, unread_marks}
-use Rattle.machine_memory.proofs.BusLeads.{look_within, look_words, mark_within, mark_words, put_back_within, put_back_words, stopped_within, stopped_words, second_look_within, second_look_words, test_words}
+use Rattle.machine_memory.proofs.BusLeads.{first_good_has, look_within, look_words, mark_within, mark_words, put_back_within, put_back_words, stopped_within, stopped_words, second_look_within, second_look_words, test_words, then_are, then_within}
 use Rattle.machine_memory.proofs.Deposits.{Deposited, deposited}
-use Rattle.machine_memory.specs.Course.{AreWords, IsWithin, Standing, begun, over, by_first, by_stop, by_verdict, next_bank, test_next, try_next}
+use Rattle.machine_memory.specs.Course.{AreWords, IsWithin, Standing, behind_test, begun, over, by_first, by_stop, by_verdict, next_bank, test_next, try_next}
 use Rattle.machine_memory.specs.Options.{IsAsked, probe_options}
-use Rattle.machine_memory.specs.Runs.{AreSteps, IsProofStep, IsRow, IsStepAt, IsTestLed, IsTestStep, IsTryStep, most_steps}
+use Rattle.machine_memory.specs.Runs.{AreSteps, IsRow, IsStepAt, IsTestLed, IsTestStep, IsTryStep, most_steps}
 use Rattle.machine_memory.specs.Words.{words_of}
 use Rattle.machine_memory.specs.Turns.{most_turns}
-use Rattle.machine_memory.proofs.Leads.{good_here, proof_within, proof_words, test_within, trial_within, trial_words}
+use Rattle.machine_memory.proofs.Leads.{test_within, trial_within, trial_words}
 
 -- ---- between two hosts
 
 abbrev AreTrue : List ℕ → List Word → Type 0
-AreTrue before words = All (λ (word : Word). IsTrueOf before word.address (record { last = word.seen; failed = word.failed })) words
+AreTrue before words = All (λ (word : Word). IsTrueOf before word.address word.seen) words
 
 -- where words are tested next, no word is borrowed; where a look comes next, the one that it goes around
 abbrev IsFree : Place → Option Borrowed → Type 0
 IsFree (Trying address) word = word ≡ None
-IsFree (Proving address) word = word ≡ None
 IsFree (Testing address) word = word ≡ None
 IsFree (Looking lent first) word = word ≡ Some lent
-IsFree (LookingAgain lent first) word = word ≡ None
 IsFree place word = ⊤
 
 record Stands (before : List ℕ) (s : Standing) (now : Machine) : Type 0 where
@@ -103,9 +97,9 @@ unread_try : (before : List ℕ) (address : ℕ) (next : Option ℕ) (b : BusFou
 unread_try before address None b now none = unread_apart b none
 unread_try before address (Some next) b now none = none
 
-apart_test : (before : List ℕ) (next : Option ℕ) (b : BusFound) (now : List ℕ) → same_words b ≡ [] → AtPlace before (test_next next) b now
-apart_test before None b now none = none
-apart_test before (Some next) b now none = none
+unread_test : (before : List ℕ) (next : Option ℕ) (b : BusFound) (now : List ℕ) → IsUnread b → AtPlace before (test_next next) b now
+unread_test before None b now none = unread_apart b none
+unread_test before (Some next) b now none = none
 
 free_try : (address : ℕ) (next : Option ℕ) (word : Option Borrowed) → word ≡ None → IsFree (try_next address next) word
 free_try address None word none = tt
@@ -137,14 +131,11 @@ try_stands options before at s after m now parts lost long range none unread t k
 
 -- ---- behind a test
 
-abbrev TrueBy : (ℕ → Outcome → Type 0) → Word → Type 0
-TrueBy P word = P word.address (record { last = word.seen; failed = word.failed })
-
-zip_true : (P : ℕ → Outcome → Type 0) (addresses : List ℕ) (seen : List Outcome) → ((i : ℕ) (other : Outcome) → i < length seen → P (get_or addresses i 0) (get_or seen i other)) → All (TrueBy P) (words_of addresses seen)
-zip_true P [] seen h = All-nil (TrueBy P)
-zip_true P (address ∷ addresses) [] h = All-nil (TrueBy P)
+zip_true : (P : ℕ → Seen → Type 0) (addresses : List ℕ) (seen : List Seen) → ((i : ℕ) (other : Seen) → i < length seen → P (get_or addresses i 0) (get_or seen i other)) → All (λ (word : Word). P word.address word.seen) (words_of addresses seen)
+zip_true P [] seen h = All-nil (λ (word : Word). P word.address word.seen)
+zip_true P (address ∷ addresses) [] h = All-nil (λ (word : Word). P word.address word.seen)
 zip_true P (address ∷ addresses) (one ∷ seen) h =
-    All-cons (TrueBy P) (record { address = address; seen = one.last; failed = one.failed }) (words_of addresses seen) (h 0 one (omega arith))
+    All-cons (λ (word : Word). P word.address word.seen) (record { address = address; seen = one }) (words_of addresses seen) (h 0 one (omega arith))
     (zip_true P addresses seen (λ i other low. h (suc i) other (omega (arith, low))))
 
 remains_of : (before : List ℕ) (word : Option Borrowed) (now : List ℕ) → IsAsItWas before word now → Remains before word now
@@ -155,20 +146,15 @@ free_test : (next : Option ℕ) (word : Option Borrowed) → word ≡ None → I
 free_test None word none = tt
 free_test (Some next) word none = none
 
--- where a test ends between two words, none is borrowed
-abbrev IsUnborrowed : Stop End → Option Borrowed → Type 0
-IsUnborrowed (stop.Ended core.Complete) word = word ≡ None
-IsUnborrowed (stop.Ended (core.NoWord gap)) word = word ≡ None
-IsUnborrowed stopped word = ⊤
-
-stop_stands : (before : List ℕ) (to : ℕ) (s : Standing) (stopped : Stop End) (word : Option Borrowed) (now : Machine) → IsUnborrowed stopped word → Remains before word now.memory → s.borrowed ≡ None → IsReadyMachine now → AreTrue before s.words → s.bus.touches ≡ false → same_words s.bus ≡ [] →
+stop_stands : (before : List ℕ) (to : ℕ) (s : Standing) (stopped : Stop End) (word : Option Borrowed) (now : Machine) → Remains before word now.memory → s.borrowed ≡ None → IsReadyMachine now → AreTrue before s.words → s.bus.touches ≡ false → IsUnread s.bus →
     Stands before (by_stop to s stopped word) now
-stop_stands before to s (stop.Ended core.Complete) word now unlent is none ready words quiet apart = record { ready = ready; memory = is; words = words; free = tt; touches = quiet; at = apart }
-stop_stands before to s (stop.Ended (core.NoWord gap)) word now unlent is none ready words quiet apart =
-    record { ready = ready; memory = none_borrowed before s.borrowed now.memory none (same_then before word now.memory unlent is); words = words; free = free_test (next_bank gap to) s.borrowed none; touches = quiet; at = apart_test before (next_bank gap to) s.bus now.memory apart }
-stop_stands before to s (stop.Ended core.GaveUp) word now unlent is none ready words quiet apart = record { ready = ready; memory = is; words = words; free = tt; touches = quiet; at = apart }
-stop_stands before to s (stop.KeepFailed fault) word now unlent is none ready words quiet apart = record { ready = ready; memory = is; words = words; free = tt; touches = quiet; at = apart }
-stop_stands before to s (stop.CutOff cut) word now unlent is none ready words quiet apart = record { ready = ready; memory = is; words = words; free = tt; touches = quiet; at = apart }
+stop_stands before to s (stop.Ended core.Complete) word now is none ready words quiet unread = record { ready = ready; memory = is; words = words; free = tt; touches = quiet; at = unread_apart s.bus unread }
+stop_stands before to s (stop.Ended (core.NoWord gap)) None now is none ready words quiet unread =
+    record { ready = ready; memory = none_borrowed before s.borrowed now.memory none is; words = words; free = free_test (next_bank gap to) s.borrowed none; touches = quiet; at = unread_test before (next_bank gap to) s.bus now.memory unread }
+stop_stands before to s (stop.Ended (core.NoWord gap)) (Some word) now is none ready words quiet unread = record { ready = ready; memory = is; words = words; free = tt; touches = quiet; at = unread_apart s.bus unread }
+stop_stands before to s (stop.Ended core.GaveUp) word now is none ready words quiet unread = record { ready = ready; memory = is; words = words; free = tt; touches = quiet; at = unread_apart s.bus unread }
+stop_stands before to s (stop.KeepFailed fault) word now is none ready words quiet unread = record { ready = ready; memory = is; words = words; free = tt; touches = quiet; at = unread_apart s.bus unread }
+stop_stands before to s (stop.CutOff cut) word now is none ready words quiet unread = record { ready = ready; memory = is; words = words; free = tt; touches = quiet; at = unread_apart s.bus unread }
 
 -- what was tested is true, whatever the losses
 record HasTested (machine : List ℕ) (last : Tester) (now : List ℕ) : Type 0 where
@@ -181,99 +167,27 @@ tested_at (stop.CutOff TurnsOver) first last said m now lost never b may honest 
 tested_at (stop.CutOff (LineFailed fault)) first last said m now lost never b may honest = record { lost = lost + 1; is = b.0 m now lost may honest }
 tested_at (stop.KeepFailed fault) first last said m now lost never b may honest = absurd never
 
--- it is a tester that was led
-record IsLed (list : List ℕ) (last : Tester) : Type 0 where
-  pub tester : IsTester last
-  pub addresses : last.addresses ≡ list
-
-led_so : (addresses : List ℕ) (patience : ℕ) (last : Tester) (stopped : Stop End) (parts : List (List Item)) → patience < 2 ^ 32 → AreAddresses addresses → IsTestLed addresses patience last stopped parts → IsLed addresses last
-led_so addresses patience last stopped parts long asked l =
-    let first : Tester = begun_test addresses patience in
-    let same : last ≡ led first l.tested.heard = ap (λ t. t.core) l.tested.host ∙ led_is first l.tested.heard in
-    record {
-      tester = subst IsTester (sym same) (led_kept first l.tested.heard (begun_kept addresses patience asked long));
-      addresses = ap (λ (t : Tester). t.addresses) same ∙ led_addresses first l.tested.heard;
-    }
-
 -- a test leaves the machine ready, whatever it came to
-pub test_leaves : (addresses : List ℕ) (patience : ℕ) (last : Tester) (stopped : Stop End) (parts : List (List Item)) → patience < 2 ^ 32 → AreAddresses addresses → (l : IsTestLed addresses patience last stopped parts) → LeavesReady l.said
-test_leaves addresses patience last stopped parts long asked l =
-    let first : Tester = begun_test addresses patience in
-    let is : IsTester first = begun_kept addresses patience asked long in
+pub test_leaves : (options : MemoryOptions) (at : ℕ) (last : Tester) (stopped : Stop End) (parts : List (List Item)) → options.patience < 2 ^ 32 → 1 ≤ options.every → IsRange at options.to → (l : IsTestLed options at last stopped parts) → LeavesReady l.said
+test_leaves options at last stopped parts long some range l =
+    let first : Tester = begun_test (every_address at options.to options.every) options.patience in
+    let is : IsTester first = begun_kept (every_address at options.to options.every) options.patience (range_asked at options.to options.every range some) long in
     tests_in_a_row first l.tested.heard l.said is refl (subst (λ (items : List Item). IsToldOf (dialogue first l.tested.heard) items) (sym l.tested.on_line) (said_told stopped _ first l.tested.heard l.tested.said l.tested.given l.no_fault l.tested.done))
 
 -- what tested it tested these addresses
-pub test_asked : (addresses : List ℕ) (patience : ℕ) (last : Tester) (stopped : Stop End) (parts : List (List Item)) → patience < 2 ^ 32 → AreAddresses addresses → IsTestLed addresses patience last stopped parts → AreAddresses last.addresses
-test_asked addresses patience last stopped parts long asked l = subst AreAddresses (sym (led_so addresses patience last stopped parts long asked l).addresses) asked
+pub test_asked : (options : MemoryOptions) (at : ℕ) (last : Tester) (stopped : Stop End) (parts : List (List Item)) → options.patience < 2 ^ 32 → 1 ≤ options.every → IsRange at options.to → IsTestLed options at last stopped parts → AreAddresses last.addresses
+test_asked options at last stopped parts long some range l =
+    let first : Tester = begun_test (every_address at options.to options.every) options.patience in
+    let same : last ≡ led first l.tested.heard = ap (λ t. t.core) l.tested.host ∙ led_is first l.tested.heard in
+    subst AreAddresses (sym (ap (λ (t : Tester). t.addresses) same ∙ led_addresses first l.tested.heard)) (range_asked at options.to options.every range some)
 
--- a phase that is an end
-phase_of : (phase : Phase) (end : End) → ended phase ≡ Some end → phase ≡ Ended end
-phase_of (Ended end) other e = ap Ended (some_is e)
-  where
-    some_is : Some end ≡ Some other → end ≡ other
-    some_is same = cc same
-phase_of Settle end e = absurd (cc e)
-phase_of (Sync place) end e = absurd (cc e)
-phase_of (Address visit place) end e = absurd (cc e)
-phase_of (Slash visit) end e = absurd (cc e)
-phase_of (Before visit) end e = absurd (cc e)
-phase_of (Value visit value place) end e = absurd (cc e)
-phase_of (Deposit place) end e = absurd (cc e)
-phase_of (Return place) end e = absurd (cc e)
-phase_of (Close place) end e = absurd (cc e)
-
-end_fits : (t : Tester) (end : End) → IsTester t → ended t.phase ≡ Some end → EndFits end (basis_of t)
-end_fits t end is e = subst (λ phase. PhaseFits phase (basis_of t)) (phase_of t.phase end e) is.fits
-
-none_lent : (t : Tester) → t.stage ≡ Unseen → borrowed t ≡ None
-none_lent t is = ap (borrowed_at (address_under_way t)) is
-
-unborrowed : (t : Tester) (stopped : Stop End) → IsTester t → TellsEnd stopped (ended t.phase) → IsUnborrowed stopped (borrowed t)
-unborrowed t (stop.Ended core.Complete) is tells = none_lent t (end_fits t core.Complete is tells).1
-unborrowed t (stop.Ended (core.NoWord gap)) is tells = none_lent t (end_fits t (core.NoWord gap) is tells).2
-unborrowed t (stop.Ended core.GaveUp) is tells = tt
-unborrowed t (stop.KeepFailed fault) is tells = tt
-unborrowed t (stop.CutOff cut) is tells = tt
-
--- what a test over an honest line makes of memory, and what it read
-record TestIs (before : List ℕ) (list : List ℕ) (last : Tester) (stopped : Stop End) (now : Machine) : Type 0 where
-  pub ready : IsReadyMachine now
-  pub memory : Remains before (borrowed last) now.memory
-  pub unborrowed : IsUnborrowed stopped (borrowed last)
-  pub addresses : last.addresses ≡ list
-  pub words : (i : ℕ) (other : Outcome) → i < length last.seen → IsTrueOf before (get_or last.addresses i 0) (get_or last.seen i other)
-
-test_is : (before : List ℕ) (addresses : List ℕ) (patience : ℕ) (last : Tester) (stopped : Stop End) (m now : Machine) (parts : List (List Item)) (lost : ℕ) → patience < 2 ^ 32 → AreAddresses addresses →
-    IsTestLed addresses patience last stopped parts → IsReadyMachine m → m.memory ≡ before → AreHonest m parts lost now → TestIs before addresses last stopped now
-test_is before addresses patience last stopped m now parts lost long asked l ready earlier honest =
-    let first : Tester = begun_test addresses patience in
-    let is : IsTester first = begun_kept addresses patience asked long in
-    let one : IsOnePart m now l.said = one_part m now parts l.said lost l.part honest in
-    let may : MayTest first m = record { begun = refl; console = ready.console; stopped = ready.stopped } in
-    let tested : HasTested m.memory last now.memory =
-    tested_at stopped first last l.said m now one.lost l.no_fault (tested_believable most_turns stopped first last (Some []) (Some l.said) is l.tested l.said ([], refl, refl)) may one.honest in
-    let right : HasTested before last now.memory = subst (λ (memory : List ℕ). HasTested memory last now.memory) earlier tested in
-    let so : IsLed addresses last = led_so addresses patience last stopped parts long asked l in
-    record {
-      ready = (test_leaves addresses patience last stopped parts long asked l).ready m now one.lost ready one.honest;
-      memory = remains_of before (borrowed last) now.memory right.is.memory;
-      unborrowed = unborrowed last stopped so.tester l.end;
-      addresses = so.addresses;
-      words = right.is.words;
-    }
-
-test_stands : (options : MemoryOptions) (before : List ℕ) (at : ℕ) (s after : Standing) (m now : Machine) (parts : List (List Item)) (lost : ℕ) → options.patience < 2 ^ 32 → 1 ≤ options.every → IsRange at options.to → s.borrowed ≡ None → same_words s.bus ≡ [] →
-    IsTestStep options at s after parts → Stands before s m → AreHonest m parts lost now → Stands before after now
-test_stands options before at s after m now parts lost long some range none apart t k honest =
-    let addresses : List ℕ = every_address at options.to options.every in
-    let earlier : m.memory ≡ before = same_then before s.borrowed m.memory none k.memory in
-    let d : TestIs before addresses t.last t.stop now = test_is before addresses options.patience t.last t.stop m now parts lost long (range_asked at options.to options.every range some) t.test_led k.ready earlier honest in
-    let reached : Standing = record s { words = s.words ++ words_of t.last.addresses t.last.seen } in
-    subst (λ (x : Standing). Stands before x now) (sym t.after_is)
-    (stop_stands before options.to reached t.stop (borrowed t.last) now d.unborrowed d.memory none d.ready
-    (All-append (TrueBy (IsTrueOf before)) s.words (words_of t.last.addresses t.last.seen) k.words (zip_true (IsTrueOf before) t.last.addresses t.last.seen d.words)) k.touches apart)
-
--- ---- behind the test of a word by itself
+stop_bus : (to : ℕ) (s : Standing) (stopped : Stop End) (word : Option Borrowed) → (by_stop to s stopped word).bus ≡ s.bus
+stop_bus to s (stop.Ended core.Complete) word = refl
+stop_bus to s (stop.Ended (core.NoWord gap)) None = refl
+stop_bus to s (stop.Ended (core.NoWord gap)) (Some word) = refl
+stop_bus to s (stop.Ended core.GaveUp) word = refl
+stop_bus to s (stop.KeepFailed fault) word = refl
+stop_bus to s (stop.CutOff cut) word = refl
 
 -- what is true of a word that is lent
 record MayLend (before : List ℕ) (word : Borrowed) : Type 0 where
@@ -281,11 +195,14 @@ record MayLend (before : List ℕ) (word : Borrowed) : Type 0 where
   pub lies : is_word before word.address ≡ true
   pub old : word.old ≡ word_at before word.address
 
-may_lend : (before : List ℕ) (at : ℕ) (seen : List Outcome) → IsAddress at → ((i : ℕ) (other : Outcome) → i < length seen → IsTrueOf before (get_or (at ∷ []) i 0) (get_or seen i other)) → (word : Borrowed) → proved at seen ≡ Some word → MayLend before word
-may_lend before at [] is words word e = absurd (cc e)
-may_lend before at (one ∷ more) is words word e =
-    let here : IsTrueOf before at one = words 0 one (omega arith) in
-    subst (MayLend before) (sym (good_here at one.last one.failed word e)) (record { address = is; lies = here.lies; old = ap (λ (o : Outcome). old_in o.last) here.tested ∙ here.old })
+each_may : (before : List ℕ) (words : List Word) → AreTrue before words → AreWords words → All (λ (w : Word). MayLend before (record { address = w.address; old = old_in w.seen })) words
+each_may before [] held_all are = All-nil (λ (w : Word). MayLend before (record { address = w.address; old = old_in w.seen }))
+each_may before (word ∷ words) held_all are =
+    let held : Word → Type 0 = λ (w : Word). IsTrueOf before w.address w.seen in
+    let here : IsTrueOf before word.address word.seen = All-head held word words held_all in
+    All-cons (λ (w : Word). MayLend before (record { address = w.address; old = old_in w.seen })) word words
+    (record { address = All-head (λ (w : Word). IsAddress w.address) word words are; lies = here.lies; old = ap old_in here.tested ∙ here.old })
+    (each_may before words (All-tail held word words held_all) (All-tail (λ (w : Word). IsAddress w.address) word words are))
 
 lent_first : (before : List ℕ) (word : Borrowed) (now : List ℕ) → MayLend before word → now ≡ before → IsLent before word now
 lent_first before word now may same = record {
@@ -296,41 +213,59 @@ lent_first before word now may same = record {
   memory = same ∙ sym (stored_own before word.address);
 }
 
-begins_stands : (before : List ℕ) (s : Standing) (at : ℕ) (found : Option Borrowed) (now : Machine) → ((word : Borrowed) → found ≡ Some word → MayLend before word) → s.borrowed ≡ None → IsReadyMachine now → now.memory ≡ before → AreTrue before s.words → s.bus.touches ≡ false →
-    IsUnread s.bus → Stands before (bus_begins s at found) now
-begins_stands before s at None now may none ready same words quiet unread =
-    record { ready = ready; memory = none_borrowed before s.borrowed now.memory none same; words = words; free = none; touches = quiet; at = unread_apart s.bus unread }
-begins_stands before s at (Some word) now may none ready same words quiet unread = record {
-  ready = ready;
-  memory = none_borrowed before s.borrowed now.memory none same;
-  words = words;
-  free = tt;
-  touches = quiet;
-  at = (lent_first before word now.memory (may word refl) same, unread_marks before word (record s.bus { at = Some at }) unread);
-}
+bus_stands : (before : List ℕ) (every : ℕ) (s : Standing) (now : Machine) → AreWords s.words → IsUnread s.bus → Stands before s now → Stands before (then_bus every s) now
+bus_stands before every s now are unread k = by s.place s.borrowed (first_good s.words) refl refl (first_good_has (MayLend before) s.words (each_may before s.words k.words are))
+  where
+    by : (place : Place) (word found : Option Borrowed) → s.place ≡ place → s.borrowed ≡ word → ((w : Borrowed) → found ≡ Some w → MayLend before w) → Stands before (bus_begins every s place word found) now
+    by (Over test.Tested) None (Some w) there none may = begun_at (every == 1)
+      where
+        same : now.memory ≡ before
+        same = same_then before s.borrowed now.memory none k.memory
 
-no_lend : (before : List ℕ) (word : Borrowed) → None ≡ Some word → MayLend before word
-no_lend before word e = absurd (cc e)
+        begun_at : (each : Bool) → Stands before (if each then record s { bus = record s.bus { at = Some w.address }; place = Marking w 0 } else s) now
+        begun_at true = record {
+          ready = k.ready;
+          memory = k.memory;
+          words = k.words;
+          free = tt;
+          touches = k.touches;
+          at = (lent_first before w now.memory (may w refl) same, unread_marks before w (record s.bus { at = Some w.address }) unread);
+        }
+        begun_at false = k
+    by (Over test.Tested) None None there none may = k
+    by (Over test.Tested) (Some other) found there none may = k
+    by (Over test.NotTrusted) word found there none may = k
+    by (Over (test.NoWord address)) word found there none may = k
+    by (Over test.GaveUp) word found there none may = k
+    by (Over (test.CutOff cut)) word found there none may = k
+    by (Trying address) word found there none may = k
+    by (Testing address) word found there none may = k
+    by (Marking w place) word found there none may = k
+    by (Looking w first) word found there none may = k
+    by (PuttingBack w) word found there none may = k
+    by (LookingAgain w first) word found there none may = k
 
-by_proof_stands : (before : List ℕ) (s : Standing) (at : ℕ) (stopped : Stop End) (lent found : Option Borrowed) (now : Machine) → ((word : Borrowed) → found ≡ Some word → MayLend before word) → IsUnborrowed stopped lent → Remains before lent now.memory → s.borrowed ≡ None →
-    IsReadyMachine now → AreTrue before s.words → s.bus.touches ≡ false → IsUnread s.bus → Stands before (by_proof s at stopped lent found) now
-by_proof_stands before s at (stop.Ended core.Complete) lent found now may unlent is none ready words quiet unread =
-    begins_stands before s at found now may none ready (same_then before lent now.memory unlent is) words quiet unread
-by_proof_stands before s at (stop.Ended (core.NoWord gap)) lent found now may unlent is none ready words quiet unread =
-    begins_stands before s at None now (no_lend before) none ready (same_then before lent now.memory unlent is) words quiet unread
-by_proof_stands before s at (stop.Ended core.GaveUp) lent found now may unlent is none ready words quiet unread = record { ready = ready; memory = is; words = words; free = tt; touches = quiet; at = unread_apart s.bus unread }
-by_proof_stands before s at (stop.KeepFailed fault) lent found now may unlent is none ready words quiet unread = record { ready = ready; memory = is; words = words; free = tt; touches = quiet; at = unread_apart s.bus unread }
-by_proof_stands before s at (stop.CutOff cut) lent found now may unlent is none ready words quiet unread = record { ready = ready; memory = is; words = words; free = tt; touches = quiet; at = unread_apart s.bus unread }
-
-proof_stands : (options : MemoryOptions) (before : List ℕ) (at : ℕ) (s after : Standing) (m now : Machine) (parts : List (List Item)) (lost : ℕ) → options.patience < 2 ^ 32 → IsAddress at → s.borrowed ≡ None → IsUnread s.bus →
-    IsProofStep options at s after parts → Stands before s m → AreHonest m parts lost now → Stands before after now
-proof_stands options before at s after m now parts lost long is none unread t k honest =
+test_stands : (options : MemoryOptions) (before : List ℕ) (at : ℕ) (s after : Standing) (m now : Machine) (parts : List (List Item)) (lost : ℕ) → options.patience < 2 ^ 32 → 1 ≤ options.every → IsRange at options.to → s.borrowed ≡ None → IsUnread s.bus → AreWords s.words →
+    IsTestStep options at s after parts → Stands before s m → AreHonest m parts lost now → Stands before after now
+test_stands options before at s after m now parts lost long some range none unread are t k honest =
+    let l : IsTestLed options at t.last t.stop parts = t.test_led in
+    let first : Tester = begun_test (every_address at options.to options.every) options.patience in
+    let is : IsTester first = begun_kept (every_address at options.to options.every) options.patience (range_asked at options.to options.every range some) long in
+    let one : IsOnePart m now l.said = one_part m now parts l.said lost l.part honest in
     let earlier : m.memory ≡ before = same_then before s.borrowed m.memory none k.memory in
-    let d : TestIs before (at ∷ []) t.last t.stop now = test_is before (at ∷ []) options.patience t.last t.stop m now parts lost long (one_address at is) t.test_led k.ready earlier honest in
-    let words : (i : ℕ) (other : Outcome) → i < length t.last.seen → IsTrueOf before (get_or (at ∷ []) i 0) (get_or t.last.seen i other) =
-    subst (λ (addresses : List ℕ). (i : ℕ) (other : Outcome) → i < length t.last.seen → IsTrueOf before (get_or addresses i 0) (get_or t.last.seen i other)) d.addresses d.words in
+    let may : MayTest first m = record { begun = refl; console = k.ready.console; stopped = k.ready.stopped } in
+    let tested : HasTested m.memory t.last now.memory =
+    tested_at t.stop first t.last l.said m now one.lost l.no_fault (tested_believable most_turns t.stop first t.last (Some []) (Some l.said) is l.tested l.said ([], refl, refl)) may one.honest in
+    let right : HasTested before t.last now.memory = subst (λ (memory : List ℕ). HasTested memory t.last now.memory) earlier tested in
+    let reached : Standing = record s { words = s.words ++ words_of t.last.addresses t.last.seen } in
+    let stands : Stands before (behind_test options.to s t.last t.stop) now =
+    stop_stands before options.to reached t.stop (borrowed t.last) now (remains_of before (borrowed t.last) now.memory right.is.memory) none
+    ((test_leaves options at t.last t.stop parts long some range l).ready m now one.lost k.ready one.honest)
+    (All-append (λ (word : Word). IsTrueOf before word.address word.seen) s.words (words_of t.last.addresses t.last.seen) k.words (zip_true (IsTrueOf before) t.last.addresses t.last.seen right.is.words)) k.touches unread in
     subst (λ (x : Standing). Stands before x now) (sym t.after_is)
-    (by_proof_stands before s at t.stop (borrowed t.last) (proved at t.last.seen) now (may_lend before at t.last.seen is words) d.unborrowed d.memory none d.ready k.words k.touches unread)
+    (bus_stands before options.every (behind_test options.to s t.last t.stop) now
+    (test_words options.to s t.last t.stop are (test_asked options at t.last t.stop parts long some range l))
+    (subst IsUnread (sym (stop_bus options.to reached t.stop (borrowed t.last))) unread) stands)
 
 -- ---- behind a deposit
 
@@ -400,8 +335,8 @@ again_at before word b now [] is same marks = marks_apart before word b marks
 again_at before word b now (a ∷ marked) is same marks = (same, marks)
 
 again_free : (word : Borrowed) (marked : List ℕ) → IsFree (put_back_next word marked) None
-again_free word [] = refl
-again_free word (a ∷ marked) = refl
+again_free word [] = tt
+again_free word (a ∷ marked) = tt
 
 put_back_stops : (before : List ℕ) (s : Standing) (word : Borrowed) (stopped : LoadStop) (now : Machine) → ((a : ℕ) → stopped ≡ stop.Ended (loaded.WontHold a) → ⊥) → (is_loaded stopped ≡ true → word_at now.memory word.address ≡ word.old) →
     Lends before s word now → Stands before (behind_put_back s word stopped) now
@@ -508,31 +443,31 @@ again_on : (before : List ℕ) (word : Borrowed) (b : BusFound) (now : List ℕ)
 again_on before word b now (Some next) same marks = (same, marks)
 again_on before word b now None same marks = marks_apart before word b marks
 
-free_again : (word : Borrowed) (next : Option ℕ) (other : Option Borrowed) → other ≡ None → IsFree (again_from word next) other
-free_again word (Some next) other none = none
-free_again word None other none = none
+free_again : (word : Borrowed) (next : Option ℕ) (other : Option Borrowed) → IsFree (again_from word next) other
+free_again word (Some next) other = tt
+free_again word None other = tt
 
-second_look_stops : (before : List ℕ) (s : Standing) (word : Borrowed) (stopped : LookStop) (now : Machine) → s.borrowed ≡ None → Remains before s.borrowed now.memory → Again before s word now → Stands before (by_second_look s word stopped) now
-second_look_stops before s word (Ok looked_end.Complete) now none is a = record { ready = a.ready; memory = a.same; words = a.words; free = refl; touches = a.touches; at = marks_apart before word s.bus a.marks }
-second_look_stops before s word (Ok (looked_end.NoWord gap)) now none is a = record {
+second_look_stops : (before : List ℕ) (s : Standing) (word : Borrowed) (stopped : LookStop) (now : Machine) → Remains before s.borrowed now.memory → Again before s word now → Stands before (by_second_look s word stopped) now
+second_look_stops before s word (Ok looked_end.Complete) now is a = again_ended before s word test.Tested now a
+second_look_stops before s word (Ok (looked_end.NoWord gap)) now is a = record {
   ready = a.ready;
   memory = is;
   words = a.words;
-  free = free_again word (in_bus gap) s.borrowed none;
+  free = free_again word (in_bus gap) s.borrowed;
   touches = a.touches;
   at = again_on before word s.bus now.memory (in_bus gap) a.same a.marks;
 }
-second_look_stops before s word (Ok looked_end.GaveUp) now none is a = again_ended before s word test.GaveUp now a
-second_look_stops before s word (Err cut) now none is a = again_ended before s word (test.CutOff cut) now a
+second_look_stops before s word (Ok looked_end.GaveUp) now is a = again_ended before s word test.GaveUp now a
+second_look_stops before s word (Err cut) now is a = again_ended before s word (test.CutOff cut) now a
 
-second_look_stands : (options : MemoryOptions) (before : List ℕ) (word : Borrowed) (first : ℕ) (s after : Standing) (m now : Machine) (parts : List (List Item)) (lost : ℕ) → options.patience < 2 ^ 32 → IsAddress first → s.borrowed ≡ None → Remains before s.borrowed m.memory → Again before s word m →
+second_look_stands : (options : MemoryOptions) (before : List ℕ) (word : Borrowed) (first : ℕ) (s after : Standing) (m now : Machine) (parts : List (List Item)) (lost : ℕ) → options.patience < 2 ^ 32 → IsAddress first → Remains before s.borrowed m.memory → Again before s word m →
     IsLookAgainStep options word first s after parts → AreHonest m parts lost now → Stands before after now
-second_look_stands options before word first s after m now parts lost long is none remains a t honest =
+second_look_stands options before word first s after m now parts lost long is remains a t honest =
     let one : IsOnePart m now t.look_led.said = one_part m now parts t.look_led.said lost t.look_led.part honest in
     let d : Looked m now word.address first t.last = looked options word.address first t.last t.stop parts m now one.lost long is t.look_led a.ready one.honest in
     let found : List ℕ = reading word.old t.last.addresses t.last.values in
     subst (λ (x : Standing). Stands before x now) (sym t.after_is)
-    (second_look_stops before (with_returned s word t.last) word t.stop now none (subst (Remains before s.borrowed) (sym d.memory) remains) (record {
+    (second_look_stops before (with_returned s word t.last) word t.stop now (subst (Remains before s.borrowed) (sym d.memory) remains) (record {
       ready = d.ready;
       words = a.words;
       touches = a.touches;
@@ -570,25 +505,17 @@ step_stands options before (Trying at) s after m now parts lost long asked is t 
       within = subst (λ (x : Standing). IsWithin options.to x.place) (sym t.after_is) (trial_within options.to s t.f (subst (λ n. IsRange n options.to) (sym t.tried.address) range));
       are = subst AreWords (sym (ap (λ (x : Standing). x.words) t.after_is ∙ trial_words options.to s t.f)) k.are;
     }
-step_stands options before (Proving at) s after m now parts lost long asked is t k honest =
-    let range : IsRange at options.to = subst (IsWithin options.to) is k.within in
-    let none : s.borrowed ≡ None = subst (λ (place : Place). IsFree place s.borrowed) is k.stands.free in
-    let unread : IsUnread s.bus = subst (λ (place : Place). AtPlace before place s.bus m.memory) is k.stands.at in
-    record {
-      stands = proof_stands options before at s after m now parts lost long range.from_is none unread t k.stands honest;
-      within = subst (λ (x : Standing). IsWithin options.to x.place) (sym t.after_is) (proof_within options.to at s t.last t.stop range);
-      are = subst AreWords (sym (ap (λ (x : Standing). x.words) t.after_is ∙ proof_words at s t.last t.stop)) k.are;
-    }
 step_stands options before (Testing at) s after m now parts lost long asked is t k honest =
     let range : IsRange at options.to = subst (IsWithin options.to) is k.within in
     let none : s.borrowed ≡ None = subst (λ (place : Place). IsFree place s.borrowed) is k.stands.free in
-    let apart : same_words s.bus ≡ [] = subst (λ (place : Place). AtPlace before place s.bus m.memory) is k.stands.at in
-    let addresses : List ℕ = every_address at options.to options.every in
-    let asked_for : AreAddresses t.last.addresses = test_asked addresses options.patience t.last t.stop parts long (range_asked at options.to options.every range asked.some) t.test_led in
+    let unread : IsUnread s.bus = subst (λ (place : Place). AtPlace before place s.bus m.memory) is k.stands.at in
+    let asked_for : AreAddresses t.last.addresses = test_asked options at t.last t.stop parts long asked.some range t.test_led in
+    let reached : AreWords (behind_test options.to s t.last t.stop).words = test_words options.to s t.last t.stop k.are asked_for in
     record {
-      stands = test_stands options before at s after m now parts lost long asked.some range none apart t k.stands honest;
-      within = subst (λ (x : Standing). IsWithin options.to x.place) (sym t.after_is) (test_within options.to s t.last t.stop range.to_is);
-      are = subst (λ (x : Standing). AreWords x.words) (sym t.after_is) (test_words options.to s t.last t.stop k.are asked_for);
+      stands = test_stands options before at s after m now parts lost long asked.some range none unread k.are t k.stands honest;
+      within = subst (λ (x : Standing). IsWithin options.to x.place) (sym t.after_is)
+          (then_within options.to options.every (behind_test options.to s t.last t.stop) reached (test_within options.to s t.last t.stop range.to_is));
+      are = subst (λ (x : Standing). AreWords x.words) (sym t.after_is) (then_are options.every (behind_test options.to s t.last t.stop) reached);
     }
 step_stands options before (Marking word place) s after m now parts lost long asked is (inr t) k honest =
     named_within options before word s after m now parts lost (subst (λ (place : Place). AtPlace before place s.bus m.memory) is k.stands.at) t k honest
@@ -614,17 +541,15 @@ step_stands options before (PuttingBack word) s after m now parts lost long aske
     let at = subst (λ (place : Place). AtPlace before place s.bus m.memory) is k.stands.at in
     record {
       stands = put_back_stands options before word s after m now parts lost (record { ready = k.stands.ready; words = k.stands.words; touches = k.stands.touches; lent = at.0; marks = at.1 }) t honest;
-      within = subst (λ (x : Standing). IsWithin options.to x.place) (sym t.after_is) (put_back_within options.to s word t.stop (subst (IsWithin options.to) is k.within));
+      within = subst (λ (x : Standing). IsWithin options.to x.place) (sym t.after_is) (put_back_within options.to s word t.stop);
       are = subst AreWords (sym (ap (λ (x : Standing). x.words) t.after_is ∙ put_back_words s word t.stop)) k.are;
     }
 step_stands options before (LookingAgain word first) s after m now parts lost long asked is t k honest =
     let at = subst (λ (place : Place). AtPlace before place s.bus m.memory) is k.stands.at in
-    let within = subst (IsWithin options.to) is k.within in
-    let none : s.borrowed ≡ None = subst (λ (place : Place). IsFree place s.borrowed) is k.stands.free in
     record {
-      stands = second_look_stands options before word first s after m now parts lost long within.1 none k.stands.memory
+      stands = second_look_stands options before word first s after m now parts lost long (subst (IsWithin options.to) is k.within) k.stands.memory
           (record { ready = k.stands.ready; words = k.stands.words; touches = k.stands.touches; same = at.0; marks = at.1 }) t honest;
-      within = subst (λ (x : Standing). IsWithin options.to x.place) (sym t.after_is) (second_look_within options.to s word t.last t.stop within.0);
+      within = subst (λ (x : Standing). IsWithin options.to x.place) (sym t.after_is) (second_look_within options.to s word t.last t.stop);
       are = subst AreWords (sym (ap (λ (x : Standing). x.words) t.after_is ∙ second_look_words s word t.last t.stop)) k.are;
     }
 step_stands options before (Over end) s after m now parts lost long asked is t k honest =
@@ -644,7 +569,7 @@ steps_stand (suc n) options first last machine now parts lost long asked k (betw
 pub believes : (options : MemoryOptions) (last : Standing) (parts : List (List Item)) → options.patience < 2 ^ 32 → IsAsked options → IsRow options (begun options.from) last parts → AreBelievable last parts
 believes options last parts long asked row machine now lost ready honest =
     let k : StandsWithin options machine.memory (begun options.from) machine = record {
-      stands = record { ready = ready; memory = refl; words = All-nil (TrueBy (IsTrueOf machine.memory)); free = refl; touches = refl; at = (refl, refl) };
+      stands = record { ready = ready; memory = refl; words = All-nil (λ (word : Word). IsTrueOf machine.memory word.address word.seen); free = refl; touches = refl; at = (refl, refl) };
       within = asked.range;
       are = All-nil (λ (word : Word). IsAddress word.address);
     } in
@@ -653,8 +578,7 @@ believes options last parts long asked row machine now lost ready honest =
   where
     sound : (place : Place) (b : BusFound) (memory : List ℕ) → AtPlace machine.memory place b memory → same_words b ≡ []
     sound (Trying address) b memory at = unread_apart b at
-    sound (Proving address) b memory at = unread_apart b at
-    sound (Testing address) b memory at = at
+    sound (Testing address) b memory at = unread_apart b at
     sound (Marking word place) b memory at = marks_apart machine.memory word b at.1
     sound (Looking word first) b memory at = marks_apart machine.memory word b at.1
     sound (PuttingBack word) b memory at = marks_apart machine.memory word b at.1

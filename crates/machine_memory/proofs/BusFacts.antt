@@ -27,7 +27,7 @@ use Rattle.memory_core.specs.declared.stage.Borrowed.{Borrowed}
 use Rattle.memory_report.specs.Bus.{BusFound, is_same, same_words}
 use Rattle.machine_probe.proofs.Believed.{told_look}
 use Rattle.machine_memory.specs.declared.course.Place.{Place}
-use Rattle.machine_memory.specs.declared.course.Place.TheVariants.{Trying, Proving, Testing, Marking, Looking, PuttingBack, LookingAgain, Over}
+use Rattle.machine_memory.specs.declared.course.Place.TheVariants.{Trying, Testing, Marking, Looking, PuttingBack, LookingAgain, Over}
 use Rattle.machine_memory.specs.declared.memory_options.MemoryOptions.{MemoryOptions}
 use Rattle.machine_memory.specs.Bus.{is_neighbour, mark, neighbours, reading}
 use Rattle.machine_memory.specs.BusRuns.{IsLookLed}
@@ -54,8 +54,7 @@ IsUnread b = (b.marked ≡ []) × (b.returned ≡ [])
 
 abbrev pub AtPlace : List ℕ → Place → BusFound → List ℕ → Type 0
 AtPlace before (Trying address) b now = IsUnread b
-AtPlace before (Proving address) b now = IsUnread b
-AtPlace before (Testing address) b now = same_words b ≡ []
+AtPlace before (Testing address) b now = IsUnread b
 AtPlace before (Marking word place) b now = IsLent before word now × AreMarks before word b
 AtPlace before (Looking word first) b now = IsLent before word now × AreMarks before word b
 AtPlace before (PuttingBack word) b now = IsLent before word now × AreMarks before word b

@@ -1,6 +1,7 @@
 -- What one host of a test of a bus makes of the line.
 use Rattle.std.proofs.Common.{◌≡◌, ℕ, ◌+◌, ◌*◌, ◌/◌, ◌<◌, Bool, true, false, nat_lt, if◌then◌else◌, List, [], ◌∷◌, ◌++◌, Option, Some, None, Ok, Err, refl, arith, sym, subst, inl, inr, append-nil}
-use Rattle.std.specs.Prelude.{All}
+use Rattle.std.specs.Prelude.{◌==◌, All}
+use Rattle.std.specs.List.{fold}
 use Rattle.std.proofs.lemmas.List.Elements.{All-append, All-cons, All-head, All-nil, All-tail}
 use Rattle.std.proofs.lemmas.Bool.Decides.{nat_tests}
 use Rattle.host_core.specs.Core.{Core, begun as begun_load, ended as load_ended}
@@ -17,22 +18,26 @@ use Rattle.load_engine.specs.Driving.{LoadSession, LoadStop, driving}
 use Rattle.looking_engine.specs.Inquired.{Inquired, inquiry}
 use Rattle.looking_engine.specs.Stopping.{LookStop, TellsEnd as TellsLookEnd}
 use Rattle.reading_core.specs.declared.phase.End.TheVariants as looked
-use Rattle.reading_core.specs.Addresses.{AreAddresses, IsAddress, IsRange}
+use Rattle.reading_core.specs.Addresses.{AreAddresses, IsAddress}
 use Rattle.reading_core.specs.Reader.{Reader, begun, ended}
 use Rattle.engine.specs.declared.stop.Stop.{Stop}
 use Rattle.memory_core.specs.declared.phase.End.{End}
 use Rattle.memory_core.specs.declared.phase.End.TheVariants as core
-use Rattle.memory_core.specs.declared.seen.Outcome.{Outcome}
+use Rattle.memory_core.specs.declared.seen.Seen.{Seen}
+use Rattle.memory_core.specs.Seen.{old_in}
 use Rattle.memory_core.specs.declared.stage.Borrowed.{Borrowed}
 use Rattle.memory_core.specs.Tester.{Tester, borrowed}
 use Rattle.memory_report.specs.declared.findings.Word.{Word}
+use Rattle.memory_report.specs.declared.test_end.TestEnd.TheVariants as test
+use Rattle.memory_report.specs.Words.{is_bad}
 use Rattle.machine_probe.specs.PuttingBack.{IsDeposit}
 use Rattle.machine_probe.specs.declared.putting_back.Deposit.{Deposit}
 use Rattle.machine_probe.specs.Runs.{OnLine}
-use Rattle.machine_memory.specs.declared.course.Place.TheVariants.{Marking, Looking}
+use Rattle.machine_memory.specs.declared.course.Place.{Place}
+use Rattle.machine_memory.specs.declared.course.Place.TheVariants.{Trying, Testing, Marking, Looking, PuttingBack, LookingAgain, Over}
 use Rattle.machine_memory.specs.declared.memory_options.MemoryOptions.{MemoryOptions}
 use Rattle.machine_memory.specs.Bus.{neighbours, number_at}
-use Rattle.machine_memory.specs.BusCourse.{again_from, behind_look, behind_mark, behind_put_back, behind_second_look, in_bus, on_from, put_back_next, stopped_load, wont_stand}
+use Rattle.machine_memory.specs.BusCourse.{again_from, behind_look, behind_mark, behind_put_back, behind_second_look, bus_begins, first_good, good_also, in_bus, on_from, put_back_next, stopped_load, then_bus}
 use Rattle.machine_memory.specs.BusRuns.{HasBack, IsDepositLed, IsLookAgainStep, IsLookLed, IsLookStep, IsMarkStep, IsNamedStep, IsPutBackStep, IsReady, IsRestored, IsUnlent}
 use Rattle.machine_memory.specs.Course.{AreWords, IsWithin, Standing, behind_test, by_stop}
 use Rattle.machine_memory.specs.Words.{words_of}
@@ -152,17 +157,13 @@ no_deposit line line' none = record { parts = []; are = refl; on_line = gains_ke
 
 -- ---- what comes next lies within what was asked for
 
-next_mark_within : (to place : ℕ) (word : Borrowed) (more : Bool) → IsRange word.address to → IsWithin to (if more then Marking word (place + 1) else Looking word 0)
+next_mark_within : (to place : ℕ) (word : Borrowed) (more : Bool) → IsAddress word.address → IsWithin to (if more then Marking word (place + 1) else Looking word 0)
 next_mark_within to place word true is = is
 next_mark_within to place word false is = (is, record { even = refl; below = omega arith })
 
-wont_within : (to place : ℕ) (s : Standing) (word : Borrowed) (twice : Bool) → IsRange word.address to → IsWithin to (wont_stand s word place twice).place
-wont_within to place s word true is = is
-wont_within to place s word false is = is
-
-pub mark_within : (to place : ℕ) (s : Standing) (word : Borrowed) (stop : LoadStop) → IsRange word.address to → IsWithin to (behind_mark s word place stop).place
+pub mark_within : (to place : ℕ) (s : Standing) (word : Borrowed) (stop : LoadStop) → IsAddress word.address → IsWithin to (behind_mark s word place stop).place
 mark_within to place s word (load.Ended loaded.Loaded) is = next_mark_within to place word (nat_lt place 3) is
-mark_within to place s word (load.Ended (loaded.WontHold address)) is = wont_within to place s word s.bus.doubted is
+mark_within to place s word (load.Ended (loaded.WontHold address)) is = is
 mark_within to place s word (load.Ended (loaded.NoWord address)) is = tt
 mark_within to place s word (load.Ended loaded.Started) is = tt
 mark_within to place s word (load.Ended loaded.Uncertain) is = tt
@@ -171,13 +172,9 @@ mark_within to place s word (load.Ended loaded.GaveUp) is = tt
 mark_within to place s word (load.KeepFailed fault) is = tt
 mark_within to place s word (load.CutOff cut) is = tt
 
-wont_words : (place : ℕ) (s : Standing) (word : Borrowed) (twice : Bool) → (wont_stand s word place twice).words ≡ s.words
-wont_words place s word true = refl
-wont_words place s word false = refl
-
 pub mark_words : (place : ℕ) (s : Standing) (word : Borrowed) (stop : LoadStop) → (behind_mark s word place stop).words ≡ s.words
 mark_words place s word (load.Ended loaded.Loaded) = refl
-mark_words place s word (load.Ended (loaded.WontHold address)) = wont_words place s word s.bus.doubted
+mark_words place s word (load.Ended (loaded.WontHold address)) = refl
 mark_words place s word (load.Ended (loaded.NoWord address)) = refl
 mark_words place s word (load.Ended loaded.Started) = refl
 mark_words place s word (load.Ended loaded.Uncertain) = refl
@@ -186,20 +183,20 @@ mark_words place s word (load.Ended loaded.GaveUp) = refl
 mark_words place s word (load.KeepFailed fault) = refl
 mark_words place s word (load.CutOff cut) = refl
 
-put_back_next_within : (to : ℕ) (word : Borrowed) (marked : List ℕ) → IsRange word.address to → IsWithin to (put_back_next word marked)
-put_back_next_within to word [] is = is
-put_back_next_within to word (address ∷ marked) is = (is, record { even = refl; below = omega arith })
+put_back_next_within : (to : ℕ) (word : Borrowed) (marked : List ℕ) → IsWithin to (put_back_next word marked)
+put_back_next_within to word [] = tt
+put_back_next_within to word (address ∷ marked) = record { even = refl; below = omega arith }
 
-pub put_back_within : (to : ℕ) (s : Standing) (word : Borrowed) (stop : LoadStop) → IsRange word.address to → IsWithin to (behind_put_back s word stop).place
-put_back_within to s word (load.Ended loaded.Loaded) is = put_back_next_within to word s.bus.marked is
-put_back_within to s word (load.Ended (loaded.WontHold address)) is = tt
-put_back_within to s word (load.Ended (loaded.NoWord address)) is = tt
-put_back_within to s word (load.Ended loaded.Started) is = tt
-put_back_within to s word (load.Ended loaded.Uncertain) is = tt
-put_back_within to s word (load.Ended loaded.MaybeStarted) is = tt
-put_back_within to s word (load.Ended loaded.GaveUp) is = tt
-put_back_within to s word (load.KeepFailed fault) is = tt
-put_back_within to s word (load.CutOff cut) is = tt
+pub put_back_within : (to : ℕ) (s : Standing) (word : Borrowed) (stop : LoadStop) → IsWithin to (behind_put_back s word stop).place
+put_back_within to s word (load.Ended loaded.Loaded) = put_back_next_within to word s.bus.marked
+put_back_within to s word (load.Ended (loaded.WontHold address)) = tt
+put_back_within to s word (load.Ended (loaded.NoWord address)) = tt
+put_back_within to s word (load.Ended loaded.Started) = tt
+put_back_within to s word (load.Ended loaded.Uncertain) = tt
+put_back_within to s word (load.Ended loaded.MaybeStarted) = tt
+put_back_within to s word (load.Ended loaded.GaveUp) = tt
+put_back_within to s word (load.KeepFailed fault) = tt
+put_back_within to s word (load.CutOff cut) = tt
 
 pub stopped_within : (to : ℕ) (s : Standing) (word : Borrowed) (stop : LoadStop) → IsWithin to (stopped_load s word stop).place
 stopped_within to s word (load.Ended loaded.Loaded) = tt
@@ -239,13 +236,9 @@ next_mark_ready : (options : MemoryOptions) (place : ℕ) (word : Borrowed) (bac
 next_mark_ready options place word back true has = has
 next_mark_ready options place word back false has = has
 
-wont_ready : (options : MemoryOptions) (place : ℕ) (s : Standing) (word : Borrowed) (back : Option Deposit) (twice : Bool) → HasBack options word back → IsReady options (wont_stand s word place twice).place back
-wont_ready options place s word back true has = has
-wont_ready options place s word back false has = has
-
 pub mark_ready : (options : MemoryOptions) (place : ℕ) (s : Standing) (word : Borrowed) (stop : LoadStop) (back : Option Deposit) → HasBack options word back → IsReady options (behind_mark s word place stop).place back
 mark_ready options place s word (load.Ended loaded.Loaded) back has = next_mark_ready options place word back (nat_lt place 3) has
-mark_ready options place s word (load.Ended (loaded.WontHold address)) back has = wont_ready options place s word back s.bus.doubted has
+mark_ready options place s word (load.Ended (loaded.WontHold address)) back has = has
 mark_ready options place s word (load.Ended (loaded.NoWord address)) back has = tt
 mark_ready options place s word (load.Ended loaded.Started) back has = tt
 mark_ready options place s word (load.Ended loaded.Uncertain) back has = tt
@@ -306,15 +299,15 @@ next_is gap low = record { even = omega arith; below = below gap low }
     below : (gap : ℕ) → nat_lt gap 0o157776 ≡ true → gap / 2 * 2 + 2 < 0o160000
     below gap low = grind (arith, nat_tests)
 
-look_on_within : (to gap : ℕ) (word : Borrowed) (more : Bool) → nat_lt gap 0o157776 ≡ more → IsRange word.address to → IsWithin to (on_from word (if more then Some (gap / 2 * 2 + 2) else None))
+look_on_within : (to gap : ℕ) (word : Borrowed) (more : Bool) → nat_lt gap 0o157776 ≡ more → IsAddress word.address → IsWithin to (on_from word (if more then Some (gap / 2 * 2 + 2) else None))
 look_on_within to gap word true low is = (is, next_is gap low)
 look_on_within to gap word false high is = is
 
-again_within : (to gap : ℕ) (word : Borrowed) (more : Bool) → nat_lt gap 0o157776 ≡ more → IsRange word.address to → IsWithin to (again_from word (if more then Some (gap / 2 * 2 + 2) else None))
-again_within to gap word true low is = (is, next_is gap low)
-again_within to gap word false high is = is
+again_within : (to gap : ℕ) (word : Borrowed) (more : Bool) → nat_lt gap 0o157776 ≡ more → IsWithin to (again_from word (if more then Some (gap / 2 * 2 + 2) else None))
+again_within to gap word true low = next_is gap low
+again_within to gap word false high = tt
 
-pub look_within : (to : ℕ) (s : Standing) (word : Borrowed) (r : Reader) (stop : LookStop) → IsRange word.address to → IsWithin to (behind_look s word r stop).place
+pub look_within : (to : ℕ) (s : Standing) (word : Borrowed) (r : Reader) (stop : LookStop) → IsAddress word.address → IsWithin to (behind_look s word r stop).place
 look_within to s word r (Ok looked.Complete) is = is
 look_within to s word r (Ok (looked.NoWord gap)) is = look_on_within to gap word (nat_lt gap 0o157776) refl is
 look_within to s word r (Ok looked.GaveUp) is = tt
@@ -326,11 +319,11 @@ look_words s word r (Ok (looked.NoWord gap)) = refl
 look_words s word r (Ok looked.GaveUp) = refl
 look_words s word r (Err cut) = refl
 
-pub second_look_within : (to : ℕ) (s : Standing) (word : Borrowed) (r : Reader) (stop : LookStop) → IsRange word.address to → IsWithin to (behind_second_look s word r stop).place
-second_look_within to s word r (Ok looked.Complete) is = is
-second_look_within to s word r (Ok (looked.NoWord gap)) is = again_within to gap word (nat_lt gap 0o157776) refl is
-second_look_within to s word r (Ok looked.GaveUp) is = tt
-second_look_within to s word r (Err cut) is = tt
+pub second_look_within : (to : ℕ) (s : Standing) (word : Borrowed) (r : Reader) (stop : LookStop) → IsWithin to (behind_second_look s word r stop).place
+second_look_within to s word r (Ok looked.Complete) = tt
+second_look_within to s word r (Ok (looked.NoWord gap)) = again_within to gap word (nat_lt gap 0o157776) refl
+second_look_within to s word r (Ok looked.GaveUp) = tt
+second_look_within to s word r (Err cut) = tt
 
 pub second_look_words : (s : Standing) (word : Borrowed) (r : Reader) (stop : LookStop) → (behind_second_look s word r stop).words ≡ s.words
 second_look_words s word r (Ok looked.Complete) = refl
@@ -338,17 +331,86 @@ second_look_words s word r (Ok (looked.NoWord gap)) = refl
 second_look_words s word r (Ok looked.GaveUp) = refl
 second_look_words s word r (Err cut) = refl
 
+-- ---- where the test of the bus begins
+
+-- what holds of each tested word holds of the first good one
+good_keeps : (P : Borrowed → Type 0) (found : Option Borrowed) (next : Word) → ((word : Borrowed) → found ≡ Some word → P word) → P (record { address = next.address; old = old_in next.seen }) → (word : Borrowed) → good_also found next ≡ Some word → P word
+good_keeps P (Some other) next earlier here word is = earlier word is
+good_keeps P None next earlier here word is = by (is_bad next) is
+  where
+    by : (bad : Bool) → (if bad then None else Some (record { address = next.address; old = old_in next.seen })) ≡ Some word → P word
+    by true e = absurd (cc e)
+    by false e = subst P (cc e) here
+
+pub good_has : (P : Borrowed → Type 0) (words : List Word) (found : Option Borrowed) → ((word : Borrowed) → found ≡ Some word → P word) → All (λ (w : Word). P (record { address = w.address; old = old_in w.seen })) words →
+    (word : Borrowed) → fold good_also found words ≡ Some word → P word
+good_has P [] found earlier all word is = earlier word is
+good_has P (next ∷ words) found earlier all word is =
+    let here : Word → Type 0 = λ (w : Word). P (record { address = w.address; old = old_in w.seen }) in
+    good_has P words (good_also found next) (good_keeps P found next earlier (All-head here next words all)) (All-tail here next words all) word is
+
+no_good : (P : Borrowed → Type 0) (word : Borrowed) → None ≡ Some word → P word
+no_good P word e = absurd (cc e)
+
+pub first_good_has : (P : Borrowed → Type 0) (words : List Word) → All (λ (w : Word). P (record { address = w.address; old = old_in w.seen })) words → (word : Borrowed) → first_good words ≡ Some word → P word
+first_good_has P words all word is = good_has P words None (no_good P) all word is
+
+begins_within : (to every : ℕ) (s : Standing) (place : Place) (borrowed found : Option Borrowed) → ((word : Borrowed) → found ≡ Some word → IsAddress word.address) → IsWithin to s.place → IsWithin to (bus_begins every s place borrowed found).place
+begins_within to every s (Over test.Tested) None (Some word) good within = by (every == 1)
+  where
+    by : (each : Bool) → IsWithin to (if each then record s { bus = record s.bus { at = Some word.address }; place = Marking word 0 } else s).place
+    by true = good word refl
+    by false = within
+begins_within to every s (Over test.Tested) None None good within = within
+begins_within to every s (Over test.Tested) (Some other) found good within = within
+begins_within to every s (Over test.NotTrusted) borrowed found good within = within
+begins_within to every s (Over (test.NoWord address)) borrowed found good within = within
+begins_within to every s (Over test.GaveUp) borrowed found good within = within
+begins_within to every s (Over (test.CutOff cut)) borrowed found good within = within
+begins_within to every s (Trying address) borrowed found good within = within
+begins_within to every s (Testing address) borrowed found good within = within
+begins_within to every s (Marking word place) borrowed found good within = within
+begins_within to every s (Looking word first) borrowed found good within = within
+begins_within to every s (PuttingBack word) borrowed found good within = within
+begins_within to every s (LookingAgain word first) borrowed found good within = within
+
+pub then_within : (to every : ℕ) (s : Standing) → AreWords s.words → IsWithin to s.place → IsWithin to (then_bus every s).place
+then_within to every s are within = begins_within to every s s.place s.borrowed (first_good s.words) (first_good_has (λ (word : Borrowed). IsAddress word.address) s.words are) within
+
+begins_words : (every : ℕ) (s : Standing) (place : Place) (borrowed found : Option Borrowed) → (bus_begins every s place borrowed found).words ≡ s.words
+begins_words every s (Over test.Tested) None (Some word) = by (every == 1)
+  where
+    by : (each : Bool) → (if each then record s { bus = record s.bus { at = Some word.address }; place = Marking word 0 } else s).words ≡ s.words
+    by true = refl
+    by false = refl
+begins_words every s (Over test.Tested) None None = refl
+begins_words every s (Over test.Tested) (Some other) found = refl
+begins_words every s (Over test.NotTrusted) borrowed found = refl
+begins_words every s (Over (test.NoWord address)) borrowed found = refl
+begins_words every s (Over test.GaveUp) borrowed found = refl
+begins_words every s (Over (test.CutOff cut)) borrowed found = refl
+begins_words every s (Trying address) borrowed found = refl
+begins_words every s (Testing address) borrowed found = refl
+begins_words every s (Marking word place) borrowed found = refl
+begins_words every s (Looking word first) borrowed found = refl
+begins_words every s (PuttingBack word) borrowed found = refl
+begins_words every s (LookingAgain word first) borrowed found = refl
+
+pub then_words : (every : ℕ) (s : Standing) → (then_bus every s).words ≡ s.words
+then_words every s = begins_words every s s.place s.borrowed (first_good s.words)
+
 -- ---- the words that a core tested have addresses
 
-zip_all : (P : ℕ → Type 0) (addresses : List ℕ) (seen : List Outcome) → All P addresses → All (λ (word : Word). P word.address) (words_of addresses seen)
+zip_all : (P : ℕ → Type 0) (addresses : List ℕ) (seen : List Seen) → All P addresses → All (λ (word : Word). P word.address) (words_of addresses seen)
 zip_all P [] seen all = All-nil (λ (word : Word). P word.address)
 zip_all P (address ∷ addresses) [] all = All-nil (λ (word : Word). P word.address)
 zip_all P (address ∷ addresses) (one ∷ seen) all =
-    All-cons (λ (word : Word). P word.address) (record { address = address; seen = one.last; failed = one.failed }) (words_of addresses seen) (All-head P address addresses all) (zip_all P addresses seen (All-tail P address addresses all))
+    All-cons (λ (word : Word). P word.address) (record { address = address; seen = one }) (words_of addresses seen) (All-head P address addresses all) (zip_all P addresses seen (All-tail P address addresses all))
 
 stop_words : (to : ℕ) (s : Standing) (stopped : Stop End) (word : Option Borrowed) → (by_stop to s stopped word).words ≡ s.words
 stop_words to s (load.Ended core.Complete) word = refl
-stop_words to s (load.Ended (core.NoWord gap)) word = refl
+stop_words to s (load.Ended (core.NoWord gap)) None = refl
+stop_words to s (load.Ended (core.NoWord gap)) (Some word) = refl
 stop_words to s (load.Ended core.GaveUp) word = refl
 stop_words to s (load.KeepFailed fault) word = refl
 stop_words to s (load.CutOff cut) word = refl
@@ -357,3 +419,6 @@ pub test_words : (to : ℕ) (s : Standing) (t : Tester) (stopped : Stop End) →
 test_words to s t stopped are asked =
     subst AreWords (sym (stop_words to (record s { words = s.words ++ words_of t.addresses t.seen }) stopped (borrowed t)))
     (All-append (λ (word : Word). IsAddress word.address) s.words (words_of t.addresses t.seen) are (zip_all IsAddress t.addresses t.seen asked.each))
+
+pub then_are : (every : ℕ) (s : Standing) → AreWords s.words → AreWords (then_bus every s).words
+then_are every s are = subst AreWords (sym (then_words every s)) are

@@ -1,5 +1,5 @@
 -- What one host makes of the line.
-use Rattle.std.proofs.Common.{◌≡◌, ℕ, ◌+◌, ◌*◌, ◌/◌, ◌%◌, ◌≤◌, Bool, true, false, nat_le, if◌then◌else◌, List, [], ◌∷◌, ◌++◌, Option, Some, None, Result, Ok, Err, IfOk, OnErr, refl, arith, ap, sym, subst, inl, inr, append-nil}
+use Rattle.std.proofs.Common.{◌≡◌, ℕ, ◌+◌, ◌*◌, ◌/◌, ◌%◌, ◌≤◌, Bool, true, false, nat_le, if◌then◌else◌, List, [], ◌∷◌, ◌++◌, Option, Some, None, Result, Ok, Err, IfOk, OnErr, refl, arith, sym, subst, inl, inr, append-nil}
 use Rattle.std.proofs.lemmas.Bool.Decides.{nat_tests}
 use Rattle.host_devices.specs.declared.item.Item.{Item}
 use Rattle.host_devices.specs.Told.{Gains}
@@ -10,9 +10,6 @@ use Rattle.engine.specs.Stopping.{TellsEnd}
 use Rattle.memory_core.specs.declared.phase.End.{End}
 use Rattle.memory_core.specs.declared.phase.End.TheVariants as core
 use Rattle.memory_core.specs.declared.stage.Borrowed.{Borrowed}
-use Rattle.memory_core.specs.declared.seen.Outcome.{Outcome}
-use Rattle.memory_core.specs.declared.seen.Seen.{Seen}
-use Rattle.memory_core.specs.Seen.{holds, old_in}
 use Rattle.memory_core.specs.Addresses.{every_address}
 use Rattle.memory_core.specs.Tester.{Tester, begun, borrowed, ended}
 use Rattle.memory_engine.specs.Tested.{NoKeepFault, Tested, testing}
@@ -24,16 +21,16 @@ use Rattle.probe_report.specs.declared.judging.Verdict.{Verdict}
 use Rattle.probe_report.specs.declared.judging.Verdict.TheVariants.{Forgets, Stores, Unknown}
 use Rattle.machine_probe.specs.Runs.{OnLine}
 use Rattle.machine_memory.specs.declared.memory_options.MemoryOptions.{MemoryOptions}
-use Rattle.machine_memory.specs.BusCourse.{behind_proof, bus_begins, by_proof, good_word, proved}
+use Rattle.machine_memory.specs.BusCourse.{then_bus}
 use Rattle.machine_memory.specs.BusRuns.{IsUnlent}
 use Rattle.machine_memory.specs.Course.{IsWithin, Standing, behind_test, behind_trial, by_first, by_stop, by_verdict, next_bank, test_next, try_next}
 use Rattle.probe_report.specs.Judging.{verdict_of}
 use Rattle.machine_memory.specs.Words.{words_of}
 use Rattle.machine_memory.specs.Turns.{most_turns}
 use Rattle.machine_probe.specs.Follow.{IsTriedOut, IsUntried}
-use Rattle.machine_memory.specs.declared.course.Place.TheVariants.{Trying, Proving, Testing}
+use Rattle.machine_memory.specs.declared.course.Place.TheVariants.{Trying, Testing}
 use Rattle.machine_memory.specs.Options.{probe_options}
-use Rattle.machine_memory.specs.Runs.{IsCutStep, IsProofStep, IsTestLed, IsTestStep, IsTryStep}
+use Rattle.machine_memory.specs.Runs.{IsCutStep, IsTestLed, IsTestStep, IsTryStep}
 
 -- ---- results
 
@@ -51,14 +48,14 @@ holds_on_error (Err e) P p = p
 
 -- ---- one host
 
-pub test_led : (addresses : List ℕ) (patience : ℕ) (first last : Tester) (stopped : Stop End) (turns : ℕ) (line line' : Option (List Item)) → first ≡ begun addresses patience → turns ≡ most_turns →
-    Tested turns (testing first last (Some stopped)) line line' → TellsEnd stopped (ended last.phase) → NoKeepFault stopped → OnLine (IsTestLed addresses patience last stopped) line line'
-test_led addresses patience first last stopped turns line line' begins limit s end fault = record {
+pub test_led : (options : MemoryOptions) (at : ℕ) (first last : Tester) (stopped : Stop End) (turns : ℕ) (line line' : Option (List Item)) → first ≡ begun (every_address at options.to options.every) options.patience → turns ≡ most_turns →
+    Tested turns (testing first last (Some stopped)) line line' → TellsEnd stopped (ended last.phase) → NoKeepFault stopped → OnLine (IsTestLed options at last stopped) line line'
+test_led options at first last stopped turns line line' begins limit s end fault = record {
   parts = s.said ∷ [];
   are = record {
     said = s.said;
     part = refl;
-    tested = subst (λ (n : ℕ). Tested n (testing (begun addresses patience) last (Some stopped)) (Some []) (Some s.said)) limit
+    tested = subst (λ (n : ℕ). Tested n (testing (begun (every_address at options.to options.every) options.patience) last (Some stopped)) (Some []) (Some s.said)) limit
         (subst (λ (t : Tester). Tested turns (testing t last (Some stopped)) (Some []) (Some s.said)) begins (record {
           heard = s.heard;
           said = s.said;
@@ -78,22 +75,12 @@ test_led addresses patience first last stopped turns line line' begins limit s e
   on_line = subst (Gains line line') (sym (append-nil s.said)) s.on_line;
 }
 
-pub test_step : (options : MemoryOptions) (at : ℕ) (before after : Standing) (last : Tester) (stopped : Stop End) (line line' : Option (List Item)) → OnLine (IsTestLed (every_address at options.to options.every) options.patience last stopped) line line' →
-    after ≡ behind_test options.to before last stopped → OnLine (IsTestStep options at before after) line line'
+pub test_step : (options : MemoryOptions) (at : ℕ) (before after : Standing) (last : Tester) (stopped : Stop End) (line line' : Option (List Item)) → OnLine (IsTestLed options at last stopped) line line' →
+    after ≡ then_bus options.every (behind_test options.to before last stopped) → OnLine (IsTestStep options at before after) line line'
 test_step options at before after last stopped line line' led is = record { parts = led.parts; are = record { last = last; stop = stopped; test_led = led.are; after_is = is }; on_line = led.on_line }
 
-pub test_cut : (options : MemoryOptions) (at : ℕ) (last : Tester) (stopped : Stop End) (line line' : Option (List Item)) → OnLine (IsTestLed (every_address at options.to options.every) options.patience last stopped) line line' → OnLine (IsCutStep options (Testing at)) line line'
+pub test_cut : (options : MemoryOptions) (at : ℕ) (last : Tester) (stopped : Stop End) (line line' : Option (List Item)) → OnLine (IsTestLed options at last stopped) line line' → OnLine (IsCutStep options (Testing at)) line line'
 test_cut options at last stopped line line' led = record { parts = led.parts; are = inr (last, stopped, led.are); on_line = led.on_line }
-
-pub proof_step : (options : MemoryOptions) (at : ℕ) (before after : Standing) (last : Tester) (stopped : Stop End) (line line' : Option (List Item)) → OnLine (IsTestLed (at ∷ []) options.patience last stopped) line line' →
-    after ≡ behind_proof before at last stopped → OnLine (IsProofStep options at before after) line line'
-proof_step options at before after last stopped line line' led is = record { parts = led.parts; are = record { last = last; stop = stopped; test_led = led.are; after_is = is }; on_line = led.on_line }
-
-pub proof_cut : (options : MemoryOptions) (at : ℕ) (last : Tester) (stopped : Stop End) (line line' : Option (List Item)) → OnLine (IsTestLed (at ∷ []) options.patience last stopped) line line' → OnLine (IsCutStep options (Proving at)) line line'
-proof_cut options at last stopped line line' led = record { parts = led.parts; are = inr (last, stopped, led.are); on_line = led.on_line }
-
-pub unproved_cut : (options : MemoryOptions) (at : ℕ) (line : Option (List Item)) → OnLine (IsCutStep options (Proving at)) line line
-unproved_cut options at line = record { parts = []; are = inl refl; on_line = gains_none line }
 
 pub try_step : (options : MemoryOptions) (at : ℕ) (before after : Standing) (f : Findings) (line line' : Option (List Item)) → OnLine (IsTriedOut (probe_options options at) f) line line' →
     after ≡ behind_trial options.to before f → OnLine (IsTryStep options at before after) line line'
@@ -162,7 +149,8 @@ trial_within to s f range = verdict_within to s f (verdict_of f) range
 
 stop_within : (to : ℕ) (s : Standing) (stopped : Stop End) (word : Option Borrowed) → IsAddress to → IsWithin to (by_stop to s stopped word).place
 stop_within to s (stop.Ended core.Complete) word is = tt
-stop_within to s (stop.Ended (core.NoWord gap)) word is = more_within gap to is (next_bank gap to) refl
+stop_within to s (stop.Ended (core.NoWord gap)) None is = more_within gap to is (next_bank gap to) refl
+stop_within to s (stop.Ended (core.NoWord gap)) (Some word) is = tt
 stop_within to s (stop.Ended core.GaveUp) word is = tt
 stop_within to s (stop.KeepFailed fault) word is = tt
 stop_within to s (stop.CutOff cut) word is = tt
@@ -170,67 +158,6 @@ stop_within to s (stop.CutOff cut) word is = tt
 -- and behind a test
 pub test_within : (to : ℕ) (s : Standing) (t : Tester) (stopped : Stop End) → IsAddress to → IsWithin to (behind_test to s t stopped).place
 test_within to s t stopped is = stop_within to (record s { words = s.words ++ words_of t.addresses t.seen }) stopped (borrowed t) is
-
-test_unlent : (next : Option ℕ) → IsUnlent (test_next next)
-test_unlent None options back = tt
-test_unlent (Some next) options back = tt
-
-stop_unlent : (to : ℕ) (s : Standing) (stopped : Stop End) (word : Option Borrowed) → IsUnlent (by_stop to s stopped word).place
-stop_unlent to s (stop.Ended core.Complete) word options back = tt
-stop_unlent to s (stop.Ended (core.NoWord gap)) word options back = test_unlent (next_bank gap to) options back
-stop_unlent to s (stop.Ended core.GaveUp) word options back = tt
-stop_unlent to s (stop.KeepFailed fault) word options back = tt
-stop_unlent to s (stop.CutOff cut) word options back = tt
-
--- behind a test no word is lent
-pub test_ready : (to : ℕ) (s : Standing) (t : Tester) (stopped : Stop End) → IsUnlent (behind_test to s t stopped).place
-test_ready to s t stopped = stop_unlent to (record s { words = s.words ++ words_of t.addresses t.seen }) stopped (borrowed t)
-
--- ---- behind the test of a word by itself
-
--- the word that is lent is this one
-pub good_here : (at : ℕ) (last : Seen) (failed : Option Seen) (word : Borrowed) → good_word at last failed ≡ Some word → word ≡ record { address = at; old = old_in last }
-good_here at last (Some first) word e = absurd (cc e)
-good_here at last None word e = by (holds last) e
-  where
-    by : (test : Bool) → (if test then Some (record { address = at; old = old_in last }) else None) ≡ Some word → word ≡ record { address = at; old = old_in last }
-    by true same = cc same
-    by false same = absurd (cc same)
-
-proved_here : (at : ℕ) (seen : List Outcome) (word : Borrowed) → proved at seen ≡ Some word → word.address ≡ at
-proved_here at [] word e = absurd (cc e)
-proved_here at (one ∷ more) word e = ap (λ (w : Borrowed). w.address) (good_here at one.last one.failed word e)
-
-begins_within : (to at : ℕ) (s : Standing) (found : Option Borrowed) → ((word : Borrowed) → found ≡ Some word → word.address ≡ at) → IsRange at to → IsWithin to (bus_begins s at found).place
-begins_within to at s None here range = range
-begins_within to at s (Some word) here range = subst (λ n. IsRange n to) (sym (here word refl)) range
-
-none_here : (at : ℕ) (word : Borrowed) → None ≡ Some word → word.address ≡ at
-none_here at word e = absurd (cc e)
-
-by_proof_within : (to at : ℕ) (s : Standing) (stopped : Stop End) (word found : Option Borrowed) → ((w : Borrowed) → found ≡ Some w → w.address ≡ at) → IsRange at to → IsWithin to (by_proof s at stopped word found).place
-by_proof_within to at s (stop.Ended core.Complete) word found here range = begins_within to at s found here range
-by_proof_within to at s (stop.Ended (core.NoWord gap)) word found here range = begins_within to at s None (none_here at) range
-by_proof_within to at s (stop.Ended core.GaveUp) word found here range = tt
-by_proof_within to at s (stop.KeepFailed fault) word found here range = tt
-by_proof_within to at s (stop.CutOff cut) word found here range = tt
-
-pub proof_within : (to at : ℕ) (s : Standing) (t : Tester) (stopped : Stop End) → IsRange at to → IsWithin to (behind_proof s at t stopped).place
-proof_within to at s t stopped range = by_proof_within to at s stopped (borrowed t) (proved at t.seen) (proved_here at t.seen) range
-
-begins_words : (at : ℕ) (s : Standing) (found : Option Borrowed) → (bus_begins s at found).words ≡ s.words
-begins_words at s None = refl
-begins_words at s (Some word) = refl
-
-by_proof_words : (at : ℕ) (s : Standing) (stopped : Stop End) (word found : Option Borrowed) → (by_proof s at stopped word found).words ≡ s.words
-by_proof_words at s (stop.Ended core.Complete) word found = begins_words at s found
-by_proof_words at s (stop.Ended (core.NoWord gap)) word found = refl
-by_proof_words at s (stop.Ended core.GaveUp) word found = refl
-by_proof_words at s (stop.KeepFailed fault) word found = refl
-by_proof_words at s (stop.CutOff cut) word found = refl
-
-pub proof_words : (at : ℕ) (s : Standing) (t : Tester) (stopped : Stop End) → (behind_proof s at t stopped).words ≡ s.words
-proof_words at s t stopped = by_proof_words at s stopped (borrowed t) (proved at t.seen)
 
 -- ---- a trial tests no word
 

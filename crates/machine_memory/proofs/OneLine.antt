@@ -3,7 +3,7 @@ use Rattle.std.proofs.Common.{◌≡◌, ◌⊎◌, ℕ, zero, suc, ◌^◌, ◌
 use Rattle.std.specs.Prelude.{⊤}
 use Rattle.host_devices.specs.declared.item.Item.{Item}
 use Rattle.std.proofs.lemmas.List.Elements.{All-nil}
-use Rattle.reading_core.specs.Addresses.{AreAddresses, IsAddress, IsRange}
+use Rattle.reading_core.specs.Addresses.{IsAddress, IsRange}
 use Rattle.memory_report.specs.declared.findings.Word.{Word}
 use Rattle.probe_report.specs.declared.findings.Findings.{Findings}
 use Rattle.probe_report.specs.declared.judging.Verdict.{Verdict}
@@ -12,10 +12,10 @@ use Rattle.probe_report.specs.Judging.{verdict_of}
 use Rattle.machine_probe.specs.Follow.{stores}
 use Rattle.machine_probe.proofs.OneLine.{AllLeave, AreHosts, all_join, hosts_all, hosts_behind, row_of_line, tried_hosts}
 use Rattle.machine_memory.specs.declared.course.Place.{Place}
-use Rattle.machine_memory.specs.declared.course.Place.TheVariants.{Trying, Proving, Testing, Marking, Looking, PuttingBack, LookingAgain, Over}
+use Rattle.machine_memory.specs.declared.course.Place.TheVariants.{Trying, Testing, Marking, Looking, PuttingBack, LookingAgain, Over}
 use Rattle.machine_memory.specs.declared.memory_options.MemoryOptions.{MemoryOptions}
 use Rattle.machine_memory.specs.Belief.{AreBelievableOver}
-use Rattle.machine_memory.specs.Course.{AreWords, IsWithin, Standing, begun, by_verdict}
+use Rattle.machine_memory.specs.Course.{AreWords, IsWithin, Standing, begun, behind_test, by_verdict}
 use Rattle.machine_memory.specs.Bus.{number_at}
 use Rattle.machine_memory.specs.BusRuns.{IsNamedStep}
 use Rattle.memory_core.specs.declared.stage.Borrowed.{Borrowed}
@@ -23,12 +23,9 @@ use Rattle.machine_memory.specs.Options.{IsAsked, probe_options}
 use Rattle.machine_memory.specs.Runs.{AreSteps, IsRow, IsStepAt, most_steps}
 use Rattle.machine_memory.proofs.Believed.{believes, test_asked, test_leaves}
 use Rattle.machine_memory.proofs.BusFacts.{look_leaves}
-use Rattle.machine_memory.proofs.BusLeads.{look_within, look_words, mark_within, mark_words, put_back_within, put_back_words, stopped_within, stopped_words, second_look_within, second_look_words, test_words}
+use Rattle.machine_memory.proofs.BusLeads.{look_within, look_words, mark_within, mark_words, put_back_within, put_back_words, stopped_within, stopped_words, second_look_within, second_look_words, test_words, then_are, then_within}
 use Rattle.machine_memory.proofs.Deposits.{deposit_leaves}
-use Rattle.machine_memory.proofs.Leads.{proof_within, proof_words, test_within, trial_within, trial_words}
-use Rattle.memory_core.specs.Addresses.{every_address}
-use Rattle.memory_core.proofs.Asking.{range_asked}
-use Rattle.memory_law.proofs.Ahead.{one_address}
+use Rattle.machine_memory.proofs.Leads.{test_within, trial_within, trial_words}
 
 abbrev IsOver : Place → Type 0
 IsOver (Over end) = ⊤
@@ -60,10 +57,8 @@ step_leaves options (Trying at) s after parts long asked range t =
     by : AllLeave parts ⊎ (AreHosts parts × (stores (verdict_of t.f) ≡ true)) → Leave parts after.place
     by (inl all) = inl all
     by (inr hosts) = inr (hosts.0, subst (λ (x : Standing). IsOver x.place) (sym t.after_is) (stored_over options.to s t.f (verdict_of t.f) hosts.1))
-step_leaves options (Proving at) s after parts long asked range t =
-    inl (subst AllLeave (sym t.test_led.part) (test_leaves (at ∷ []) options.patience t.last t.stop parts long (one_address at range.from_is) t.test_led, tt))
 step_leaves options (Testing at) s after parts long asked range t =
-    inl (subst AllLeave (sym t.test_led.part) (test_leaves (every_address at options.to options.every) options.patience t.last t.stop parts long (range_asked at options.to options.every range asked.some) t.test_led, tt))
+    inl (subst AllLeave (sym t.test_led.part) (test_leaves options at t.last t.stop parts long asked.some range t.test_led, tt))
 step_leaves options (Marking word place) s after parts long asked within (inr t) = named_leaves options word s after parts t
 step_leaves options (Looking word first) s after parts long asked within (inr t) = named_leaves options word s after parts t
 step_leaves options (Marking word place) s after parts long asked within (inl t) =
@@ -73,7 +68,7 @@ step_leaves options (Looking word first) s after parts long asked within (inl t)
 step_leaves options (PuttingBack word) s after parts long asked within t =
     inl (subst AllLeave (sym t.deposit_led.part) (deposit_leaves options word.address word.old t.stop parts t.deposit_led, tt))
 step_leaves options (LookingAgain word first) s after parts long asked within t =
-    inl (subst AllLeave (sym t.look_led.part) (look_leaves options word.address first t.last t.stop parts long within.1 t.look_led, tt))
+    inl (subst AllLeave (sym t.look_led.part) (look_leaves options word.address first t.last t.stop parts long within t.look_led, tt))
 step_leaves options (Over end) s after parts long asked range t = inl (subst AllLeave (sym t.1) tt)
 
 record IsIn (options : MemoryOptions) (s : Standing) : Type 0 where
@@ -91,16 +86,11 @@ step_within options (Trying at) s after parts long asked is range are t = record
   within = subst (λ (x : Standing). IsWithin options.to x.place) (sym t.after_is) (trial_within options.to s t.f (subst (λ n. IsRange n options.to) (sym t.tried.address) range));
   are = subst AreWords (sym (ap (λ (x : Standing). x.words) t.after_is ∙ trial_words options.to s t.f)) are;
 }
-step_within options (Proving at) s after parts long asked is range are t = record {
-  within = subst (λ (x : Standing). IsWithin options.to x.place) (sym t.after_is) (proof_within options.to at s t.last t.stop range);
-  are = subst AreWords (sym (ap (λ (x : Standing). x.words) t.after_is ∙ proof_words at s t.last t.stop)) are;
-}
 step_within options (Testing at) s after parts long asked is range are t =
-    let addresses : List ℕ = every_address at options.to options.every in
-    let asked_for : AreAddresses t.last.addresses = test_asked addresses options.patience t.last t.stop parts long (range_asked at options.to options.every range asked.some) t.test_led in
+    let reached : AreWords (behind_test options.to s t.last t.stop).words = test_words options.to s t.last t.stop are (test_asked options at t.last t.stop parts long asked.some range t.test_led) in
     record {
-      within = subst (λ (x : Standing). IsWithin options.to x.place) (sym t.after_is) (test_within options.to s t.last t.stop range.to_is);
-      are = subst (λ (x : Standing). AreWords x.words) (sym t.after_is) (test_words options.to s t.last t.stop are asked_for);
+      within = subst (λ (x : Standing). IsWithin options.to x.place) (sym t.after_is) (then_within options.to options.every (behind_test options.to s t.last t.stop) reached (test_within options.to s t.last t.stop range.to_is));
+      are = subst (λ (x : Standing). AreWords x.words) (sym t.after_is) (then_are options.every (behind_test options.to s t.last t.stop) reached);
     }
 step_within options (Marking word place) s after parts long asked is within are (inr t) = named_within options word s after parts are t
 step_within options (Looking word first) s after parts long asked is within are (inr t) = named_within options word s after parts are t
@@ -113,11 +103,11 @@ step_within options (Looking word first) s after parts long asked is within are 
   are = subst AreWords (sym (ap (λ (x : Standing). x.words) t.after_is ∙ look_words s word t.last t.stop)) are;
 }
 step_within options (PuttingBack word) s after parts long asked is within are t = record {
-  within = subst (λ (x : Standing). IsWithin options.to x.place) (sym t.after_is) (put_back_within options.to s word t.stop within);
+  within = subst (λ (x : Standing). IsWithin options.to x.place) (sym t.after_is) (put_back_within options.to s word t.stop);
   are = subst AreWords (sym (ap (λ (x : Standing). x.words) t.after_is ∙ put_back_words s word t.stop)) are;
 }
 step_within options (LookingAgain word first) s after parts long asked is within are t = record {
-  within = subst (λ (x : Standing). IsWithin options.to x.place) (sym t.after_is) (second_look_within options.to s word t.last t.stop within.0);
+  within = subst (λ (x : Standing). IsWithin options.to x.place) (sym t.after_is) (second_look_within options.to s word t.last t.stop);
   are = subst AreWords (sym (ap (λ (x : Standing). x.words) t.after_is ∙ second_look_words s word t.last t.stop)) are;
 }
 step_within options (Over end) s after parts long asked is range are t = record {
@@ -128,7 +118,6 @@ step_within options (Over end) s after parts long asked is range are t = record 
 -- nothing is said behind the end
 over_says : (options : MemoryOptions) (place : Place) (s after : Standing) (parts : List (List Item)) → IsOver place → IsStepAt options place s after parts → (after ≡ s) × (parts ≡ [])
 over_says options (Trying at) s after parts over t = absurd over
-over_says options (Proving at) s after parts over t = absurd over
 over_says options (Testing at) s after parts over t = absurd over
 over_says options (Marking word place) s after parts over t = absurd over
 over_says options (Looking word first) s after parts over t = absurd over

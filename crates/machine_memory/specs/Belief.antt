@@ -16,11 +16,11 @@ abbrev pub Remains : List ℕ → Option Borrowed → List ℕ → Type 0
 Remains before None now = now ≡ before
 Remains before (Some word) now = (word.old ≡ word_at before word.address) × ((now ≡ before) ⊎ ((number : ℕ) × (now ≡ stored before word.address number)))
 
--- and each word that counts as tested is there, held both numbers at once, and what it is said to have held is what memory held; no data lines are said to
+-- and each word that counts as tested is there, held both numbers, and what it is said to have held is what memory held; no data lines are said to
 -- touch, and no two addresses to be one word
 pub record IsRight (before : List ℕ) (s : Standing) (now : List ℕ) : Type 0 where
   pub memory : Remains before s.borrowed now
-  pub words : All (λ (word : Word). IsTrueOf before word.address (record { last = word.seen; failed = word.failed })) s.words
+  pub words : All (λ (word : Word). IsTrueOf before word.address word.seen) s.words
   pub touches : s.bus.touches ≡ false
   pub same : same_words s.bus ≡ []
 

@@ -23,7 +23,7 @@ use Rattle.probe_report.specs.declared.judging.Verdict.TheVariants.{Forgets, Sto
 use Rattle.probe_report.specs.Judging.{verdict_of}
 use Rattle.machine_probe.specs.Follow.{number_in}
 use Rattle.machine_memory.specs.declared.course.Place.{Place}
-use Rattle.machine_memory.specs.declared.course.Place.TheVariants.{Trying, Proving, Testing, Marking, Looking, PuttingBack, LookingAgain, Over}
+use Rattle.machine_memory.specs.declared.course.Place.TheVariants.{Trying, Testing, Marking, Looking, PuttingBack, LookingAgain, Over}
 use Rattle.machine_memory.specs.Words.{words_of}
 
 -- the words that were tested, the addresses at which nothing answered, what was found of the bus, the word that may hold another number than before, and what comes next
@@ -38,7 +38,7 @@ abbrev pub standing_of : List Word → List ℕ → BusFound → Option Borrowed
 standing_of words gaps bus borrowed place = record { words = words; gaps = gaps; bus = bus; borrowed = borrowed; place = place }
 
 abbrev pub untested_bus : BusFound
-untested_bus = record { at = None; unfit = None; doubted = false; touches = false; looked_at = 0; marked = []; returned = [] }
+untested_bus = record { at = None; touches = false; looked_at = 0; marked = []; returned = [] }
 
 -- at first the console is tried
 abbrev pub begun : ℕ → Standing
@@ -95,8 +95,8 @@ by_first to s f look.GaveUp = over s GaveUp None
 by_first to s f (look.CutOff cut) = over s (CutOff cut) None
 
 abbrev pub by_verdict : ℕ → Standing → Findings → Verdict → Standing
--- it forgets: this word is tested by itself, for the bus
-by_verdict to s f Forgets = record s { place = Proving f.address }
+-- it forgets: the words are tested from here on
+by_verdict to s f Forgets = record s { place = Testing f.address }
 -- it stored the digits
 by_verdict to s f Stores = over s NotTrusted (borrowed_behind f.address (number_in f.first) f.put_back)
 by_verdict to s f Unknown = by_first to s f f.first
@@ -112,8 +112,9 @@ test_next None = Over Tested
 
 abbrev pub by_stop : ℕ → Standing → Stop End → Option Borrowed → Standing
 by_stop to s (stop.Ended core.Complete) borrowed = over s Tested borrowed
--- nothing answers, and no word is borrowed then: the test goes on at the next bank
-by_stop to s (stop.Ended (core.NoWord gap)) borrowed = with_gap s gap (test_next (next_bank gap to))
+-- nothing answers between two words: the test goes on at the next bank
+by_stop to s (stop.Ended (core.NoWord gap)) None = with_gap s gap (test_next (next_bank gap to))
+by_stop to s (stop.Ended (core.NoWord address)) (Some word) = over s (NoWord address) (Some word)
 by_stop to s (stop.Ended core.GaveUp) borrowed = over s GaveUp borrowed
 by_stop to s (stop.KeepFailed fault) borrowed = over s (CutOff TurnsOver) borrowed
 by_stop to s (stop.CutOff cut) borrowed = over s (CutOff cut) borrowed
@@ -125,12 +126,11 @@ behind_test to s t stopped = by_stop to (record s { words = s.words ++ words_of 
 
 abbrev pub IsWithin : ℕ → Place → Type 0
 IsWithin to (Trying address) = IsRange address to
-IsWithin to (Proving address) = IsRange address to
 IsWithin to (Testing address) = IsRange address to
-IsWithin to (Marking word place) = IsRange word.address to
-IsWithin to (Looking word first) = IsRange word.address to × IsAddress first
-IsWithin to (PuttingBack word) = IsRange word.address to
-IsWithin to (LookingAgain word first) = IsRange word.address to × IsAddress first
+IsWithin to (Marking word place) = IsAddress word.address
+IsWithin to (Looking word first) = IsAddress word.address × IsAddress first
+IsWithin to (PuttingBack word) = IsAddress word.address
+IsWithin to (LookingAgain word first) = IsAddress first
 IsWithin to (Over end) = ⊤
 
 -- the words that were tested have addresses

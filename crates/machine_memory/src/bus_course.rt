@@ -1,19 +1,19 @@
 //! A test of a bus between two hosts.
-ghost use Rattle.std.specs.Prelude.{◌≡◌, ◌+◌, ◌≤◌, ◌++◌, None, Some, length, min, vec_capacity, IfOk, OnErr};
+ghost use Rattle.std.specs.Prelude.{◌≡◌, ◌+◌, ◌≤◌, ◌++◌, true, None, Some, length, min, vec_capacity, IfOk, OnErr};
 ghost use Rattle.engine.specs.declared.stop.Stop.TheVariants.{Ended};
 ghost use Rattle.host_core.specs.declared.phase.End.TheVariants.{Loaded};
 ghost use Rattle.machine_memory.specs.Bus.{mark, reading};
-ghost use Rattle.machine_memory.specs.BusCourse.{behind_look, behind_mark, behind_proof, behind_put_back, behind_second_look, bus_begins, good_word};
-ghost use Rattle.machine_memory.specs.BusCourse.{in_bus, look_on, next_mark, proved, put_back_next, second_look_on, stopped_load, wont_stand};
+ghost use Rattle.machine_memory.specs.BusCourse.{behind_look, behind_mark, behind_put_back, behind_second_look, first_good, good_also};
+ghost use Rattle.machine_memory.specs.BusCourse.{in_bus, look_on, next_mark, put_back_next, second_look_on, stopped_load, then_bus};
 
 use crate::bus_numbers::{NUMBERS, mark};
 use crate::course::{Course, Place};
 use crate::neighbours::{LAST_WORD, note_reading, push_reading};
-use engine::{Cut, Stop};
+use engine::Cut;
 use host_core::End as LoadEnd;
 use load_engine::Stop as LoadStop;
-use memory_core::{Borrowed, End, MemoryCore, Outcome, Seen};
-use memory_report::{Bus, TestEnd};
+use memory_core::Borrowed;
+use memory_report::{Bus, TestEnd, Word};
 use reading_core::{End as LookEnd, ReadingCore};
 use std::alloc::AllocError;
 
@@ -21,41 +21,20 @@ use std::alloc::AllocError;
 type LookStop = Result<LookEnd, Cut>;
 
 impl Course {
-    /// What comes behind a test of the word at this address by itself, which stopped so.
-    pub(crate) fn behind_proof(self, at: u16, core: &MemoryCore, stop: Stop<End>) -> Course
-        ensures { result ≡ behind_proof self at core.now stop }
+    /// Where each word of the range was tested, and none is lent, the bus is tested at the first word that holds.
+    pub(crate) fn then_bus(self, every: u16) -> Course
+        ensures { result ≡ then_bus every self }
     {
-        let borrowed = core.borrowed();
-        match stop {
-            Stop::Ended(End::Complete) => self.bus_begins(at, proved(at, core.seen())),
-            Stop::Ended(End::NoWord(_)) => self.bus_begins(at, None),
-            Stop::Ended(End::GaveUp) => self.over(TestEnd::GaveUp, borrowed),
-            Stop::KeepFailed(_) => self.over(TestEnd::CutOff(Cut::TurnsOver), borrowed),
-            Stop::CutOff(cut) => self.over(TestEnd::CutOff(cut), borrowed),
-        }
-    }
-
-    // The bus is tested at this word. Where there is none the words are tested, from the one at this address on.
-    fn bus_begins(self, at: u16, word: Option<Borrowed>) -> Course
-        ensures { result ≡ bus_begins self at word }
-    {
-        match word {
-            Some(word) => Course {
+        match (self.place, self.borrowed, first_good(&self.words)) {
+            (Place::Over(TestEnd::Tested), None, Some(word)) if every == 1 => Course {
                 bus: Bus {
-                    at: Some(at),
+                    at: Some(word.address),
                     ..self.bus
                 },
                 place: Place::Marking(word, 0),
                 ..self
             },
-            None => Course {
-                bus: Bus {
-                    unfit: Some(at),
-                    ..self.bus
-                },
-                place: Place::Testing(at),
-                ..self
-            },
+            _ => self,
         }
     }
 
@@ -70,22 +49,16 @@ impl Course {
         }
     }
 
-    // The number at this place did not stand: it is deposited once more, and believed then.
-    fn wont_stand(self, word: Borrowed, place: u8) -> Course
-        ensures { result ≡ wont_stand self word place self.bus.doubted }
+    // A number did not stand.
+    fn touching(self) -> Course
+        ensures { result ≡ record self { bus = record self.bus { touches = true } } }
     {
-        if self.bus.doubted {
-            let bus = Bus {
+        Course {
+            bus: Bus {
                 touches: true,
                 ..self.bus
-            };
-            Course { bus, ..self }.lends(word, Place::PuttingBack(word))
-        } else {
-            let bus = Bus {
-                doubted: true,
-                ..self.bus
-            };
-            Course { bus, ..self }.lends(word, Place::Marking(word, place))
+            },
+            ..self
         }
     }
 
@@ -120,7 +93,9 @@ impl Course {
     {
         match stop {
             LoadStop::Ended(LoadEnd::Loaded) => self.lends(word, next_mark(word, place)),
-            LoadStop::Ended(LoadEnd::WontHold(_)) => self.wont_stand(word, place),
+            LoadStop::Ended(LoadEnd::WontHold(_)) => {
+                self.touching().lends(word, Place::PuttingBack(word))
+            }
             other => self.stopped_load(word, other),
         }
     }
@@ -137,6 +112,9 @@ impl Course {
                     place,
                     ..self
                 }
+            }
+            LoadStop::Ended(LoadEnd::WontHold(_)) => {
+                self.touching().over(TestEnd::Tested, Some(word))
             }
             other => self.stopped_load(word, other),
         }
@@ -175,11 +153,7 @@ impl Course {
     {
         let course = self.with_returned(word, core)?;
         Ok(match stop {
-            Ok(LookEnd::Complete) => Course {
-                borrowed: None,
-                place: Place::Testing(word.address),
-                ..course
-            },
+            Ok(LookEnd::Complete) => course.over(TestEnd::Tested, None),
             Ok(LookEnd::NoWord(gap)) => course.at(second_look_on(word, gap)),
             Ok(LookEnd::GaveUp) => course.over(TestEnd::GaveUp, None),
             Err(cut) => course.over(TestEnd::CutOff(cut), None),
@@ -206,8 +180,6 @@ impl Course {
     {
         let Bus {
             at,
-            unfit,
-            doubted,
             touches,
             looked_at,
             marked: earlier,
@@ -219,8 +191,6 @@ impl Course {
         let more = core.values().len() as u32;
         let bus = Bus {
             at,
-            unfit,
-            doubted,
             touches,
             looked_at: looked_at.saturating_add(more),
             marked,
@@ -239,8 +209,6 @@ impl Course {
     {
         let Bus {
             at,
-            unfit,
-            doubted,
             touches,
             looked_at,
             marked,
@@ -249,8 +217,6 @@ impl Course {
         push_reading(&mut returned, word.old, core.addresses(), core.values())?;
         let bus = Bus {
             at,
-            unfit,
-            doubted,
             touches,
             looked_at,
             marked,
@@ -260,26 +226,28 @@ impl Course {
     }
 }
 
-// The word at this address, of which this was read, if it held what it was given at once, and what it held before.
-fn proved(at: u16, seen: &[Outcome]) -> Option<Borrowed>
-    ensures { result ≡ proved at seen.now }
+// The first word that holds what it is given, and what it held before.
+fn first_good(words: &[Word]) -> Option<Borrowed>
+    ensures { result ≡ first_good words.now }
 {
-    match seen {
-        [] => None,
-        [word, ..] => good_word(at, word.last, word.failed),
+    let mut found = None;
+    for word in words {
+        found = good_also(found, *word);
     }
+    found
 }
 
-// The same of a word by its last test, and the one before, if it did not hold there.
-fn good_word(at: u16, last: Seen, failed: Option<Seen>) -> Option<Borrowed>
-    ensures { result ≡ good_word at last failed }
+// The same, with one word more.
+fn good_also(found: Option<Borrowed>, word: Word) -> Option<Borrowed>
+    ensures { result ≡ good_also found word }
 {
-    match failed {
-        None if last.holds() => Some(Borrowed {
-            address: at,
-            old: last.old(),
+    match found {
+        Some(found) => Some(found),
+        None if word.is_bad() => None,
+        None => Some(Borrowed {
+            address: word.address,
+            old: word.seen.old(),
         }),
-        _ => None,
     }
 }
 
@@ -299,7 +267,7 @@ fn put_back_next(word: Borrowed, marked: &[u16]) -> Place
     ensures { result ≡ put_back_next word marked.now }
 {
     match marked {
-        [] => Place::Testing(word.address),
+        [] => Place::Over(TestEnd::Tested),
         [_, ..] => Place::LookingAgain(word, 0),
     }
 }
@@ -320,7 +288,7 @@ fn second_look_on(word: Borrowed, gap: u16) -> Place
 {
     match behind(gap) {
         Some(next) => Place::LookingAgain(word, next),
-        None => Place::Testing(word.address),
+        None => Place::Over(TestEnd::Tested),
     }
 }
 

@@ -1,6 +1,6 @@
 //! The hosts of a test of a bus.
 ghost use Rattle.std.specs.Prelude.{◌≡◌, ℕ, [], IfOk, OnErr};
-ghost use Rattle.reading_core.specs.Addresses.{IsAddress, IsRange};
+ghost use Rattle.reading_core.specs.Addresses.{IsAddress};
 ghost use Rattle.reading_core.specs.Reader.{begun};
 ghost use Rattle.machine_probe.specs.Runs.{OnLine};
 ghost use Rattle.machine_probe.specs.PuttingBack.{IsDeposit};
@@ -60,7 +60,7 @@ pub(crate) fn mark_word<L: Line>(
     options: MemoryOptions,
     line: &mut L,
 ) -> Result<Course, AllocError>
-    requires within { IsRange word.address options.to }
+    requires within { IsAddress word.address }
     requires words { AreWords course.words }
     requires back { HasBack options word back.old }
     ensures made { IfOk result (λ next. OnLine (IsStepAt options (Marking word place) course next) (L.told line.old) (L.told line.new)) }
@@ -91,7 +91,7 @@ pub(crate) fn put_back<L: Line>(
 ) -> Course
     requires words { AreWords course.words }
     ensures made { PutsBackBy back word (course ⇒ result) (L.told line.old) (L.told line.new) }
-    ensures within { (to : ℕ) → IsRange word.address to → IsWithin to result.place }
+    ensures within { (to : ℕ) → IsWithin to result.place }
     ensures words { AreWords result.words }
     ensures ready { IsUnlent result.place }
 {
@@ -136,7 +136,7 @@ pub(crate) fn look_around<L: Line>(
     options: MemoryOptions,
     line: &mut L,
 ) -> Result<Course, AllocError>
-    requires word { IsRange word.address options.to }
+    requires word { IsAddress word.address }
     requires first { IsAddress first }
     requires words { AreWords course.words }
     requires back { HasBack options word back.old }
@@ -184,7 +184,6 @@ pub(crate) fn look_again<L: Line>(
     options: MemoryOptions,
     line: &mut L,
 ) -> Result<Course, AllocError>
-    requires word { IsRange word.address options.to }
     requires first { IsAddress first }
     requires words { AreWords course.words }
     ensures made { IfOk result (λ next. OnLine (IsLookAgainStep options word first course next) (L.told line.old) (L.told line.new)) }

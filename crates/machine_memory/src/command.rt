@@ -31,10 +31,10 @@ use std::io::Write;
 /// the test ended.
 ///
 /// First the console is tried at the first word, as `probe` does; where it stores digits at an illegal key nothing is tested.
-/// If that word holds, the bus is tested there: four numbers are deposited, one after another, and while it holds the last the
-/// words that are one address line away are looked at. Then it gets its old number again. Then every so manieth word is read
-/// twice, turned over and put back; one that did not hold, once more. Where nothing answers the test goes on at the next bank
-/// of 4,096 words.
+/// Then every so manieth word is read twice, turned over and put back. Where nothing answers the test goes on at the next bank
+/// of 4,096 words. Where each word of the range was tested, its bus is tested at the first word that holds: four numbers are
+/// deposited there, one after another, and while it holds the last the words that are one address line away are looked at.
+/// Then it gets its old number again.
 ///
 /// `Connect` comes before anything was sent. `WriteOutput` is a report that could not be written whole. `Memory` comes only
 /// where a growth was refused, with nothing reported.

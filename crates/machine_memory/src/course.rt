@@ -24,9 +24,6 @@ pub enum Place {
     /// The console is tried at this word.
     Trying(u16),
 
-    /// The word at this address is tested by itself: the bus is tested at a word that holds.
-    Proving(u16),
-
     /// The words from this one on are tested.
     Testing(u16),
 
@@ -75,8 +72,6 @@ impl Course {
             gaps: Vec::with_capacity(alloc, 8)?,
             bus: Bus {
                 at: None,
-                unfit: None,
-                doubted: false,
                 touches: false,
                 looked_at: 0,
                 marked: Vec::with_capacity(alloc, 16)?,
@@ -147,7 +142,7 @@ impl Course {
     {
         match judge(found) {
             Verdict::Forgets => Ok(Course {
-                place: Place::Proving(found.address),
+                place: Place::Testing(found.address),
                 ..self
             }),
             Verdict::Stores => {
@@ -188,12 +183,17 @@ impl Course {
     {
         let course = self.with_words(core)?;
         let borrowed = core.borrowed();
-        match stop {
-            Stop::Ended(End::Complete) => Ok(course.over(TestEnd::Tested, borrowed)),
-            Stop::Ended(End::NoWord(gap)) => course.with_gap(gap, test_next(next_bank(gap, to))),
-            Stop::Ended(End::GaveUp) => Ok(course.over(TestEnd::GaveUp, borrowed)),
-            Stop::KeepFailed(_) => Ok(course.over(TestEnd::CutOff(Cut::TurnsOver), borrowed)),
-            Stop::CutOff(cut) => Ok(course.over(TestEnd::CutOff(cut), borrowed)),
+        match (stop, borrowed) {
+            (Stop::Ended(End::Complete), _) => Ok(course.over(TestEnd::Tested, borrowed)),
+            (Stop::Ended(End::NoWord(gap)), None) => {
+                course.with_gap(gap, test_next(next_bank(gap, to)))
+            }
+            (Stop::Ended(End::NoWord(address)), Some(_)) => {
+                Ok(course.over(TestEnd::NoWord(address), borrowed))
+            }
+            (Stop::Ended(End::GaveUp), _) => Ok(course.over(TestEnd::GaveUp, borrowed)),
+            (Stop::KeepFailed(_), _) => Ok(course.over(TestEnd::CutOff(Cut::TurnsOver), borrowed)),
+            (Stop::CutOff(cut), _) => Ok(course.over(TestEnd::CutOff(cut), borrowed)),
         }
     }
 }

@@ -1,27 +1,25 @@
 //! The hosts of a test of memory, one after another over one line.
-ghost use Rattle.std.specs.Prelude.{◌≡◌, ◌∷◌, [], None, IfOk, OnErr};
-ghost use Rattle.reading_core.specs.Addresses.{IsAddress, IsRange};
+ghost use Rattle.std.specs.Prelude.{◌≡◌, None, IfOk, OnErr};
+ghost use Rattle.reading_core.specs.Addresses.{IsRange};
 ghost use Rattle.machine_probe.specs.Runs.{OnLine};
-ghost use Rattle.machine_memory.specs.declared.course.Place.TheVariants.{Proving, Testing, Trying};
+ghost use Rattle.machine_memory.specs.declared.course.Place.TheVariants.{Testing, Trying};
 ghost use Rattle.machine_memory.specs.BusRuns.{IsReady, IsUnlent};
 ghost use Rattle.machine_memory.specs.Course.{AreWords, IsWithin};
 ghost use Rattle.machine_memory.specs.Options.{IsAsked};
-ghost use Rattle.memory_core.specs.Tester.{begun};
-ghost use Rattle.machine_memory.specs.Runs.{IsCut, IsCutStep, IsProofStep, IsRow, IsStep, IsTestStep, IsTryStep};
+ghost use Rattle.machine_memory.specs.Runs.{IsCut, IsCutStep, IsRow, IsStep, IsTestStep, IsTryStep};
 
 use crate::behind::Behind;
 use crate::bus_steps::{back_for, look_again, look_around, mark_word, put_back};
 use crate::course::{Course, Place};
 use crate::memory_options::MemoryOptions;
-use host_devices::{Line, MOST_TURNS, Onlooker, Unwatched};
+use host_devices::{Line, MOST_TURNS, Onlooker};
 use machine_probe::{Deposit, ProbeOptions, try_console};
 use memory_core::MemoryCore;
 use memory_engine::{WordWatch, put_to_test};
 use std::alloc::{AllocError, Global};
 
 // More steps than a test has: in each of the seven banks the console is tried or words are tested, and once more where the
-// console forgets; a word is tested by itself; five numbers are deposited, and one once more; and behind each of fifteen words
-// nothing may answer, twice.
+// console forgets; five numbers are deposited, and behind each of fifteen words nothing may answer, twice.
 const STEPS: u32 = 64;
 
 /// Leads the hosts of a test, one after another over the line, until it is over.
@@ -72,8 +70,7 @@ fn step<L: Line, O: Onlooker + WordWatch>(
 {
     match course.place {
         Place::Trying(at) => try_at(alloc, course, at, options, line),
-        Place::Proving(at) => prove_word(alloc, course, at, back, options, line, onlooker),
-        Place::Testing(at) => test_from(alloc, course, at, options, line, onlooker),
+        Place::Testing(at) => test_from(alloc, course, at, back, options, line, onlooker),
         Place::Marking(word, place) => {
             onlooker.borrows(word);
             mark_word(alloc, course, word, place, back, options, line)
@@ -110,47 +107,12 @@ fn try_at<L: Line>(
     course.behind_trial(&found, options.to)
 }
 
-// Tests the word at this address by itself, for the bus.
-fn prove_word<L: Line, W: WordWatch>(
-    alloc: Global,
-    course: Course,
-    at: u16,
-    back: &mut Option<Deposit>,
-    options: MemoryOptions,
-    line: &mut L,
-    watch: &W,
-) -> Result<Course, AllocError>
-    requires within { IsRange at options.to }
-    requires words { AreWords course.words }
-    ensures made { IfOk result (λ next. OnLine (IsProofStep options at course next) (L.told line.old) (L.told line.new)) }
-    ensures within { IfOk result (λ next. IsWithin options.to next.place) }
-    ensures words { IfOk result (λ next. AreWords next.words) }
-    ensures ready { IfOk result (λ next. IsReady options next.place back.new) }
-    ensures cut { OnErr result (OnLine (IsCutStep options (Proving at)) (L.told line.old) (L.told line.new)) }
-{
-    let core = one_word(alloc, at, options.patience)?;
-    let (core, stop) = put_to_test(core, line, MOST_TURNS, &Unwatched, watch);
-    let next = course.behind_proof(at, &core, stop);
-    *back = back_for(alloc, next.place, options)?;
-    Ok(next)
-}
-
-// A host that tests one word. The error is want of memory.
-fn one_word(alloc: Global, at: u16, patience: u32) -> Result<MemoryCore, AllocError>
-    requires { IsAddress at }
-    ensures { IfOk result (λ core. core ≡ begun (at ∷ []) patience) }
-{
-    let mut addresses = Vec::with_capacity(alloc, 1)?;
-    addresses.push(at)?;
-    let room = Vec::with_capacity(alloc, 1)?;
-    Ok(MemoryCore::in_room(addresses, room, patience))
-}
-
 // Tests the words from this one on.
 fn test_from<L: Line, O: Onlooker + WordWatch>(
     alloc: Global,
     course: Course,
     at: u16,
+    back: &mut Option<Deposit>,
     options: MemoryOptions,
     line: &mut L,
     onlooker: &O,
@@ -161,7 +123,7 @@ fn test_from<L: Line, O: Onlooker + WordWatch>(
     ensures made { IfOk result (λ next. OnLine (IsTestStep options at course next) (L.told line.old) (L.told line.new)) }
     ensures within { IfOk result (λ next. IsWithin options.to next.place) }
     ensures words { IfOk result (λ next. AreWords next.words) }
-    ensures ready { IfOk result (λ next. IsUnlent next.place) }
+    ensures ready { IfOk result (λ next. IsReady options next.place back.new) }
     ensures cut { OnErr result (OnLine (IsCutStep options (Testing at)) (L.told line.old) (L.told line.new)) }
 {
     let core = MemoryCore::of_range(alloc, at, options.to, options.every, options.patience)?;
@@ -170,5 +132,8 @@ fn test_from<L: Line, O: Onlooker + WordWatch>(
         tested: u32::try_from(course.words.len()).unwrap_or(u32::MAX),
     };
     let (core, stop) = put_to_test(core, line, MOST_TURNS, &behind, onlooker);
-    course.behind_test(&core, stop, options.to)
+    let next = course.behind_test(&core, stop, options.to)?;
+    let next = next.then_bus(options.every);
+    *back = back_for(alloc, next.place, options)?;
+    Ok(next)
 }

@@ -2,7 +2,7 @@
 ghost use Rattle.std.specs.Prelude.{◌≡◌, ◌≤◌, ◌++◌, length, OnOk};
 ghost use Rattle.machine_memory.specs.Words.{words_of};
 
-use memory_core::Outcome;
+use memory_core::Seen;
 use memory_report::Word;
 use std::alloc::AllocError;
 
@@ -10,7 +10,7 @@ use std::alloc::AllocError;
 pub(crate) fn push_words(
     words: &mut Vec<Word>,
     addresses: &[u16],
-    seen: &[Outcome],
+    seen: &[Seen],
 ) -> Result<(), AllocError>
     requires { length seen.now ≤ length addresses.now }
     ensures { OnOk result (words.new.items ≡ words.old.items ++ words_of addresses.now seen.now) }
@@ -18,8 +18,7 @@ pub(crate) fn push_words(
     for (place, seen) in seen.iter().enumerate() {
         words.push(Word {
             address: addresses[place],
-            seen: seen.last,
-            failed: seen.failed,
+            seen: *seen,
         })?;
     }
     Ok(())

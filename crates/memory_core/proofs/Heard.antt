@@ -1,15 +1,15 @@
 -- What is reported was heard: what a life has heard so far, phase by phase. (The first part is that of host_core's Readings, which keeps it to itself.)
-use Rattle.std.proofs.Common.{◌≡◌, ◌≢◌, ℕ, zero, suc, ◌+◌, ◌-◌, ◌*◌, ◌<◌, ◌≤◌, Bool, true, false, ◌==◌, nat_lt, if◌then◌else◌, List, [], ◌∷◌, ◌++◌, length, map, refl, arith, inl, inr, subst, sym, ◌∙◌, ap, append_assoc, append-nil, length-append}
+use Rattle.std.proofs.Common.{◌≡◌, ◌≢◌, ℕ, zero, suc, ◌+◌, ◌-◌, ◌*◌, ◌<◌, ◌≤◌, Bool, true, false, ◌==◌, nat_lt, if◌then◌else◌, List, [], ◌∷◌, ◌++◌, length, map, refl, arith, subst, sym, ◌∙◌, ap, append_assoc, append-nil, length-append}
 use Rattle.std.specs.Prelude.{All, IsTrue, slice_index, fold}
 use Rattle.std.proofs.lemmas.List.Elements.{All-append}
-use Rattle.std.proofs.lemmas.List.{map-append}
+use Rattle.std.proofs.lemmas.List.{map-append, length_push}
 use Rattle.std.proofs.lemmas.List.Sums.{fold-append}
 use Rattle.std.proofs.lemmas.Bool.Decides.{nat_tests}
 use borrow.Author.Tests.{eqb-true}
 use Rattle.octal.specs.Octal.{octal_text, digit_of, is_digit, pushed}
 use Rattle.octal.proofs.Digits.{octal_text-only, pushed-small, pushed-octal_value}
 use Rattle.host_core.specs.Answers.{resynchronise_reply, return_reply, digit_echo, reading_start, reading_rest}
-use Rattle.host_core.specs.Console.{carriage_return, resynchronise, space}
+use Rattle.host_core.specs.Console.{resynchronise, space}
 use Rattle.host_core.specs.Host.{value_room}
 use Rattle.host_core.specs.declared.heard.Heard.{Heard}
 use Rattle.host_core.specs.declared.heard.Heard.TheVariants.{Got, Quiet}
@@ -20,20 +20,16 @@ use Rattle.host_core.proofs.Replies.{either, resynchronise_walk, return_walk, ec
 use Rattle.host_core.proofs.Turns.{room_le, room_step, digit_below_eight}
 use Rattle.memory_core.specs.declared.phase.Phase.{Phase}
 use Rattle.memory_core.specs.declared.phase.Phase.TheVariants.{Settle, Sync, Address, Slash, Before, Value, Deposit, Return, Close, Ended}
-use Rattle.memory_core.specs.declared.phase.End.TheVariants.{Complete, GaveUp, NoWord}
+use Rattle.memory_core.specs.declared.phase.End.TheVariants.{Complete, GaveUp}
 use Rattle.memory_core.specs.declared.seen.Seen.{Seen}
 use Rattle.memory_core.specs.declared.seen.Seen.TheVariants.{Unsteady, Tested}
 use Rattle.memory_core.specs.declared.stage.Stage.{Stage}
 use Rattle.memory_core.specs.declared.stage.Stage.TheVariants.{Unseen, Once, Turned, Returned}
 use Rattle.memory_core.specs.declared.turn.Turn.{Turn}
-use Rattle.memory_core.specs.declared.turn.Turn.TheVariants.{Listen, Key, LooksAgain, Deposits, Counts, ReadBack, Next, Missing, Stray, Timeout}
-use Rattle.memory_core.specs.declared.doubt.Doubt.{Doubt}
-use Rattle.memory_core.specs.declared.doubt.Doubt.TheVariants.{Nothing, Refused, Failed}
-use Rattle.memory_core.specs.Doubt.{IsSameOrRefused, is_final, outcome}
-use Rattle.memory_core.specs.Seen.{holds}
+use Rattle.memory_core.specs.declared.turn.Turn.TheVariants.{Listen, Key, LooksAgain, Deposits, Counts, ReadBack, Next, Stop, Stray, Timeout}
 use Rattle.memory_core.specs.Invariant.{IsTester, Basis, basis_of, PhaseFits}
 use Rattle.memory_core.specs.Laws.{led, replay, WasRead, StageIsHeard, WordIsHeard, TellsOnlyHeard, ReportsOnlyHeard}
-use Rattle.memory_core.specs.MemoryTable.{TesterStep, ask, taken, turn_of, hears, waits, synced, addressed, read, reads, counted, deposited, refused, returned, closed, sends, stray, listens}
+use Rattle.memory_core.specs.MemoryTable.{TesterStep, ask, taken, turn_of, hears, waits, synced, addressed, read, reads, deposited, returned, closed, sends, listens}
 use Rattle.memory_core.specs.Stage.{number_of}
 use Rattle.memory_core.specs.Tester.{Tester, address_under_way, begun, first_phase}
 use Rattle.memory_core.proofs.Lives.{led_kept}
@@ -197,36 +193,18 @@ turn_tells t Quiet heard h f = waits_tells t.stage t.phase (heard ++ Quiet ∷ [
 either_step : (P : TesterStep → Type 0) (test : Bool) (a b : TesterStep) → P a → P b → P (if test then a else b)
 either_step P test a b one other = on_test (λ v. P (if v then a else b)) test (λ _. one) (λ _. other)
 
-stray_heard : (t : Tester) (heard : List Heard) → HeardFits (stray t).next.phase heard
-stray_heard t heard =
-    either_step (λ a. HeardFits a.next.phase heard) (nat_lt t.spent t.patience) (listens (record t { spent = t.spent + 1 }) Settle) (listens t (Ended GaveUp)) tt tt
-
-refused_heard : (t : Tester) (address : ℕ) (stage : Stage) (doubt : Doubt) (heard : List Heard) → HeardFits (refused t address stage doubt).next.phase heard
-refused_heard t address Unseen Nothing heard = tt
-refused_heard t address Unseen Refused heard = tt
-refused_heard t address Unseen (Failed first) heard = stray_heard t heard
-refused_heard t address (Once first) doubt heard = stray_heard t heard
-refused_heard t address (Turned old) doubt heard = stray_heard t heard
-refused_heard t address (Returned old turned) doubt heard = stray_heard t heard
-
--- a test of the word that counts, and one that does not
-abbrev with_outcome : Tester → Seen → TesterStep
-with_outcome t word = sends (record t { seen = t.seen ++ outcome word t.doubt ∷ []; doubt = Nothing; stage = Unseen }) carriage_return (Close 0)
-
-abbrev with_failure : Tester → Seen → TesterStep
-with_failure t word = sends (record t { doubt = Failed word; stage = Unseen }) carriage_return (Close 0)
-
 taken_heard : (t : Tester) (turn : Turn) (heard : List Heard) → Tells t.stage heard turn → HeardFits (taken t turn).next.phase heard
 taken_heard t (Listen phase) heard h = h
 taken_heard t (Key key phase) heard h = h
 taken_heard t (LooksAgain first) heard h = tt
 taken_heard t (Deposits stage) heard h = tt
-taken_heard t (Counts word) heard h = either_step (λ a. HeardFits a.next.phase heard) (is_final word t.doubt) (with_outcome t word) (with_failure t word) tt tt
+taken_heard t (Counts word) heard h = tt
 taken_heard t ReadBack heard h = tt
 taken_heard t Next heard h =
     either_step (λ a. HeardFits a.next.phase heard) (nat_lt (length t.seen) (length t.addresses)) (sends t (digit_of (address_under_way t) 1) (Address Look 1)) (listens t (Ended Complete)) tt tt
-taken_heard t (Missing address) heard h = refused_heard t address t.stage t.doubt heard
-taken_heard t Stray heard h = stray_heard t heard
+taken_heard t (Stop end) heard h = tt
+taken_heard t Stray heard h =
+    either_step (λ a. HeardFits a.next.phase heard) (nat_lt t.spent t.patience) (listens (record t { spent = t.spent + 1 }) Settle) (listens t (Ended GaveUp)) tt tt
 taken_heard t Timeout heard h =
     either_step (λ a. HeardFits a.next.phase heard) (nat_lt t.spent t.patience) (sends (record t { spent = t.spent + 1 }) resynchronise (Sync 0)) (listens t (Ended GaveUp)) tt tt
 
@@ -270,50 +248,31 @@ same_stage address (Turned old) heard typed = refl
 same_stage address (Returned old turned) heard typed = refl
 
 -- nothing more is known, and no word more is tested
-still : (t : Tester) (a : TesterStep) (heard : List Heard) (typed : List ℕ) → a.next.seen ≡ t.seen → a.next.stage ≡ t.stage → IsSameOrRefused t.doubt a.next.doubt → TellsOnlyHeard t a.next heard typed
-still t a heard typed seen stage doubt =
-    inl (record { seen = seen; stage = subst (λ s. StageIsHeard (address_under_way t) t.stage s heard typed) (sym stage) (same_stage (address_under_way t) t.stage heard typed); doubt = doubt })
+still : (t : Tester) (a : TesterStep) (heard : List Heard) (typed : List ℕ) → a.next.seen ≡ t.seen → a.next.stage ≡ t.stage → TellsOnlyHeard t a.next heard typed
+still t a heard typed seen stage =
+    record { stage = λ _. subst (λ s. StageIsHeard (address_under_way t) t.stage s heard typed) (sym stage) (same_stage (address_under_way t) t.stage heard typed); word = λ other. absurd (other seen) }
 
-stray_tells : (t : Tester) (heard : List Heard) (typed : List ℕ) → TellsOnlyHeard t (stray t).next heard typed
-stray_tells t heard typed =
-    either_step (λ a. TellsOnlyHeard t a.next heard typed) (nat_lt t.spent t.patience) (listens (record t { spent = t.spent + 1 }) Settle) (listens t (Ended GaveUp))
-    (still t (listens (record t { spent = t.spent + 1 }) Settle) heard typed refl refl (inl refl)) (still t (listens t (Ended GaveUp)) heard typed refl refl (inl refl))
-
-refused_tells : (t : Tester) (address : ℕ) (stage : Stage) (doubt : Doubt) (heard : List Heard) (typed : List ℕ) → t.doubt ≡ doubt → TellsOnlyHeard t (refused t address stage doubt).next heard typed
-refused_tells t address Unseen Nothing heard typed is = still t (listens (record t { doubt = Refused }) Settle) heard typed refl refl (inr (is, refl))
-refused_tells t address Unseen Refused heard typed is = still t (listens t (Ended (NoWord address))) heard typed refl refl (inl refl)
-refused_tells t address Unseen (Failed first) heard typed is = stray_tells t heard typed
-refused_tells t address (Once first) doubt heard typed is = stray_tells t heard typed
-refused_tells t address (Turned old) doubt heard typed is = stray_tells t heard typed
-refused_tells t address (Returned old turned) doubt heard typed is = stray_tells t heard typed
-
--- only a word that did not hold is tested once more
-not_final : (word : Seen) (doubt : Doubt) → is_final word doubt ≡ false → holds word ≡ false
-not_final word Nothing e = e
-not_final word Refused e = e
-not_final word (Failed first) e = absurd (cc e)
-
-counted_tells : (t : Tester) (word : Seen) (heard : List Heard) (typed : List ℕ) → WordIsHeard (address_under_way t) t.stage word heard typed → TellsOnlyHeard t (counted t word).next heard typed
-counted_tells t word heard typed read =
-    on_test (λ v. TellsOnlyHeard t (if v then with_outcome t word else with_failure t word).next heard typed) (is_final word t.doubt)
-    (λ final. inr (inr (record { word = word; seen = refl; read = read; final = final; doubt = refl; stage = refl })))
-    (λ first. inr (inl (record { word = word; seen = refl; read = read; fails = not_final word t.doubt first; doubt = refl; stage = refl })))
+one_longer : (seen : List Seen) (word : Seen) → seen ++ word ∷ [] ≡ seen → ⊥
+one_longer seen word same = absurd (omega (arith, ap length same, length_push seen word))
 
 taken_tells : (t : Tester) (turn : Turn) (heard : List Heard) (typed : List ℕ) → Tells t.stage heard turn → TurnIsTyped (address_under_way t) t.stage turn typed → TellsOnlyHeard t (taken t turn).next heard typed
-taken_tells t (Listen phase) heard typed h k = still t (listens t phase) heard typed refl refl (inl refl)
-taken_tells t (Key key phase) heard typed h k = still t (sends t key phase) heard typed refl refl (inl refl)
-taken_tells t (LooksAgain first) heard typed h k = inl (record { seen = refl; stage = stage_both (address_under_way t) t.stage (Once first) heard typed h k; doubt = inl refl })
-taken_tells t (Deposits stage) heard typed h k = inl (record { seen = refl; stage = stage_both (address_under_way t) t.stage stage heard typed h k; doubt = inl refl })
-taken_tells t (Counts word) heard typed h k = counted_tells t word heard typed (word_both (address_under_way t) t.stage word heard typed h k)
-taken_tells t ReadBack heard typed h k = still t (taken t ReadBack) heard typed refl refl (inl refl)
+taken_tells t (Listen phase) heard typed h k = still t (listens t phase) heard typed refl refl
+taken_tells t (Key key phase) heard typed h k = still t (sends t key phase) heard typed refl refl
+taken_tells t (LooksAgain first) heard typed h k = record { stage = λ _. stage_both (address_under_way t) t.stage (Once first) heard typed h k; word = λ other. absurd (other refl) }
+taken_tells t (Deposits stage) heard typed h k = record { stage = λ _. stage_both (address_under_way t) t.stage stage heard typed h k; word = λ other. absurd (other refl) }
+taken_tells t (Counts word) heard typed h k =
+    record { stage = λ same. absurd (one_longer t.seen word same); word = λ _. record { word = word; seen = refl; read = word_both (address_under_way t) t.stage word heard typed h k; stage = refl } }
+taken_tells t ReadBack heard typed h k = still t (taken t ReadBack) heard typed refl refl
 taken_tells t Next heard typed h k =
     either_step (λ a. TellsOnlyHeard t a.next heard typed) (nat_lt (length t.seen) (length t.addresses)) (sends t (digit_of (address_under_way t) 1) (Address Look 1)) (listens t (Ended Complete))
-    (still t (sends t (digit_of (address_under_way t) 1) (Address Look 1)) heard typed refl refl (inl refl)) (still t (listens t (Ended Complete)) heard typed refl refl (inl refl))
-taken_tells t (Missing address) heard typed h k = refused_tells t address t.stage t.doubt heard typed refl
-taken_tells t Stray heard typed h k = stray_tells t heard typed
+    (still t (sends t (digit_of (address_under_way t) 1) (Address Look 1)) heard typed refl refl) (still t (listens t (Ended Complete)) heard typed refl refl)
+taken_tells t (Stop end) heard typed h k = still t (listens t (Ended end)) heard typed refl refl
+taken_tells t Stray heard typed h k =
+    either_step (λ a. TellsOnlyHeard t a.next heard typed) (nat_lt t.spent t.patience) (listens (record t { spent = t.spent + 1 }) Settle) (listens t (Ended GaveUp))
+    (still t (listens (record t { spent = t.spent + 1 }) Settle) heard typed refl refl) (still t (listens t (Ended GaveUp)) heard typed refl refl)
 taken_tells t Timeout heard typed h k =
     either_step (λ a. TellsOnlyHeard t a.next heard typed) (nat_lt t.spent t.patience) (sends (record t { spent = t.spent + 1 }) resynchronise (Sync 0)) (listens t (Ended GaveUp))
-    (still t (sends (record t { spent = t.spent + 1 }) resynchronise (Sync 0)) heard typed refl refl (inl refl)) (still t (listens t (Ended GaveUp)) heard typed refl refl (inl refl))
+    (still t (sends (record t { spent = t.spent + 1 }) resynchronise (Sync 0)) heard typed refl refl) (still t (listens t (Ended GaveUp)) heard typed refl refl)
 
 first_heard : (n : ℕ) → HeardFits (first_phase n) []
 first_heard n = on_test (λ v. HeardFits (if v then Ended Complete else Settle) []) (n == 0) (λ _. tt) (λ _. tt)

@@ -1,5 +1,5 @@
 -- Each turn of the table keeps what holds of every tester, and types a digit, `/`, CR or `Z` at most.
-use Rattle.std.proofs.Common.{◌≡◌, ℕ, ◌+◌, ◌-◌, ◌^◌, ◌<◌, ◌≤◌, Bool, true, false, ◌==◌, nat_lt, if◌then◌else◌, List, [], ◌∷◌, ◌++◌, length, inl, inr, refl, arith, ap, subst, length-append}
+use Rattle.std.proofs.Common.{◌≡◌, ℕ, ◌+◌, ◌-◌, ◌^◌, ◌<◌, ◌≤◌, Bool, true, false, ◌==◌, nat_lt, if◌then◌else◌, List, [], length, inl, inr, refl, arith, length-append}
 use borrow.Author.Tests.{ltb-true, ltb-false, eqb-true}
 use Rattle.octal.proofs.Heads.{digit_of-is_digit}
 use Rattle.octal.specs.Octal.{digit_of}
@@ -19,14 +19,10 @@ use Rattle.memory_core.specs.declared.phase.End.TheVariants.{Complete, GaveUp}
 use Rattle.memory_core.specs.declared.stage.Stage.{Stage}
 use Rattle.memory_core.specs.declared.stage.Stage.TheVariants.{Unseen, Once, Turned, Returned}
 use Rattle.memory_core.specs.declared.turn.Turn.{Turn}
-use Rattle.memory_core.specs.declared.turn.Turn.TheVariants.{Listen, Key, LooksAgain, Deposits, Counts, ReadBack, Next, Missing, Stray, Timeout}
-use Rattle.memory_core.specs.declared.doubt.Doubt.{Doubt}
-use Rattle.memory_core.specs.declared.doubt.Doubt.TheVariants.{Nothing, Refused, Failed}
-use Rattle.memory_core.specs.declared.seen.Seen.{Seen}
-use Rattle.memory_core.specs.Doubt.{is_final, outcome}
-use Rattle.memory_core.specs.Bound.{testing_bound, used_before, used_in_doubt, used_in_visit, used_up_to}
-use Rattle.memory_core.specs.Invariant.{IsTester, Basis, basis_of, PhaseFits, StageFits, VisitFits, HasWord}
-use Rattle.memory_core.specs.MemoryTable.{TesterStep, IsTesting, KeyTests, ask, taken, turn_of, hears, waits, synced, addressed, read, reads, second_look, deposited, returned, closed, next_word, counted, refused, stray, sends, listens}
+use Rattle.memory_core.specs.declared.turn.Turn.TheVariants.{Listen, Key, LooksAgain, Deposits, Counts, ReadBack, Next, Stop, Stray, Timeout}
+use Rattle.memory_core.specs.Bound.{testing_bound, used_before, used_in_visit, used_up_to}
+use Rattle.memory_core.specs.Invariant.{IsTester, Basis, basis_of, PhaseFits, StageFits, VisitFits, EndFits, HasWord}
+use Rattle.memory_core.specs.MemoryTable.{TesterStep, IsTesting, KeyTests, ask, taken, turn_of, hears, waits, synced, addressed, read, reads, second_look, deposited, returned, closed, next_word, sends, listens}
 use Rattle.memory_core.specs.Stage.{IsTouched, AreNumbers, number_of}
 use Rattle.memory_core.specs.Tester.{Tester, address_nr, address_under_way, begun}
 
@@ -39,7 +35,7 @@ TurnFits (Deposits stage) b n = HasWord b × IsTouched stage × AreNumbers stage
 TurnFits (Counts word) b n = HasWord b × (n + used_up_to b.stage ≤ 44)
 TurnFits ReadBack b n = HasWord b × IsTouched b.stage × (n ≤ 15)
 TurnFits Next b n = n ≤ 1
-TurnFits (Missing address) b n = HasWord b × (address ≡ address_nr b.addresses (length b.seen)) × (n ≤ 22) × (b.stage ≡ Unseen → n ≤ 8)
+TurnFits (Stop end) b n = EndFits end b × (n ≤ 22)
 TurnFits Stray b n = n ≤ 22
 TurnFits Timeout b n = n ≤ 22
 
@@ -92,73 +88,6 @@ given_up : (t : Tester) → IsTester t → t.patience ≤ t.spent → used_in_vi
 given_up t h out f =
     record { asked = h.asked; within = h.within; patient = h.patient; long = h.long; stage = h.stage; numbers = h.numbers; fits = omega (arith, h.patient, out); paid = omega (arith, h.paid, f) }
 
-strays_kept : (t : Tester) → IsTester t → used_in_visit t.phase ≤ 22 → IsTester (stray t).next
-strays_kept t h f =
-    either_asked (nat_lt t.spent t.patience) _ _
-    (λ more. record { asked = h.asked; within = h.within; patient = omega (arith, ltb-true _ _ more); long = h.long; stage = stage_spent t.stage (basis_of t) (t.spent + 1) h.stage; numbers = h.numbers; fits = tt; paid = omega (arith, h.paid, f) })
-    (λ none. given_up t h (ltb-false _ _ none) f)
-
--- a first test costs no more than the doubt that it may leave
-test_paid : (word : Seen) (doubt : Doubt) → is_final word doubt ≡ false → used_in_doubt doubt ≤ 8
-test_paid word Nothing e = omega arith
-test_paid word Refused e = omega arith
-test_paid word (Failed first) e = absurd (cc e)
-
-doubt_le : (doubt : Doubt) → used_in_doubt doubt ≤ 52
-doubt_le Nothing = omega arith
-doubt_le Refused = omega arith
-doubt_le (Failed first) = omega arith
-
-counted_kept : (t : Tester) (word : Seen) → IsTester t → TurnFits (Counts word) (basis_of t) (used_in_visit t.phase) → IsTester (counted t word).next
-counted_kept t word h f =
-    either_asked (is_final word t.doubt) _ _
-    (λ final. record {
-      asked = h.asked;
-      within = simp length-append (omega (arith, f.0));
-      patient = h.patient;
-      long = h.long;
-      stage = tt;
-      numbers = tt;
-      fits = omega arith;
-      paid = simp length-append (omega (arith, h.paid, f.1, doubt_le t.doubt));
-    })
-    (λ first. record {
-      asked = h.asked;
-      within = h.within;
-      patient = h.patient;
-      long = h.long;
-      stage = tt;
-      numbers = tt;
-      fits = omega arith;
-      paid = omega (arith, h.paid, f.1, test_paid word t.doubt first);
-    })
-
-refused_kept : (t : Tester) (address : ℕ) (stage : Stage) (doubt : Doubt) → t.stage ≡ stage → t.doubt ≡ doubt → IsTester t → TurnFits (Missing address) (basis_of t) (used_in_visit t.phase) → IsTester (refused t address stage doubt).next
-refused_kept t address Unseen Nothing is none h f = record {
-  asked = h.asked;
-  within = h.within;
-  patient = h.patient;
-  long = h.long;
-  stage = h.stage;
-  numbers = h.numbers;
-  fits = tt;
-  paid = omega (arith, h.paid, f.3 is, ap used_in_doubt none);
-}
-refused_kept t address Unseen Refused is once h f = record {
-  asked = h.asked;
-  within = h.within;
-  patient = h.patient;
-  long = h.long;
-  stage = h.stage;
-  numbers = h.numbers;
-  fits = (f.0, f.1, is);
-  paid = omega (arith, h.paid, f.2);
-}
-refused_kept t address Unseen (Failed first) is failed h f = strays_kept t h f.2
-refused_kept t address (Once first) doubt is so h f = strays_kept t h f.2
-refused_kept t address (Turned old) doubt is so h f = strays_kept t h f.2
-refused_kept t address (Returned old turned) doubt is so h f = strays_kept t h f.2
-
 taken_kept : (t : Tester) (turn : Turn) → IsTester t → TurnFits turn (basis_of t) (used_in_visit t.phase) → IsTester (taken t turn).next
 taken_kept t (Listen phase) h f = record { asked = h.asked; within = h.within; patient = h.patient; long = h.long; stage = h.stage; numbers = h.numbers; fits = f.0; paid = omega (arith, h.paid, f.1) }
 taken_kept t (Key key phase) h f = record { asked = h.asked; within = h.within; patient = h.patient; long = h.long; stage = h.stage; numbers = h.numbers; fits = f.0; paid = omega (arith, h.paid, f.1) }
@@ -182,11 +111,23 @@ taken_kept t (Deposits stage) h f = record {
   fits = (f.0, record { from = omega arith; to = omega arith }, f.1);
   paid = omega (arith, h.paid, f.3);
 }
-taken_kept t (Counts word) h f = counted_kept t word h f
+taken_kept t (Counts word) h f = record {
+  asked = h.asked;
+  within = simp length-append (omega (arith, f.0));
+  patient = h.patient;
+  long = h.long;
+  stage = tt;
+  numbers = tt;
+  fits = omega arith;
+  paid = simp length-append (omega (arith, h.paid, f.1));
+}
 taken_kept t ReadBack h f = record { asked = h.asked; within = h.within; patient = h.patient; long = h.long; stage = h.stage; numbers = h.numbers; fits = (f.0, record { from = omega arith; to = omega arith }, f.1); paid = omega (arith, h.paid, f.2) }
 taken_kept t Next h f = next_kept t h f
-taken_kept t (Missing address) h f = refused_kept t address t.stage t.doubt refl refl h f
-taken_kept t Stray h f = strays_kept t h f
+taken_kept t (Stop end) h f = record { asked = h.asked; within = h.within; patient = h.patient; long = h.long; stage = h.stage; numbers = h.numbers; fits = f.0; paid = omega (arith, h.paid, f.1) }
+taken_kept t Stray h f =
+    either_asked (nat_lt t.spent t.patience) _ _
+    (λ more. record { asked = h.asked; within = h.within; patient = omega (arith, ltb-true _ _ more); long = h.long; stage = stage_spent t.stage (basis_of t) (t.spent + 1) h.stage; numbers = h.numbers; fits = tt; paid = omega (arith, h.paid, f) })
+    (λ none. given_up t h (ltb-false _ _ none) f)
 taken_kept t Timeout h f =
     either_asked (nat_lt t.spent t.patience) _ _
     (λ more. record { asked = h.asked; within = h.within; patient = omega (arith, ltb-true _ _ more); long = h.long; stage = stage_spent t.stage (basis_of t) (t.spent + 1) h.stage; numbers = h.numbers; fits = omega arith; paid = omega (arith, h.paid, f) })
@@ -195,29 +136,16 @@ taken_kept t Timeout h f =
 either_key : (test : Bool) (m k : TesterStep) → KeyTests m.key → KeyTests k.key → KeyTests (if test then m else k).key
 either_key test m k one other = on_test (λ v. KeyTests (if v then m else k).key) test (λ _. one) (λ _. other)
 
-stray_tests : (t : Tester) → KeyTests (stray t).key
-stray_tests t = either_key (nat_lt t.spent t.patience) (listens (record t { spent = t.spent + 1 }) Settle) (listens t (Ended GaveUp)) tt tt
-
-refused_tests : (t : Tester) (address : ℕ) (stage : Stage) (doubt : Doubt) → KeyTests (refused t address stage doubt).key
-refused_tests t address Unseen Nothing = tt
-refused_tests t address Unseen Refused = tt
-refused_tests t address Unseen (Failed first) = stray_tests t
-refused_tests t address (Once first) doubt = stray_tests t
-refused_tests t address (Turned old) doubt = stray_tests t
-refused_tests t address (Returned old turned) doubt = stray_tests t
-
 taken_tests : (t : Tester) (turn : Turn) (b : Basis) (n : ℕ) → TurnFits turn b n → KeyTests (taken t turn).key
 taken_tests t (Listen phase) b n f = tt
 taken_tests t (Key key phase) b n f = f.2
 taken_tests t (LooksAgain first) b n f = return_tests
 taken_tests t (Deposits stage) b n f = digit_tests (number_of stage) 1
-taken_tests t (Counts word) b n f =
-    either_key (is_final word t.doubt) (sends (record t { seen = t.seen ++ outcome word t.doubt ∷ []; doubt = Nothing; stage = Unseen }) carriage_return (Close 0))
-    (sends (record t { doubt = Failed word; stage = Unseen }) carriage_return (Close 0)) return_tests return_tests
+taken_tests t (Counts word) b n f = return_tests
 taken_tests t ReadBack b n f = digit_tests (address_under_way t) 1
 taken_tests t Next b n f = either_key (nat_lt (length t.seen) (length t.addresses)) (sends t (digit_of (address_under_way t) 1) (Address Look 1)) (listens t (Ended Complete)) (digit_tests (address_under_way t) 1) tt
-taken_tests t (Missing address) b n f = refused_tests t address t.stage t.doubt
-taken_tests t Stray b n f = stray_tests t
+taken_tests t (Stop end) b n f = tt
+taken_tests t Stray b n f = either_key (nat_lt t.spent t.patience) (listens (record t { spent = t.spent + 1 }) Settle) (listens t (Ended GaveUp)) tt tt
 taken_tests t Timeout b n f = either_key (nat_lt t.spent t.patience) (sends (record t { spent = t.spent + 1 }) resynchronise (Sync 0)) (listens t (Ended GaveUp)) resync_tests tt
 
 -- ---- the rows
@@ -238,14 +166,9 @@ address_fits b address visit place c f =
 first_below : (c : ℕ) → 48 ≤ c → c ≤ 49 → c - 48 < 2
 first_below c low high = omega arith
 
--- a word of which nothing is known is not checked
-before_small : (visit : Visit) (stage : Stage) → VisitFits visit stage → stage ≡ Unseen → used_before visit + 7 ≤ 8
-before_small Look stage v is = omega arith
-before_small Check stage v is = absurd (subst IsTouched is v)
-
 before_fits : (b : Basis) (visit : Visit) (c : ℕ) → HasWord b → VisitFits visit b.stage → TurnFits (reads (address_nr b.addresses (length b.seen)) b.stage visit (reading_start c)) b (used_before visit + 7)
 before_fits b visit c f v =
-    start_walk (λ r. TurnFits (reads (address_nr b.addresses (length b.seen)) b.stage visit r) b (used_before visit + 7)) c (omega (arith, visit_le visit)) ((f, omega arith, omega arith, v), omega arith) (f, refl, omega (arith, visit_le visit), before_small visit b.stage v)
+    start_walk (λ r. TurnFits (reads (address_nr b.addresses (length b.seen)) b.stage visit r) b (used_before visit + 7)) c (omega (arith, visit_le visit)) ((f, omega arith, omega arith, v), omega arith) ((f, refl), omega (arith, visit_le visit))
     (λ low high. ((f, omega arith, first_below c low high, v), omega arith))
 
 -- two looks
@@ -335,16 +258,12 @@ up_to_le (Turned old) = omega arith
 up_to_le (Returned old turned) = omega arith
 
 pub within_bound : (t : Tester) → IsTester t → t.sent ≤ testing_bound (length t.addresses) t.patience
-within_bound t h = omega (arith, h.paid, end_used (basis_of t) t.phase h.fits, up_to_le t.stage, doubt_le t.doubt, h.within, h.patient)
-
--- one character more can be counted
-pub counted_room : (t : Tester) → IsTester t → t.sent < 2 ^ 64
-counted_room t h = omega (arith, within_bound t h, h.asked.few, h.long)
+within_bound t h = omega (arith, h.paid, end_used (basis_of t) t.phase h.fits, up_to_le t.stage, h.within, h.patient)
 
 -- ---- a life begins as every tester has to be
 
 begun_test : (addresses : List ℕ) (patience : ℕ) (done : Bool) → (length addresses == 0) ≡ done → AreAddresses addresses → patience < 2 ^ 32 →
-    IsTester (record { addresses = addresses; seen = []; patience = patience; spent = 0; sent = 0; doubt = Nothing; stage = Unseen; phase = if done then Ended Complete else Settle })
+    IsTester (record { addresses = addresses; seen = []; patience = patience; spent = 0; sent = 0; stage = Unseen; phase = if done then Ended Complete else Settle })
 begun_test addresses patience true e asked long = record { asked = asked; within = omega arith; patient = omega arith; long = long; stage = tt; numbers = tt; fits = (omega (arith, eqb-true _ _ e), refl); paid = omega arith }
 begun_test addresses patience false e asked long = record { asked = asked; within = omega arith; patient = omega arith; long = long; stage = tt; numbers = tt; fits = tt; paid = omega arith }
 

@@ -18,13 +18,10 @@ use Rattle.memory_core.specs.declared.phase.End.TheVariants.{Complete, GaveUp}
 use Rattle.memory_core.specs.declared.stage.Stage.{Stage}
 use Rattle.memory_core.specs.declared.stage.Stage.TheVariants.{Unseen, Once, Turned, Returned}
 use Rattle.memory_core.specs.declared.turn.Turn.{Turn}
-use Rattle.memory_core.specs.declared.turn.Turn.TheVariants.{Listen, Key, LooksAgain, Deposits, Counts, ReadBack, Next, Missing, Stray, Timeout}
-use Rattle.memory_core.specs.declared.doubt.Doubt.{Doubt}
-use Rattle.memory_core.specs.declared.doubt.Doubt.TheVariants.{Nothing, Refused, Failed}
-use Rattle.memory_core.specs.Doubt.{is_final, outcome}
+use Rattle.memory_core.specs.declared.turn.Turn.TheVariants.{Listen, Key, LooksAgain, Deposits, Counts, ReadBack, Next, Stop, Stray, Timeout}
 use Rattle.memory_core.specs.Invariant.{IsTester, Basis, basis_of, PhaseFits, VisitFits}
 use Rattle.memory_core.specs.Laws.{led, replay, opens, deposits, EndsWith, TypesOnlyTesting}
-use Rattle.memory_core.specs.MemoryTable.{TesterStep, IsTesting, KeyTests, ask, taken, turn_of, hears, waits, synced, addressed, read, reads, deposited, refused, returned, closed, sends, stray, listens}
+use Rattle.memory_core.specs.MemoryTable.{TesterStep, IsTesting, KeyTests, ask, taken, turn_of, hears, waits, synced, addressed, read, reads, deposited, returned, closed, sends, listens}
 use Rattle.memory_core.specs.Stage.{complement, number_of}
 use Rattle.memory_core.specs.Tester.{Tester, address_under_way, begun, first_phase}
 use Rattle.memory_core.proofs.Lives.{led_kept}
@@ -229,30 +226,18 @@ GoesWith typed a = FitsIn a.next (typed ++ option_to_list a.key)
 either_step : (typed : List ℕ) (test : Bool) (a b : TesterStep) → GoesWith typed a → GoesWith typed b → GoesWith typed (if test then a else b)
 either_step typed test a b one other = on_test (λ v. GoesWith typed (if v then a else b)) test (λ _. one) (λ _. other)
 
-stray_typed : (t : Tester) (typed : List ℕ) → GoesWith typed (stray t)
-stray_typed t typed = either_step typed (nat_lt t.spent t.patience) (listens (record t { spent = t.spent + 1 }) Settle) (listens t (Ended GaveUp)) (anything (typed ++ [])) (anything (typed ++ []))
-
-refused_typed : (t : Tester) (address : ℕ) (stage : Stage) (doubt : Doubt) (typed : List ℕ) → GoesWith typed (refused t address stage doubt)
-refused_typed t address Unseen Nothing typed = anything (typed ++ [])
-refused_typed t address Unseen Refused typed = anything (typed ++ [])
-refused_typed t address Unseen (Failed first) typed = stray_typed t typed
-refused_typed t address (Once first) doubt typed = stray_typed t typed
-refused_typed t address (Turned old) doubt typed = stray_typed t typed
-refused_typed t address (Returned old turned) doubt typed = stray_typed t typed
-
 taken_typed : (t : Tester) (turn : Turn) (typed : List ℕ) → Types (address_under_way t) t.stage t.phase turn → FitsIn t typed → GoesWith typed (taken t turn)
 taken_typed t (Listen phase) typed h fits = subst (Fits (address_under_way t) t.stage phase) (sym (append-nil typed)) (h typed fits)
 taken_typed t (Key key phase) typed h fits = h typed fits
 taken_typed t (LooksAgain first) typed h fits = anything (typed ++ carriage_return ∷ [])
 taken_typed t (Deposits next) typed h fits = (h typed fits).1
-taken_typed t (Counts word) typed h fits =
-    either_step typed (is_final word t.doubt) (sends (record t { seen = t.seen ++ outcome word t.doubt ∷ []; doubt = Nothing; stage = Unseen }) carriage_return (Close 0))
-    (sends (record t { doubt = Failed word; stage = Unseen }) carriage_return (Close 0)) (anything (typed ++ carriage_return ∷ [])) (anything (typed ++ carriage_return ∷ []))
+taken_typed t (Counts word) typed h fits = anything (typed ++ carriage_return ∷ [])
 taken_typed t ReadBack typed h fits = h typed fits
 taken_typed t Next typed h fits =
     either_step typed (nat_lt (length t.seen) (length t.addresses)) (sends t (digit_of (address_under_way t) 1) (Address Look 1)) (listens t (Ended Complete)) (typed, refl) (anything (typed ++ []))
-taken_typed t (Missing address) typed h fits = refused_typed t address t.stage t.doubt typed
-taken_typed t Stray typed h fits = stray_typed t typed
+taken_typed t (Stop end) typed h fits = anything (typed ++ [])
+taken_typed t Stray typed h fits =
+    either_step typed (nat_lt t.spent t.patience) (listens (record t { spent = t.spent + 1 }) Settle) (listens t (Ended GaveUp)) (anything (typed ++ [])) (anything (typed ++ []))
 taken_typed t Timeout typed h fits =
     either_step typed (nat_lt t.spent t.patience) (sends (record t { spent = t.spent + 1 }) resynchronise (Sync 0)) (listens t (Ended GaveUp)) (anything (typed ++ resynchronise ∷ [])) (anything (typed ++ []))
 
@@ -270,7 +255,7 @@ typed_turn address stage phase (Deposits next) typed h fits = (h typed fits).0
 typed_turn address stage phase (Counts word) typed h fits = h typed fits
 typed_turn address stage phase ReadBack typed h fits = tt
 typed_turn address stage phase Next typed h fits = tt
-typed_turn address stage phase (Missing other) typed h fits = tt
+typed_turn address stage phase (Stop end) typed h fits = tt
 typed_turn address stage phase Stray typed h fits = tt
 typed_turn address stage phase Timeout typed h fits = tt
 

@@ -6,23 +6,15 @@ use Rattle.memory_core.specs.declared.phase.Phase.{Phase}
 use Rattle.memory_core.specs.declared.phase.Phase.TheVariants.{Settle, Sync, Address, Slash, Before, Value, Deposit, Return, Close, Ended}
 use Rattle.memory_core.specs.declared.stage.Stage.{Stage}
 use Rattle.memory_core.specs.declared.stage.Stage.TheVariants.{Unseen, Once, Turned, Returned}
-use Rattle.memory_core.specs.declared.doubt.Doubt.{Doubt}
-use Rattle.memory_core.specs.declared.doubt.Doubt.TheVariants.{Nothing, Refused, Failed}
 use Rattle.memory_core.specs.Tester.{Tester}
 
--- the most that one life sends for n words: 8 for a look at a word that was refused, with the `Z` before it; 44 for each of two tests,
--- which are twice its address, `/` and CR, and twice its address, `/`, six digits and CR; 22 for each mishap that it survives; and a
--- word that was given up just before its last CR, with the `Z` before it (this project's choice)
+-- the most that one life sends for n words: 44 for a word, which are twice its address, `/` and CR, and twice its address, `/`, six
+-- digits and CR; 22 for each mishap that it survives; and a word that was given up just before its last CR, with the `Z` before it
+-- (this project's choice)
 abbrev pub testing_bound : ℕ → ℕ → ℕ
-testing_bound n patience = 96 * (n + 1) + 22 * patience
+testing_bound n patience = 44 * (n + 1) + 22 * patience
 
--- what a word has cost before the test of it that is under way
-abbrev pub used_in_doubt : Doubt → ℕ
-used_in_doubt Nothing = 0
-used_in_doubt Refused = 8
-used_in_doubt (Failed first) = 52
-
--- what this test of it has cost, without the `Z` before it, when a visit of this stage begins anew
+-- what a word has cost, without the `Z` before it, when a visit of this stage begins anew
 abbrev pub used_up_to : Stage → ℕ
 used_up_to Unseen = 0
 used_up_to (Once first) = 8
@@ -49,4 +41,4 @@ used_in_visit (Ended end) = 22
 
 -- the most that a life can have sent where it stands
 abbrev pub used : Tester → ℕ
-used t = used_in_visit t.phase + used_up_to t.stage + used_in_doubt t.doubt + 96 * length t.seen + 22 * t.spent
+used t = used_in_visit t.phase + used_up_to t.stage + 44 * length t.seen + 22 * t.spent

@@ -8,22 +8,22 @@ use Rattle.memory_core.specs.declared.phase.Phase.{Phase}
 use Rattle.memory_core.specs.declared.phase.Phase.TheVariants.{Settle, Sync, Address, Slash, Before, Value, Deposit, Return, Close, Ended}
 use Rattle.memory_core.specs.declared.phase.End.{End}
 use Rattle.memory_core.specs.declared.phase.End.TheVariants.{Complete, GaveUp, NoWord}
-use Rattle.memory_core.specs.declared.seen.Outcome.{Outcome}
+use Rattle.memory_core.specs.declared.seen.Seen.{Seen}
 use Rattle.memory_core.specs.declared.stage.Stage.{Stage}
 use Rattle.memory_core.specs.declared.stage.Stage.TheVariants.{Unseen, Once, Turned, Returned}
 use Rattle.memory_core.specs.Bound.{used}
 use Rattle.memory_core.specs.Stage.{IsTouched, AreNumbers}
 use Rattle.memory_core.specs.Tester.{Tester, address_nr}
 
--- what phases, stages and ends of the testing host alone are judged by: all of a tester but its phase, its doubt and the characters sent
+-- what phases, stages and ends of the testing host alone are judged by: all of a tester but its phase and the characters sent
 pub record Basis : Type 0 where
   pub addresses : List ℕ
-  pub seen : List Outcome
+  pub seen : List Seen
   pub patience : ℕ
   pub spent : ℕ
   pub stage : Stage
 
--- a tester without its phase, its doubt and the characters that it has sent
+-- a tester without its phase and the characters that it has sent
 abbrev pub basis_of : Tester → Basis
 basis_of t = record { addresses = t.addresses; seen = t.seen; patience = t.patience; spent = t.spent; stage = t.stage }
 
@@ -35,7 +35,7 @@ HasWord b = length b.seen < length b.addresses
 abbrev pub EndFits : End → Basis → Type 0
 EndFits Complete b = (length b.seen ≡ length b.addresses) × (b.stage ≡ Unseen)
 EndFits GaveUp b = b.spent ≡ b.patience
-EndFits (NoWord address) b = HasWord b × (address ≡ address_nr b.addresses (length b.seen)) × (b.stage ≡ Unseen)
+EndFits (NoWord address) b = HasWord b × (address ≡ address_nr b.addresses (length b.seen))
 
 -- a word is checked only behind a deposit
 abbrev pub VisitFits : Visit → Stage → Type 0

@@ -1,5 +1,5 @@
 -- What holds of a testing host over everything that it may ever hear: of whatever machine, with good memory or bad.
-use Rattle.std.specs.Prelude.{◌≡◌, ◌≢◌, ◌⊎◌, ℕ, ◌+◌, ◌≤◌, true, false, All, List, [], ◌∷◌, ◌++◌, length, map, option_to_list}
+use Rattle.std.specs.Prelude.{◌≡◌, ◌≢◌, ℕ, ◌+◌, ◌≤◌, All, List, [], ◌∷◌, ◌++◌, length, map, option_to_list}
 use Rattle.octal.specs.Octal.{octal_text}
 use Rattle.host_core.specs.declared.heard.Heard.{Heard}
 use Rattle.host_core.specs.declared.heard.Heard.TheVariants.{Got}
@@ -9,9 +9,6 @@ use Rattle.memory_core.specs.declared.seen.Seen.TheVariants.{Unsteady, Tested}
 use Rattle.memory_core.specs.declared.stage.Stage.{Stage}
 use Rattle.memory_core.specs.declared.stage.Stage.TheVariants.{Unseen, Once, Turned, Returned}
 use Rattle.memory_core.specs.Bound.{testing_bound}
-use Rattle.memory_core.specs.declared.doubt.Doubt.TheVariants.{Nothing, Failed}
-use Rattle.memory_core.specs.Doubt.{IsSameOrRefused, is_final, outcome}
-use Rattle.memory_core.specs.Seen.{holds}
 use Rattle.memory_core.specs.MemoryTable.{IsTesting, ask}
 use Rattle.memory_core.specs.Stage.{complement}
 use Rattle.memory_core.specs.Tester.{Tester, address_under_way}
@@ -67,35 +64,18 @@ WordIsHeard address (Once before) (Unsteady first second) heard typed =
     (first ≡ before) × (second ≢ first) × WasRead second heard × EndsWith (opens address) typed
 WordIsHeard address stage word heard typed = ⊥
 
--- no word more counts, and what becomes known of the word under way was heard
-pub record IsMoreKnown (before after : Tester) (heard : List Heard) (typed : List ℕ) : Type 0 where
-  pub seen : after.seen ≡ before.seen
-  pub stage : StageIsHeard (address_under_way before) before.stage after.stage heard typed
-  pub doubt : IsSameOrRefused before.doubt after.doubt
-
--- a word fails in its first test, with these readings, and is to be tested once more
-pub record IsFailure (before after : Tester) (heard : List Heard) (typed : List ℕ) : Type 0 where
-  pub word : Seen
-  pub seen : after.seen ≡ before.seen
-  pub read : WordIsHeard (address_under_way before) before.stage word heard typed
-  pub fails : holds word ≡ false
-  pub doubt : after.doubt ≡ Failed word
-  pub stage : after.stage ≡ Unseen
-
 -- a word counts with these readings, and nothing is known of the next
 pub record IsOneMore (before after : Tester) (heard : List Heard) (typed : List ℕ) : Type 0 where
   pub word : Seen
-  pub seen : after.seen ≡ before.seen ++ outcome word before.doubt ∷ []
+  pub seen : after.seen ≡ before.seen ++ word ∷ []
   pub read : WordIsHeard (address_under_way before) before.stage word heard typed
-  pub final : is_final word before.doubt ≡ true
-  pub doubt : after.doubt ≡ Nothing
   pub stage : after.stage ≡ Unseen
 
--- what the last thing heard makes known of a word was read with it, behind these keys; and a word more counts only with the numbers that
--- were read of it
-abbrev pub TellsOnlyHeard : (before after : Tester) → List Heard → List ℕ → Type 0
-TellsOnlyHeard before after heard typed =
-    IsMoreKnown before after heard typed ⊎ (IsFailure before after heard typed ⊎ IsOneMore before after heard typed)
+-- what the last thing heard makes known of the word under way was read with it, behind these keys; and a word more counts only with
+-- the numbers that were read of it
+pub record TellsOnlyHeard (before after : Tester) (heard : List Heard) (typed : List ℕ) : Type 0 where
+  pub stage : after.seen ≡ before.seen → StageIsHeard (address_under_way before) before.stage after.stage heard typed
+  pub word : after.seen ≢ before.seen → IsOneMore before after heard typed
 
 -- so it is whatever is heard
 abbrev pub ReportsOnlyHeard : Tester → Type 0

@@ -1,7 +1,5 @@
 pub mod Addresses
 pub mod Bound
-pub mod Doubt
-pub mod Foreign
 pub mod Invariant
 pub mod Laws
 pub mod MemoryTable

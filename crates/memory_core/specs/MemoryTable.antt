@@ -2,8 +2,7 @@
 -- time and waits in a phase for what the console has to answer (host_core's Answers). Of a word it types the address and `/`, reads
 -- the six digits that memory holds and closes it with CR; it looks once more, and where it reads the same it types the digits of
 -- another number, and CR, which stores it; it looks whether memory holds that, and types what the word held before into the word
--- that is open anyway; and looks once more. A word that did not hold is tested once more; where no memory answers, that is asked
--- once more.
+-- that is open anyway; and looks once more.
 use Rattle.std.specs.Prelude.{◌≡◌, ℕ, ◌+◌, Bool, true, false, ◌==◌, ◌⊎◌, nat_lt, if◌then◌else◌, List, [], ◌∷◌, ◌++◌, length, Option, Some, None, ⊤}
 use Rattle.octal.specs.Octal.{digit_of, is_digit}
 use Rattle.host_core.specs.declared.answers.Reply.{Reply}
@@ -23,16 +22,12 @@ use Rattle.memory_core.specs.Stage.{number_of}
 use Rattle.memory_core.specs.declared.phase.Phase.{Phase}
 use Rattle.memory_core.specs.declared.phase.Phase.TheVariants.{Settle, Sync, Address, Slash, Before, Value, Deposit, Return, Close, Ended}
 use Rattle.memory_core.specs.declared.phase.End.TheVariants.{Complete, GaveUp, NoWord}
-use Rattle.memory_core.specs.declared.doubt.Doubt.{Doubt}
-use Rattle.memory_core.specs.declared.doubt.Doubt.TheVariants.{Nothing, Refused, Failed}
-use Rattle.memory_core.specs.Doubt.{is_final, outcome}
-use Rattle.memory_core.specs.declared.seen.Outcome.{Outcome}
 use Rattle.memory_core.specs.declared.seen.Seen.{Seen}
 use Rattle.memory_core.specs.declared.seen.Seen.TheVariants.{Unsteady, Tested}
 use Rattle.memory_core.specs.declared.stage.Stage.{Stage}
 use Rattle.memory_core.specs.declared.stage.Stage.TheVariants.{Unseen, Once, Turned, Returned}
 use Rattle.memory_core.specs.declared.turn.Turn.{Turn}
-use Rattle.memory_core.specs.declared.turn.Turn.TheVariants.{Listen, Key, LooksAgain, Deposits, Counts, ReadBack, Next, Missing, Stray, Timeout}
+use Rattle.memory_core.specs.declared.turn.Turn.TheVariants.{Listen, Key, LooksAgain, Deposits, Counts, ReadBack, Next, Stop, Stray, Timeout}
 
 -- Sync: behind the answer to `Z` comes the word under way, from its address on
 abbrev pub synced : Reply → Turn
@@ -71,7 +66,7 @@ read (Returned old turned) Look value = Deposits (Returned old turned)
 abbrev pub reads : ℕ → Stage → Visit → Reading → Turn
 reads address stage visit (Digits value count) = Listen (Value visit value count)
 reads address stage visit (Number value) = read stage visit value
-reads address stage visit NoMemory = Missing address
+reads address stage visit NoMemory = Stop (NoWord address)
 reads address stage visit NoReading = Stray
 
 -- Deposit: behind the echo of a digit the next is typed, after the sixth CR
@@ -130,52 +125,32 @@ next_word t =
     if nat_lt (length t.seen) (length t.addresses) then sends t (digit_of (address_under_way t) 1) (Address Look 1)
     else listens t (Ended Complete)
 
--- a character that the phase doesn't list is a mishap, while the patience lasts
-abbrev pub stray : Tester → TesterStep
-stray t =
-    if nat_lt t.spent t.patience then listens (record t { spent = t.spent + 1 }) Settle
-    else listens t (Ended GaveUp)
-
--- no memory answers, where this is known of the word: it is asked once more, and believed the second time; of a word that was
--- read before it is a mishap
-abbrev pub refused : Tester → ℕ → Stage → Doubt → TesterStep
-refused t address Unseen Nothing = listens (record t { doubt = Refused }) Settle
-refused t address Unseen Refused = listens t (Ended (NoWord address))
-refused t address Unseen (Failed first) = stray t
-refused t address (Once first) doubt = stray t
-refused t address (Turned old) doubt = stray t
-refused t address (Returned old turned) doubt = stray t
-
--- this was read of a word in a test: it counts, or it failed for the first time, and is tested once more
-abbrev pub counted : Tester → Seen → TesterStep
-counted t word =
-    if is_final word t.doubt then sends (record t { seen = t.seen ++ outcome word t.doubt ∷ []; doubt = Nothing; stage = Unseen }) carriage_return (Close 0)
-    else sends (record t { doubt = Failed word; stage = Unseen }) carriage_return (Close 0)
-
--- what a turn of the table does to the tester
+-- what a turn of the table does to the tester: a mishap is a character that the phase doesn't list, or a quiet time
 abbrev pub taken : Tester → Turn → TesterStep
 taken t (Listen phase) = listens t phase
 taken t (Key key phase) = sends t key phase
 taken t (LooksAgain first) = sends (record t { stage = Once first }) carriage_return (Close 0)
 taken t (Deposits stage) = sends (record t { stage = stage }) (digit_of (number_of stage) 1) (Deposit 1)
-taken t (Counts word) = counted t word
+taken t (Counts word) = sends (record t { seen = t.seen ++ word ∷ []; stage = Unseen }) carriage_return (Close 0)
 taken t ReadBack = sends t (digit_of (address_under_way t) 1) (Address Check 1)
 taken t Next = next_word t
-taken t (Missing address) = refused t address t.stage t.doubt
-taken t Stray = stray t
+taken t (Stop end) = listens t (Ended end)
+taken t Stray =
+    if nat_lt t.spent t.patience then listens (record t { spent = t.spent + 1 }) Settle
+    else listens t (Ended GaveUp)
 taken t Timeout =
     if nat_lt t.spent t.patience then sends (record t { spent = t.spent + 1 }) resynchronise (Sync 0)
     else listens t (Ended GaveUp)
 
 -- what was read so far, after a turn
-abbrev pub seen_after : List Outcome → Doubt → Turn → List Outcome
-seen_after seen doubt (Counts word) = if is_final word doubt then seen ++ outcome word doubt ∷ [] else seen
-seen_after seen doubt _ = seen
+abbrev pub seen_after : List Seen → Turn → List Seen
+seen_after seen (Counts word) = seen ++ word ∷ []
+seen_after seen _ = seen
 
 -- whether a word counts with a turn
-abbrev pub counts : Doubt → Turn → Bool
-counts doubt (Counts word) = is_final word doubt
-counts doubt _ = false
+abbrev pub counts : Turn → Bool
+counts (Counts word) = true
+counts _ = false
 
 -- the turn that the table gives for a tester
 abbrev pub turn_of : Tester → Heard → Turn

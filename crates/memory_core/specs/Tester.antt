@@ -7,20 +7,17 @@ use Rattle.memory_core.specs.declared.phase.End.TheVariants.{Complete}
 use Rattle.memory_core.specs.declared.stage.Stage.{Stage}
 use Rattle.memory_core.specs.declared.stage.Stage.TheVariants.{Unseen, Once, Turned, Returned}
 use Rattle.memory_core.specs.declared.stage.Borrowed.{Borrowed}
-use Rattle.memory_core.specs.declared.doubt.Doubt.{Doubt}
-use Rattle.memory_core.specs.declared.doubt.Doubt.TheVariants.{Nothing}
-use Rattle.memory_core.specs.declared.seen.Outcome.{Outcome}
+use Rattle.memory_core.specs.declared.seen.Seen.{Seen}
 use Rattle.memory_core.specs.declared.life.LifeState.{LifeState}
 
 -- the addresses to be tested, what was read so far of the first of them, how many mishaps a life survives and how many it
--- has had, the characters it has sent, what speaks against the word under way, what is known of it, and its phase
+-- has had, the characters it has sent, what is known of the word under way, and its phase
 pub record Tester : Type 0 where
   pub addresses : List ℕ
-  pub seen : List Outcome
+  pub seen : List Seen
   pub patience : ℕ
   pub spent : ℕ
   pub sent : ℕ
-  pub doubt : Doubt
   pub stage : Stage
   pub phase : Phase
 
@@ -44,7 +41,6 @@ begun addresses patience = record {
   patience = patience;
   spent = 0;
   sent = 0;
-  doubt = Nothing;
   stage = Unseen;
   phase = first_phase (length addresses);
 }
@@ -66,14 +62,13 @@ abbrev pub borrowed : Tester → Option Borrowed
 borrowed t = borrowed_at (address_under_way t) t.stage
 
 -- the tester with these addresses, readings and patience, in the middle of a life
-abbrev pub tester_of : List ℕ → List Outcome → ℕ → LifeState → Tester
+abbrev pub tester_of : List ℕ → List Seen → ℕ → LifeState → Tester
 tester_of addresses seen patience life = record {
   addresses = addresses;
   seen = seen;
   patience = patience;
   spent = life.spent;
   sent = life.sent;
-  doubt = life.doubt;
   stage = life.stage;
   phase = life.phase;
 }

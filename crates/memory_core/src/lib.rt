@@ -3,16 +3,13 @@
 //! `MemoryCore` turns over the words at a list of addresses, one after another: it reads a word twice, deposits the
 //! complement of what it held, reads it, puts back what it held, and reads it again. Nothing is deposited before two looks
 //! read alike. It is told what was heard, a character or that nothing came, and answers the character to send: a digit,
-//! `/`, CR or `Z`, never `G`. What it read of each word it keeps, right or wrong: a word that won't hold is no mishap. A
-//! character that a line changed may look so, too: a word that did not hold is tested once more, and no memory is believed
-//! at two refusals.
+//! `/`, CR or `Z`, never `G`. What it read of each word it keeps, right or wrong: a word that won't hold is no mishap.
 //!
 //! The contract of `step` is the table of the phases. What a word held is kept from the moment it was read twice until it is
 //! read again there, whatever is heard. A life sends at most the testing bound. `memory_law` shows what this means for a
 //! machine.
 #![tactic(auto)]
 
-mod doubt;
 mod life;
 mod memory;
 mod phase;
@@ -21,8 +18,7 @@ mod stage;
 mod table;
 mod turn;
 
-pub use doubt::Doubt;
 pub use memory::MemoryCore;
 pub use phase::{End, Phase, Visit};
-pub use seen::{Outcome, Readings, Seen};
+pub use seen::{Readings, Seen};
 pub use stage::{Borrowed, Stage};

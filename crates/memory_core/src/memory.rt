@@ -3,19 +3,14 @@ ghost use Rattle.host_core.specs.declared.heard.Heard.TheVariants.{Got};
 ghost use Rattle.reading_core.specs.Addresses.{AreAddresses, IsRange};
 ghost use Rattle.memory_core.specs.Addresses.{every_address};
 ghost use Rattle.memory_core.specs.Bound.{testing_bound};
-ghost use Rattle.memory_core.specs.Foreign.{is_foreign};
 ghost use Rattle.memory_core.specs.Invariant.{IsTester, HasWord, basis_of};
 ghost use Rattle.memory_core.specs.Laws.{KeepsBound, ReportsOnlyHeard, TypesOnlyTesting};
-ghost use Rattle.memory_core.specs.MemoryTable.{KeyTests, ask, counted, counts, next_word, refused, seen_after, stray, taken, turn_of};
-ghost use Rattle.memory_core.specs.declared.turn.Turn.TheVariants.{Counts};
+ghost use Rattle.memory_core.specs.MemoryTable.{KeyTests, ask, counts, next_word, seen_after, taken, turn_of};
 ghost use Rattle.memory_core.specs.Tester.{address_under_way, begun, borrowed, ended, tester_of};
 
-mod foreign;
-
-use crate::doubt::Doubt;
 use crate::life::{LifeState, TesterStep};
 use crate::phase::{End, Phase, Visit};
-use crate::seen::{Outcome, Seen};
+use crate::seen::Seen;
 use crate::stage::{Borrowed, Stage};
 use crate::table;
 use crate::turn::Turn;
@@ -30,11 +25,11 @@ use std::marker::Model;
 /// A host that tests the words at a list of addresses: it says which character to type next.
 ///
 /// Contracts see a record of the addresses, what was read of the first of them, the patience, the mishaps spent, the
-/// characters sent, what speaks against the word under way, what is known of it, and the phase.
+/// characters sent, what is known of the word under way, and the phase.
 #[derive(Drop)]
 pub struct MemoryCore {
     addresses: Vec<u16>,
-    seen: Vec<Outcome>,
+    seen: Vec<Seen>,
     patience: u32,
     life: LifeState,
 }
@@ -42,7 +37,6 @@ pub struct MemoryCore {
 impl Model for MemoryCore {
     ghost use Rattle.std.specs.Prelude.{◌≤◌, length, vec_capacity};
     ghost use Rattle.memory_core.specs.Tester.{Tester, tester_of};
-    ghost use Rattle.memory_core.specs.Foreign.{is_foreign};
     ghost use Rattle.memory_core.specs.Invariant.{IsTester};
 
     ghost Value = { Tester };
@@ -55,7 +49,7 @@ impl Model for MemoryCore {
 impl MemoryCore {
     /// A host that has tested nothing of these addresses, and survives `patience` mishaps. With no address it has ended
     /// already, as `Complete`. The room for what is read was made before: no memory is taken.
-    pub fn in_room(addresses: Vec<u16>, room: Vec<Outcome>, patience: u32) -> MemoryCore
+    pub fn in_room(addresses: Vec<u16>, room: Vec<Seen>, patience: u32) -> MemoryCore
         requires asked { AreAddresses addresses.items }
         requires empty { room.items ≡ [] }
         requires ample { length addresses.items ≤ vec_capacity room }
@@ -108,7 +102,7 @@ impl MemoryCore {
     }
 
     /// What was read so far, of the word at the address of its place each.
-    pub fn seen(&self) -> &[Outcome]
+    pub fn seen(&self) -> &[Seen]
         ensures value { result.now ≡ self.now.seen }
         ensures kept { IsTester self.now }
     {
@@ -145,17 +139,6 @@ impl MemoryCore {
         self.life.sent
     }
 
-    /// Whether no answer that is awaited here has what is heard, whatever of it is lost. Over a line that only loses characters
-    /// none is ever heard (`memory_law`, `tests_hear_nothing_foreign`).
-    pub fn is_foreign(&self, heard: Heard) -> bool
-        ensures { result ≡ is_foreign self.now heard }
-    {
-        match heard {
-            Heard::Got(c) => !self.may_come(c),
-            Heard::Quiet => false,
-        }
-    }
-
     /// How this life ended, if it did.
     pub fn end(&self) -> Option<End>
         ensures value { result ≡ ended self.now.phase }
@@ -180,7 +163,7 @@ impl MemoryCore {
     {
         let turn = self.turn(heard);
         let TesterStep { life, key } = self.taken(turn);
-        note(&mut self.seen, turn, self.life.doubt);
+        note(&mut self.seen, turn);
         self.life = life;
         key
     }
@@ -234,7 +217,7 @@ impl MemoryCore {
     // What the turn does to the life, and the character that it sends.
     fn taken(&self, turn: Turn) -> TesterStep
         requires { IsTester (taken self.now turn).next }
-        ensures next { tester_of self.now.addresses (seen_after self.now.seen self.now.doubt turn) self.now.patience result.life ≡ (taken self.now turn).next }
+        ensures next { tester_of self.now.addresses (seen_after self.now.seen turn) self.now.patience result.life ≡ (taken self.now turn).next }
         ensures key { result.key ≡ (taken self.now turn).key }
     {
         let life = self.life;
@@ -247,60 +230,17 @@ impl MemoryCore {
             Turn::Deposits(stage) => life
                 .with_stage(stage)
                 .sends(digit(stage.number(), 1), Phase::Deposit(1)),
-            Turn::Counts(word) => self.counted(word),
+            Turn::Counts(_) => life
+                .with_stage(Stage::Unseen)
+                .sends(CARRIAGE_RETURN, Phase::Close(0)),
             Turn::ReadBack => life.sends(digit(self.address(), 1), Phase::Address(Visit::Check, 1)),
             Turn::Next => self.next_word(),
-            Turn::Missing(address) => self.refused(address),
-            Turn::Stray => self.stray(),
+            Turn::Stop(end) => life.listens(Phase::Ended(end)),
+            Turn::Stray if life.spent < self.patience => life.with_mishap().listens(Phase::Settle),
             Turn::Timeout if life.spent < self.patience => life
                 .with_mishap()
                 .sends(RESYNCHRONISE, Phase::Sync(0)),
-            Turn::Timeout => life.listens(Phase::Ended(End::GaveUp)),
-        }
-    }
-
-    // The word is closed: it counts, or it failed for the first time and is tested once more.
-    fn counted(&self, word: Seen) -> TesterStep
-        requires { self.now.sent + 1 < 2 ^ 64 }
-        ensures next { tester_of self.now.addresses (seen_after self.now.seen self.now.doubt (Counts word)) self.now.patience result.life ≡ (counted self.now word).next }
-        ensures key { result.key ≡ (counted self.now word).key }
-    {
-        let doubt = if self.life.doubt.ends_with(word) {
-            Doubt::Nothing
-        } else {
-            Doubt::Failed(word)
-        };
-        self.life
-            .with_doubt(doubt)
-            .with_stage(Stage::Unseen)
-            .sends(CARRIAGE_RETURN, Phase::Close(0))
-    }
-
-    // No memory is believed at two refusals of a word that was never read. Of one that was read it is a mishap.
-    fn refused(&self, address: u16) -> TesterStep
-        ensures next { tester_of self.now.addresses self.now.seen self.now.patience result.life ≡ (refused self.now address self.now.stage self.now.doubt).next }
-        ensures key { result.key ≡ (refused self.now address self.now.stage self.now.doubt).key }
-    {
-        match (self.life.stage, self.life.doubt) {
-            (Stage::Unseen, Doubt::Nothing) => {
-                self.life.with_doubt(Doubt::Refused).listens(Phase::Settle)
-            }
-            (Stage::Unseen, Doubt::Refused) => {
-                self.life.listens(Phase::Ended(End::NoWord(address)))
-            }
-            _ => self.stray(),
-        }
-    }
-
-    // A character that no answer has: a mishap, while the patience lasts.
-    fn stray(&self) -> TesterStep
-        ensures next { tester_of self.now.addresses self.now.seen self.now.patience result.life ≡ (stray self.now).next }
-        ensures key { result.key ≡ (stray self.now).key }
-    {
-        if self.life.spent < self.patience {
-            self.life.with_mishap().listens(Phase::Settle)
-        } else {
-            self.life.listens(Phase::Ended(End::GaveUp))
+            Turn::Stray | Turn::Timeout => life.listens(Phase::Ended(End::GaveUp)),
         }
     }
 
@@ -320,15 +260,12 @@ impl MemoryCore {
 }
 
 // Notes what a turn read of a word that counts with it: there is room for it.
-fn note(seen: &mut Vec<Outcome>, turn: Turn, doubt: Doubt)
-    requires { counts doubt turn ≡ true → length seen.old.items < vec_capacity seen.old }
-    ensures items { seen.new.items ≡ seen_after seen.old.items doubt turn }
+fn note(seen: &mut Vec<Seen>, turn: Turn)
+    requires { counts turn ≡ true → length seen.old.items < vec_capacity seen.old }
+    ensures items { seen.new.items ≡ seen_after seen.old.items turn }
     ensures room { vec_capacity seen.old ≤ vec_capacity seen.new }
 {
-    if let Turn::Counts(last) = turn
-        && doubt.ends_with(last)
-    {
-        let failed = doubt.failed();
-        let _ = seen.push(Outcome { last, failed });
+    if let Turn::Counts(word) = turn {
+        let _ = seen.push(word);
     }
 }

@@ -3,7 +3,7 @@
 ghost use Rattle.std.specs.Prelude.{◌≡◌, ◌≤◌};
 ghost use Rattle.memory_core.specs.MemoryTable.{addressed, closed, deposited, read, reads, returned, second_look, slash_hears, synced, waits};
 
-use crate::phase::{Phase, Visit};
+use crate::phase::{End, Phase, Visit};
 use crate::seen::{Readings, Seen};
 use crate::stage::Stage;
 use crate::turn::Turn;
@@ -50,7 +50,7 @@ pub(crate) fn reads(address: u16, stage: Stage, visit: Visit, reading: Reading) 
     match reading {
         Reading::Digits(value, count) => Turn::Listen(Phase::Value(visit, value, count)),
         Reading::Number(value) => whole_reading(stage, visit, value),
-        Reading::NoMemory => Turn::Missing(address),
+        Reading::NoMemory => Turn::Stop(End::NoWord(address)),
         Reading::NoReading => Turn::Stray,
     }
 }

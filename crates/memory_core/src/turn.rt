@@ -1,4 +1,4 @@
-use crate::phase::Phase;
+use crate::phase::{End, Phase};
 use crate::seen::Seen;
 use crate::stage::Stage;
 
@@ -17,7 +17,7 @@ pub enum Turn {
     /// The word is open and this is known of it now: the stage's number is typed into it.
     Deposits(Stage),
 
-    /// The word is open and this was read of it: it is closed. It counts, or is tested once more.
+    /// The word is open and this was read of it: it counts, and is closed.
     Counts(Seen),
 
     /// At the prompt after a deposit: the word under way is read back.
@@ -26,8 +26,8 @@ pub enum Turn {
     /// At the prompt, between words: the word under way, or the end.
     Next,
 
-    /// No memory answers at this address.
-    Missing(u16),
+    /// The life ends.
+    Stop(End),
 
     /// A character that the phase does not list.
     Stray,

@@ -1,5 +1,5 @@
 -- What a run of a test over an honest line says of it.
-use Rattle.std.proofs.Common.{◌≡◌, ℕ, ◌+◌, ◌≤◌, ◌==◌, ◌&&◌, nat_lt, Bool, true, false, if◌then◌else◌, List, [], ◌∷◌, length, refl, arith, ap, sym, subst, ◌∙◌}
+use Rattle.std.proofs.Common.{◌≡◌, ℕ, ◌+◌, ◌≤◌, ◌/◌, ◌==◌, ◌&&◌, nat_lt, Bool, true, false, if◌then◌else◌, List, [], ◌∷◌, length, refl, arith, ap, sym, subst, ◌∙◌, length-set}
 use Rattle.std.proofs.lemmas.Bool.Decides.{nat_tests}
 use Rattle.odt_machine.specs.Machine.{Machine, IsMachine}
 use Rattle.odt_machine.specs.Laws.{is_running}
@@ -32,11 +32,10 @@ use Rattle.memory_core.specs.declared.stage.Stage.TheVariants.{Unseen, Once, Tur
 use Rattle.memory_core.specs.Invariant.{IsTester}
 use Rattle.memory_core.specs.Laws.{led}
 use Rattle.memory_core.specs.Tester.{Tester, address_under_way, begun, borrowed_at}
-use Rattle.memory_law.specs.Testing.{dialogue, MayTest, IsAsItWas, HasCause, IsTrueTest, TestsAreTrue, TestsHearNothingForeign, TestsLeaveItReady, TestsMayStandInARow, UnsaidTestsAreTrue}
+use Rattle.memory_law.specs.Testing.{dialogue, MayTest, IsAsItWas, HasCause, IsTrueTest, TestsAreTrue, TestsLeaveItReady, TestsMayStandInARow, UnsaidTestsAreTrue}
 use Rattle.memory_law.proofs.Ahead.{ahead, ahead_asked, only_if}
-use Rattle.memory_law.proofs.Kept.{AreCounted, IsKeptTest, MemoryIs, as_long, dialogue_kept, dialogue_known}
-use Rattle.memory_core.specs.Foreign.{phase_for}
-use Rattle.memory_law.proofs.Mirror.{Account, core_for, scene_for}
+use Rattle.memory_law.proofs.Kept.{AreCounted, IsKeptTest, MemoryIs, dialogue_kept}
+use Rattle.memory_law.proofs.Mirror.{Account, core_for, phase_for, scene_for}
 
 -- ---- the beginning
 
@@ -71,7 +70,6 @@ begin_kept machine addresses waiting patience is console stopped few =
       tester = is;
       counted = record { spent_before = 0; lost_before = 0; spent = omega arith; patience = omega arith; lost = omega arith; paid = omega arith };
       memory_is = refl;
-      unfailed = tt;
       words = λ i other low. absurd (omega (arith, low));
       wide = console.wide;
     }
@@ -83,6 +81,12 @@ as_it_was memory a Unseen now at = at
 as_it_was memory a (Once first) now at = at.0
 as_it_was memory a (Turned old) now at = (at.lies, at.held, at.number, at.stands)
 as_it_was memory a (Returned old turned) now at = (at.0.lies, at.0.held, at.0.number, at.0.stands)
+
+as_long : (memory : List ℕ) (a : ℕ) (stage : Stage) (now : List ℕ) → MemoryIs memory a stage now → length now ≡ length memory
+as_long memory a Unseen now at = ap length at
+as_long memory a (Once first) now at = ap length at.0
+as_long memory a (Turned old) now at = ap length at.stands ∙ length-set memory (a / 2) at.number
+as_long memory a (Returned old turned) now at = ap length at.0.stands ∙ length-set memory (a / 2) at.0.number
 
 -- what the loading host's invariant says of an end
 ended : (memory : List ℕ) (t : Tester) (x : Wire) (end : End) → t.phase ≡ Ended end → (k : IsKeptTest memory t x) →
@@ -122,17 +126,11 @@ true_of memory t x k = record {
 
 -- ---- the whole dialogue
 
-at_first : (t : Tester) (machine : Machine) (waiting : List ℕ) → IsTester t → MayTest t machine → length waiting ≤ 32 → IsKeptTest machine.memory t (resting machine waiting 0)
-at_first t machine waiting is may few =
-    subst (λ s. IsKeptTest machine.memory s (resting machine waiting 0)) (sym may.begun)
-    (begin_kept machine t.addresses waiting t.patience (subst IsTester may.begun is) may.console may.stopped few)
-
 dialogue_true : (t : Tester) (things : List Heard) (machine : Machine) (waiting : List ℕ) (end : Wire) → IsTester t → MayTest t machine → length waiting ≤ 32 → Passes (resting machine waiting 0) (dialogue t things) end → IsKeptTest machine.memory (led t things) end
-dialogue_true t things machine waiting end is may few passes = dialogue_kept machine.memory things t (resting machine waiting 0) end passes (at_first t machine waiting is may few)
-
-pub hear_nothing_foreign : TestsHearNothingForeign
-hear_nothing_foreign t things machine now lost is may honest =
-    dialogue_known machine.memory things t (resting machine honest.waiting 0) honest.end honest.passes (at_first t machine honest.waiting is may honest.few)
+dialogue_true t things machine waiting end is may few passes =
+    dialogue_kept machine.memory things t (resting machine waiting 0) end passes
+    (subst (λ s. IsKeptTest machine.memory s (resting machine waiting 0)) (sym may.begun)
+    (begin_kept machine t.addresses waiting t.patience (subst IsTester may.begun is) may.console may.stopped few))
 
 none_lost : (n : ℕ) → n ≡ n + 0
 none_lost n = omega arith

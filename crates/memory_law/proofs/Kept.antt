@@ -1,6 +1,6 @@
 -- What lasts while a test goes over a line: the loading host's invariant, and what memory is beside what it was.
-use Rattle.std.proofs.Common.{◌≡◌, ℕ, zero, suc, ◌+◌, ◌-◌, ◌/◌, ◌<◌, ◌≤◌, ◌&&◌, Bool, true, false, ◌==◌, ltb, nat_lt, if◌then◌else◌, List, [], ◌∷◌, ◌++◌, length, length-set, get_or, Some, None, unwrap_or, inl, inr, refl, arith, ap, sym, subst, ◌∙◌}
-use Rattle.std.specs.Prelude.{⊤, option_to_list}
+use Rattle.std.proofs.Common.{◌≡◌, ℕ, zero, suc, ◌+◌, ◌-◌, ◌<◌, ◌≤◌, Bool, true, false, ◌==◌, ltb, nat_lt, if◌then◌else◌, List, [], ◌∷◌, ◌++◌, length, get_or, Some, None, unwrap_or, inl, inr, refl, arith, ap, sym, subst, ◌∙◌}
+use Rattle.std.specs.Prelude.{◌⊎◌, option_to_list}
 use Rattle.std.proofs.lemmas.Bool.Decides.{nat_tests}
 use Rattle.std.proofs.lemmas.List.{get_or_push, get_or_append_left, length_push}
 use Rattle.octal.specs.Octal.{digit_of}
@@ -12,15 +12,13 @@ use Rattle.host_core.specs.declared.heard.Heard.TheVariants.{Got, Quiet as Silen
 use Rattle.memory_core.specs.declared.phase.Visit.{Visit}
 use Rattle.memory_core.specs.declared.phase.Visit.TheVariants.{Look, Check}
 use Rattle.host_core.specs.declared.phase.Try.TheVariants.{Only}
-use Rattle.host_core.specs.declared.phase.End.TheVariants.{NoWord as LoadNoWord}
-use Rattle.host_core.specs.declared.phase.Phase.TheVariants.{Ended as LoadEnded, Settle as LoadSettle, Value as LoadValue, Deposit as LoadDeposit, Return as LoadReturn}
+use Rattle.host_core.specs.declared.phase.Phase.TheVariants.{Value as LoadValue, Deposit as LoadDeposit, Return as LoadReturn}
 use Rattle.host_core.specs.declared.phase.Reason.TheVariants.{Close as Closes}
 use Rattle.host_core.specs.Core.{Core, word_nr}
-use Rattle.host_core.specs.PhaseTable.{move, taken as load_taken}
-use Rattle.tape_image.specs.Plan.{PlanValue}
+use Rattle.host_core.specs.PhaseTable.{move}
 use Rattle.line_world.specs.declared.event.Event.TheVariants.{Take, Hear, LoseDown, LoseUp, Quiet}
 use Rattle.line_world.specs.Scene.{Scene, over}
-use Rattle.line_world.specs.Wire.{Wire, most_waiting, with_answer, without_down, without_up, heard, sent}
+use Rattle.line_world.specs.Wire.{Wire, with_answer, without_down, without_up, heard, sent}
 use Rattle.line_world.specs.World.{loading, takes}
 use Rattle.line_world.specs.Site.{ground}
 use Rattle.line_world.specs.Invariant.{IsKept, OneWay}
@@ -32,32 +30,24 @@ use Rattle.honest_line.specs.Moves.{Moves, MovesTimes, MovesOn, Gives, Passes}
 use Rattle.honest_line.proofs.Leading.{hearing, waiting}
 use Rattle.honest_line.proofs.Passings.{passing_said}
 use Rattle.looking_law.proofs.Saying.{plan_for, words_for, word_for, merged_for}
-use Rattle.memory_core.specs.declared.phase.Phase.TheVariants.{Settle, Value, Close, Ended}
-use Rattle.memory_core.specs.declared.phase.End.TheVariants.{NoWord}
+use Rattle.memory_core.specs.declared.phase.Phase.TheVariants.{Value}
 use Rattle.memory_core.specs.declared.seen.Readings.{Readings}
-use Rattle.memory_core.specs.declared.seen.Outcome.{Outcome}
 use Rattle.memory_core.specs.declared.seen.Seen.{Seen}
 use Rattle.memory_core.specs.declared.seen.Seen.TheVariants.{Unsteady, Tested}
 use Rattle.memory_core.specs.declared.stage.Stage.{Stage}
 use Rattle.memory_core.specs.declared.stage.Stage.TheVariants.{Unseen, Once, Turned, Returned}
-use Rattle.memory_core.specs.declared.doubt.Doubt.{Doubt}
-use Rattle.memory_core.specs.declared.doubt.Doubt.TheVariants.{Nothing, Refused, Failed}
-use Rattle.memory_core.specs.declared.turn.Turn.TheVariants.{LooksAgain, Deposits, Counts, Missing}
+use Rattle.memory_core.specs.declared.turn.Turn.TheVariants.{LooksAgain, Deposits, Counts}
 use Rattle.memory_core.specs.Invariant.{IsTester, PhaseFits, VisitFits, basis_of}
 use Rattle.memory_core.specs.Laws.{led}
-use Rattle.memory_core.specs.Doubt.{is_final, outcome}
-use Rattle.memory_core.specs.Seen.{HeldBoth, holds}
-use Rattle.memory_core.specs.MemoryTable.{TesterStep, ask, counted, refused, sends, taken, turn_of, read, second_look}
+use Rattle.memory_core.specs.MemoryTable.{TesterStep, ask, taken, turn_of, read, second_look}
 use Rattle.memory_core.specs.Stage.{complement, number_of, AreNumbers, IsTouched}
 use Rattle.memory_core.specs.Tester.{Tester, address_under_way}
 use Rattle.memory_core.proofs.Lives.{asked}
 use Rattle.memory_core.proofs.Turns.{kept as tester_kept}
 use Rattle.memory_law.specs.Testing.{dialogue, IsTrueOf}
-use Rattle.memory_law.proofs.Ahead.{ahead, ahead_asked, ahead_is, lies_below, only_ahead, stored_own, stored_twice, stored_there, stored_wide}
-use Rattle.memory_law.proofs.Mirror.{Account, Follows, IsMissing, IsPlain, IsTurn, IsWhole, core_for, scene_for, given, follows, foreign_for, missing_agrees, plain_or_whole, plain_silence}
-use Rattle.memory_law.proofs.Switches.{HasRead, at_word, has_read, deposit_kept, close_kept, settle_kept, calm, scene}
-use Rattle.memory_core.specs.Foreign.{foreign_count, is_foreign, phase_for, visit_for}
-use Rattle.line_world.proofs.Explained.{never_foreign}
+use Rattle.memory_law.proofs.Ahead.{ahead, ahead_asked, ahead_is, only_ahead, stored_own, stored_twice, stored_there, stored_wide}
+use Rattle.memory_law.proofs.Mirror.{Account, Follows, IsPlain, IsWhole, core_for, scene_for, given, phase_for, follows, plain_or_whole, plain_silence}
+use Rattle.memory_law.proofs.Switches.{HasRead, at_word, has_read, deposit_kept, close_kept, calm, scene, visit_for}
 
 -- ---- what memory is
 
@@ -71,7 +61,7 @@ pub record IsBorrowed (memory : List ℕ) (address old : ℕ) (now : List ℕ) :
 -- memory beside what it was, by what is known of the word under way
 abbrev pub MemoryIs : List ℕ → ℕ → Stage → List ℕ → Type 0
 MemoryIs memory address Unseen now = now ≡ memory
-MemoryIs memory address (Once first) now = (now ≡ memory) × (first ≡ word_at memory address) × (is_word memory address ≡ true)
+MemoryIs memory address (Once first) now = (now ≡ memory) × (first ≡ word_at memory address)
 MemoryIs memory address (Turned old) now = IsBorrowed memory address old now
 MemoryIs memory address (Returned old turned) now = IsBorrowed memory address old now × (turned ≡ complement old)
 
@@ -86,13 +76,7 @@ pub record AreCounted (t : Tester) (x : Wire) (a : Account) : Type 0 where
 
 -- what was read of each word that counts as tested is true
 abbrev pub AreTrue : List ℕ → Tester → Type 0
-AreTrue memory t = (i : ℕ) (other : Outcome) → i < length t.seen → IsTrueOf memory (get_or t.addresses i 0) (get_or t.seen i other)
-
--- no test of the word under way has failed
-abbrev pub HasNotFailed : Doubt → Type 0
-HasNotFailed Nothing = ⊤
-HasNotFailed Refused = ⊤
-HasNotFailed (Failed first) = ⊥
+AreTrue memory t = (i : ℕ) (other : Seen) → i < length t.seen → IsTrueOf memory (get_or t.addresses i 0) (get_or t.seen i other)
 
 pub record IsKeptTest (memory : List ℕ) (t : Tester) (x : Wire) : Type 0 where
   pub account : Account
@@ -100,7 +84,6 @@ pub record IsKeptTest (memory : List ℕ) (t : Tester) (x : Wire) : Type 0 where
   pub tester : IsTester t
   pub counted : AreCounted t x account
   pub memory_is : MemoryIs memory (address_under_way t) t.stage x.machine.memory
-  pub unfailed : HasNotFailed t.doubt
   pub words : AreTrue memory t
   pub wide : IsWide memory
 
@@ -135,7 +118,7 @@ stored_by_stage : (memory : List ℕ) (a : ℕ) (stage : Stage) (other now now' 
 stored_by_stage memory a Unseen other now now' same at stores =
     stores ∙ (ap (λ m. stored now a (word_at m a)) (same ∙ sym at) ∙ (stored_own now a ∙ at))
 stored_by_stage memory a (Once first) other now now' same at stores =
-    (stores ∙ (ap (λ m. stored now a (word_at m a)) (same ∙ sym at.0) ∙ (stored_own now a ∙ at.0)), at.1, at.2)
+    (stores ∙ (ap (λ m. stored now a (word_at m a)) (same ∙ sym at.0) ∙ (stored_own now a ∙ at.0)), at.1)
 stored_by_stage memory a (Turned old) other now now' same at stores = stored_again memory a old other now now' at stores
 stored_by_stage memory a (Returned old turned) other now now' same at stores = (stored_again memory a old other now now' at.0 stores, at.1)
 
@@ -167,7 +150,6 @@ takes_kept memory t x y c rest is now k =
       tester = k.tester;
       counted = record { spent_before = k.counted.spent_before; lost_before = k.counted.lost_before; spent = k.counted.spent; patience = k.counted.patience; lost = k.counted.lost; paid = k.counted.paid };
       memory_is = stored_is memory (take_of x.machine c).memory t x.machine k.memory_is stores;
-      unfailed = k.unfailed;
       words = k.words;
       wide = k.wide;
     }
@@ -180,7 +162,6 @@ loses_down_kept memory t x y n below now k =
       tester = k.tester;
       counted = record { spent_before = k.counted.spent_before; lost_before = k.counted.lost_before; spent = k.counted.spent; patience = k.counted.patience; lost = ap (λ lost. lost + 1) k.counted.lost ∙ one_more_lost k.counted.lost_before k.account.lost; paid = k.counted.paid };
       memory_is = k.memory_is;
-      unfailed = k.unfailed;
       words = k.words;
       wide = k.wide;
     }
@@ -193,7 +174,6 @@ loses_up_kept memory t x y n below now k =
       tester = k.tester;
       counted = record { spent_before = k.counted.spent_before; lost_before = k.counted.lost_before; spent = k.counted.spent; patience = k.counted.patience; lost = ap (λ lost. lost + 1) k.counted.lost ∙ one_more_lost k.counted.lost_before k.account.lost; paid = k.counted.paid };
       memory_is = k.memory_is;
-      unfailed = k.unfailed;
       words = k.words;
       wide = k.wide;
     }
@@ -251,10 +231,9 @@ plain_step memory t x y what k plain machine lost now =
           (subst (λ stage. MemoryIs memory (address_under_way s.next) stage x.machine.memory) (sym f.stage)
           (subst (λ seen. MemoryIs memory (get_or s.next.addresses (length seen) 0) t.stage x.machine.memory) (sym f.seen)
           (subst (λ addresses. MemoryIs memory (get_or addresses (length t.seen) 0) t.stage x.machine.memory) (sym step.addresses) k.memory_is)));
-      unfailed = subst HasNotFailed (sym f.doubt) k.unfailed;
       words =
-          subst (λ (seen : List Outcome). (i : ℕ) (other : Outcome) → i < length seen → IsTrueOf memory (get_or s.next.addresses i 0) (get_or seen i other)) (sym f.seen)
-          (subst (λ addresses. (i : ℕ) (other : Outcome) → i < length t.seen → IsTrueOf memory (get_or addresses i 0) (get_or t.seen i other)) (sym step.addresses) k.words);
+          subst (λ (seen : List Seen). (i : ℕ) (other : Seen) → i < length seen → IsTrueOf memory (get_or s.next.addresses i 0) (get_or seen i other)) (sym f.seen)
+          (subst (λ addresses. (i : ℕ) (other : Seen) → i < length t.seen → IsTrueOf memory (get_or addresses i 0) (get_or t.seen i other)) (sym step.addresses) k.words);
       wide = k.wide;
     }
 
@@ -356,13 +335,12 @@ deposits_kept memory t x visit value rest next k hand tester touched at =
           let counted = from_here t x 9 k.account k.counted k.kept.spent k.tester.patient in
           record { spent_before = counted.spent_before; lost_before = counted.lost_before; spent = counted.spent; patience = counted.patience; lost = counted.lost; paid = counted.paid };
       memory_is = at;
-      unfailed = k.unfailed;
       words = k.words;
       wide = k.wide;
     }
 
-more_words_true : (memory : List ℕ) (addresses : List ℕ) (seen : List Outcome) (word : Outcome) → ((i : ℕ) (other : Outcome) → i < length seen → IsTrueOf memory (get_or addresses i 0) (get_or seen i other)) → IsTrueOf memory (get_or addresses (length seen) 0) word →
-    (i : ℕ) (other : Outcome) → i < length (seen ++ word ∷ []) → IsTrueOf memory (get_or addresses i 0) (get_or (seen ++ word ∷ []) i other)
+more_words_true : (memory : List ℕ) (addresses : List ℕ) (seen : List Seen) (word : Seen) → ((i : ℕ) (other : Seen) → i < length seen → IsTrueOf memory (get_or addresses i 0) (get_or seen i other)) → IsTrueOf memory (get_or addresses (length seen) 0) word →
+    (i : ℕ) (other : Seen) → i < length (seen ++ word ∷ []) → IsTrueOf memory (get_or addresses i 0) (get_or (seen ++ word ∷ []) i other)
 more_words_true memory addresses seen word before new i other low = elim (same_or i (length seen)) [
   | inl same ↦ subst (λ w. IsTrueOf memory (get_or addresses i 0) w) (sym (get_or_push seen word other i (sym same))) (subst (λ j. IsTrueOf memory (get_or addresses j 0) word) (sym same) new)
   | inr apart ↦
@@ -370,40 +348,12 @@ more_words_true memory addresses seen word before new i other low = elim (same_o
       subst (λ w. IsTrueOf memory (get_or addresses i 0) w) (sym (get_or_append_left seen (word ∷ []) other i below)) (before i other below)
 ]
 
--- what counts of a word that held at once
-abbrev at_once : Seen → Outcome
-at_once word = record { last = word; failed = None }
-
--- the step with which it counts
-abbrev with_word : Tester → Seen → TesterStep
-with_word t word = sends (record t { seen = t.seen ++ at_once word ∷ []; doubt = Nothing; stage = Unseen }) 13 (Close 0)
-
-counted_by : (t : Tester) (word : Seen) (doubt : Doubt) → holds word ≡ true → HasNotFailed doubt →
-    (if is_final word doubt then sends (record t { seen = t.seen ++ outcome word doubt ∷ []; doubt = Nothing; stage = Unseen }) 13 (Close 0) else sends (record t { doubt = Failed word; stage = Unseen }) 13 (Close 0)) ≡ with_word t word
-counted_by t word Nothing is unfailed = ap (λ final. if final then with_word t word else sends (record t { doubt = Failed word; stage = Unseen }) 13 (Close 0)) is
-counted_by t word Refused is unfailed = ap (λ final. if final then with_word t word else sends (record t { doubt = Failed word; stage = Unseen }) 13 (Close 0)) is
-counted_by t word (Failed first) is unfailed = absurd unfailed
-
-counted_at_once : (t : Tester) (word : Seen) → holds word ≡ true → HasNotFailed t.doubt → counted t word ≡ with_word t word
-counted_at_once t word is unfailed = counted_by t word t.doubt is unfailed
-
-held_both : (r : Readings) → HeldBoth r → holds (Tested r) ≡ true
-held_both r h = both (r.turned == complement r.old) (r.back == r.old) (alike r.turned (complement r.old) h.turned) (alike r.back r.old h.back)
-  where
-    alike : (one other : ℕ) → one ≡ other → (one == other) ≡ true
-    alike one other same = grind (arith, nat_tests)
-
-    both : (one other : Bool) → one ≡ true → other ≡ true → (one && other) ≡ true
-    both true true e f = refl
-    both true false e f = absurd (cc f)
-    both false other e f = absurd (cc e)
-
 -- the word is done
 tested_kept : (memory : List ℕ) (t : Tester) (x : Wire) (visit : Visit) (value : ℕ) (rest : List ℕ) (word : Seen) → (k : IsKeptTest memory t x) → AtHand memory t x visit value rest →
-    IsTester (with_word t word).next → x.machine.memory ≡ memory → IsTrueOf memory (address_under_way t) (at_once word) →
-    IsKeptTest memory (with_word t word).next (sent (heard x rest) (13 ∷ []))
+    IsTester (taken t (Counts word)).next → x.machine.memory ≡ memory → IsTrueOf memory (address_under_way t) word →
+    IsKeptTest memory (taken t (Counts word)).next (sent (heard x rest) (13 ∷ []))
 tested_kept memory t x visit value rest word k hand tester back true_of =
-    let next : Tester = (with_word t word).next in
+    let next : Tester = (taken t (Counts word)).next in
     let patience : ℕ = t.patience - t.spent in
     let new : IsKept (scene x.machine (at_word (plan_for memory (ahead next)) patience 0 1 (LoadReturn Closes 0)) (13 ∷ []) [] 0) =
     close_kept x.machine memory (ahead next) (address_under_way t) patience k.kept.machine k.wide (ahead_asked next tester.asked) (omega (arith, k.tester.long)) hand.read.mode in
@@ -417,8 +367,7 @@ tested_kept memory t x visit value rest word k hand tester back true_of =
           let counted = from_here t x 1 k.account k.counted k.kept.spent k.tester.patient in
           record { spent_before = counted.spent_before; lost_before = counted.lost_before; spent = counted.spent; patience = counted.patience; lost = counted.lost; paid = counted.paid };
       memory_is = back;
-      unfailed = tt;
-      words = more_words_true memory t.addresses t.seen (at_once word) k.words true_of;
+      words = more_words_true memory t.addresses t.seen word k.words true_of;
       wide = k.wide;
     }
 
@@ -440,7 +389,6 @@ looks_again_kept memory t x visit value rest k hand tester at =
           let counted = from_here t x 1 k.account k.counted k.kept.spent k.tester.patient in
           record { spent_before = counted.spent_before; lost_before = counted.lost_before; spent = counted.spent; patience = counted.patience; lost = counted.lost; paid = counted.paid };
       memory_is = at;
-      unfailed = k.unfailed;
       words = k.words;
       wide = k.wide;
     }
@@ -477,7 +425,7 @@ read_kept : (memory : List ℕ) (t : Tester) (x : Wire) (visit : Visit) (value :
     MemoryIs memory (address_under_way t) stage x.machine.memory → (visit ≡ Check → word_at (given memory (address_under_way t) stage) (address_under_way t) ≡ word_at x.machine.memory (address_under_way t)) →
     IsTester (taken t (read stage visit value)).next → IsKeptTest memory (taken t (read stage visit value)).next (sent (heard x rest) (option_to_list (taken t (read stage visit value)).key))
 read_kept memory t x Look value rest Unseen is k hand fits at checked tester =
-    looks_again_kept memory t x Look value rest k hand tester (at, hand.read.holds ∙ ap (λ m. word_at m (address_under_way t)) at, hand.there)
+    looks_again_kept memory t x Look value rest k hand tester (at, hand.read.holds ∙ ap (λ m. word_at m (address_under_way t)) at)
 read_kept memory t x Check value rest Unseen is k hand fits at checked tester = absurd fits
 read_kept memory t x Look value rest (Once first) is k hand fits at checked tester =
     let a : ℕ = address_under_way t in
@@ -493,13 +441,10 @@ read_kept memory t x Check value rest (Turned old) is k hand fits at checked tes
 read_kept memory t x Look value rest (Returned old turned) is k hand fits at checked tester = deposits_kept memory t x Look value rest (Returned old turned) k hand tester tt at
 read_kept memory t x Check value rest (Returned old turned) is k hand fits at checked tester =
     let a : ℕ = address_under_way t in
-    let holds_old : old ≡ word_at x.machine.memory a = sym (stored_there memory a old hand.there) ∙ checked refl in
+    let holds : old ≡ word_at x.machine.memory a = sym (stored_there memory a old hand.there) ∙ checked refl in
     let readings : Readings = record { old = old; turned = turned; back = value } in
-    let held : HeldBoth readings = record { turned = at.1; back = hand.read.holds ∙ sym holds_old } in
-    let counts : counted t (Tested readings) ≡ with_word t (Tested readings) = counted_at_once t (Tested readings) (held_both readings held) k.unfailed in
-    subst (λ (s : TesterStep). IsKeptTest memory s.next (sent (heard x rest) (option_to_list s.key))) (sym counts)
-    (tested_kept memory t x Check value rest (Tested readings) k hand (subst (λ (s : TesterStep). IsTester s.next) counts tester) (put_back memory a old x.machine.memory at.0 holds_old)
-    record { lies = hand.there; readings = readings; tested = refl; old = at.0.held; held = held })
+    tested_kept memory t x Check value rest (Tested readings) k hand tester (put_back memory a old x.machine.memory at.0 holds)
+    record { lies = hand.there; readings = readings; tested = refl; old = at.0.held; held = record { turned = at.1; back = hand.read.holds ∙ sym holds } }
 
 whole_hearing : (memory : List ℕ) (t : Tester) (x : Wire) (c : ℕ) (rest : List ℕ) → x.up ≡ c ∷ rest → IsKeptTest memory t x → IsWhole t c →
     IsKeptTest memory (ask t (Got c)).next (sent (heard x rest) (option_to_list (ask t (Got c)).key))
@@ -509,83 +454,6 @@ whole_hearing memory t x c rest is k w =
     subst (λ turn. IsKeptTest memory (taken t turn).next (sent (heard x rest) (option_to_list (taken t turn).key))) (sym w.turn)
     (read_kept memory t x w.visit w.value rest t.stage refl k hand fits.3 k.memory_is hand.read.checked (subst (λ turn. IsTester (taken t turn).next) w.turn (tester_kept t (Got c) k.tester)))
 
--- ---- no memory
-
-pub as_long : (memory : List ℕ) (a : ℕ) (stage : Stage) (now : List ℕ) → MemoryIs memory a stage now → length now ≡ length memory
-as_long memory a Unseen now at = ap length at
-as_long memory a (Once first) now at = ap length at.0
-as_long memory a (Turned old) now at = ap length at.stands ∙ length-set memory (a / 2) at.number
-as_long memory a (Returned old turned) now at = ap length at.0.stands ∙ length-set memory (a / 2) at.0.number
-
--- where it is said the loading host ends
-missing_ends : (memory : List ℕ) (t : Tester) (x : Wire) (c a : ℕ) (rest : List ℕ) → x.up ≡ c ∷ rest → (k : IsKeptTest memory t x) → turn_of t (Got c) ≡ Missing a →
-    IsKept (over (record (core_for memory t k.account) { phase = LoadEnded (LoadNoWord a) }) (sent (heard (with_lost x k.account.lost) rest) []))
-missing_ends memory t x c a rest is k missing =
-    let core : Core = core_for memory t k.account in
-    let y : Wire = heard (with_lost x k.account.lost) rest in
-    subst (λ turn. IsKept (over (load_taken core turn).next (sent y (option_to_list (load_taken core turn).key)))) (missing_agrees memory t k.account c a missing)
-    (subst IsKept (hearing loading core (with_lost x k.account.lost) c rest x.up is) (kept_event (scene_for memory t k.account x) Hear k.kept))
-
--- it is never said of a word that was read
-never_missing : (memory : List ℕ) (t : Tester) (x : Wire) (c : ℕ) (rest : List ℕ) → x.up ≡ c ∷ rest → IsKeptTest memory t x → turn_of t (Got c) ≡ Missing (address_under_way t) → is_word memory (address_under_way t) ≡ true → ⊥
-never_missing memory t x c rest is k missing lies =
-    let past = (missing_ends memory t x c (address_under_way t) rest is k missing).phase.1 in
-    absurd (omega (arith, past, as_long memory (address_under_way t) t.stage x.machine.memory k.memory_is, lies_below memory (address_under_way t) lies))
-
-fewer : (up : List ℕ) (c : ℕ) (rest : List ℕ) → up ≡ c ∷ rest → length up ≤ most_waiting → length rest ≤ most_waiting
-fewer up c rest is few = omega (arith, few, ap length is)
-
--- once more it is asked for, when the line is quiet
-asked_again : (memory : List ℕ) (t : Tester) (x : Wire) (c : ℕ) (rest : List ℕ) → x.up ≡ c ∷ rest → IsKeptTest memory t x → IsTester (record t { doubt = Refused; phase = Settle }) →
-    IsKeptTest memory (record t { doubt = Refused; phase = Settle }) (sent (heard x rest) [])
-asked_again memory t x c rest is k tester =
-    let plan : PlanValue = plan_for (given memory (address_under_way t) t.stage) (ahead t) in
-    let patience : ℕ = t.patience - t.spent in
-    let new : IsKept (scene x.machine (at_word plan patience 0 0 LoadSettle) ([] ++ []) rest 0) =
-    settle_kept x.machine plan patience rest k.kept.machine k.kept.host.image (omega (arith, k.tester.long)) (fewer x.up c rest is k.kept.few) k.kept.running k.kept.at_start in
-    record {
-      account = record { patience = patience; spent = 0; sent = 0; lost = 0 };
-      kept = subst (λ down. IsKept (scene x.machine (at_word plan patience 0 0 LoadSettle) (down ++ []) rest 0)) (sym (down_none x.down x.up c rest k.kept.one_way is)) new;
-      tester = tester;
-      counted =
-          let counted = from_here t x 0 k.account k.counted k.kept.spent k.tester.patient in
-          record { spent_before = counted.spent_before; lost_before = counted.lost_before; spent = counted.spent; patience = counted.patience; lost = counted.lost; paid = counted.paid };
-      memory_is = k.memory_is;
-      unfailed = tt;
-      words = k.words;
-      wide = k.wide;
-    }
-
--- it is believed
-no_word : (memory : List ℕ) (t : Tester) (x : Wire) (c : ℕ) (rest : List ℕ) → x.up ≡ c ∷ rest → IsKeptTest memory t x → turn_of t (Got c) ≡ Missing (address_under_way t) → IsTester (record t { phase = Ended (NoWord (address_under_way t)) }) →
-    IsKeptTest memory (record t { phase = Ended (NoWord (address_under_way t)) }) (sent (heard x rest) [])
-no_word memory t x c rest is k missing tester = record {
-  account = k.account;
-  kept = missing_ends memory t x c (address_under_way t) rest is k missing;
-  tester = tester;
-  counted = record { spent_before = k.counted.spent_before; lost_before = k.counted.lost_before; spent = k.counted.spent; patience = k.counted.patience; lost = k.counted.lost; paid = k.counted.paid };
-  memory_is = k.memory_is;
-  unfailed = k.unfailed;
-  words = k.words;
-  wide = k.wide;
-}
-
-refused_kept : (memory : List ℕ) (t : Tester) (x : Wire) (c : ℕ) (rest : List ℕ) (stage : Stage) (doubt : Doubt) → t.stage ≡ stage → t.doubt ≡ doubt → x.up ≡ c ∷ rest → IsKeptTest memory t x → turn_of t (Got c) ≡ Missing (address_under_way t) →
-    MemoryIs memory (address_under_way t) stage x.machine.memory → HasNotFailed doubt → IsTester (refused t (address_under_way t) stage doubt).next →
-    IsKeptTest memory (refused t (address_under_way t) stage doubt).next (sent (heard x rest) (option_to_list (refused t (address_under_way t) stage doubt).key))
-refused_kept memory t x c rest Unseen Nothing is none up k missing at unfailed tester = asked_again memory t x c rest up k tester
-refused_kept memory t x c rest Unseen Refused is none up k missing at unfailed tester = no_word memory t x c rest up k missing tester
-refused_kept memory t x c rest Unseen (Failed first) is none up k missing at unfailed tester = absurd unfailed
-refused_kept memory t x c rest (Once first) doubt is so up k missing at unfailed tester = absurd (never_missing memory t x c rest up k missing at.2)
-refused_kept memory t x c rest (Turned old) doubt is so up k missing at unfailed tester = absurd (never_missing memory t x c rest up k missing at.lies)
-refused_kept memory t x c rest (Returned old turned) doubt is so up k missing at unfailed tester = absurd (never_missing memory t x c rest up k missing at.0.lies)
-
-missing_hearing : (memory : List ℕ) (t : Tester) (x : Wire) (c : ℕ) (rest : List ℕ) → x.up ≡ c ∷ rest → IsKeptTest memory t x → IsMissing t c →
-    IsKeptTest memory (ask t (Got c)).next (sent (heard x rest) (option_to_list (ask t (Got c)).key))
-missing_hearing memory t x c rest is k m =
-    subst (λ turn. IsKeptTest memory (taken t turn).next (sent (heard x rest) (option_to_list (taken t turn).key))) (sym m.turn)
-    (refused_kept memory t x c rest t.stage t.doubt refl refl is k m.turn k.memory_is k.unfailed (subst (λ turn. IsTester (taken t turn).next) m.turn (tester_kept t (Got c) k.tester)))
-
 -- ---- all of it
 
 within_six : (t : Tester) → IsTester t → (visit : Visit) (value place : ℕ) → t.phase ≡ Value visit value place → place ≤ 6
@@ -593,11 +461,10 @@ within_six t is visit value place phase =
     let fits : PhaseFits (Value visit value place) (basis_of t) = subst (λ p. PhaseFits p (basis_of t)) phase is.fits in
     fits.1
 
-hearing_kept : (memory : List ℕ) (t : Tester) (x : Wire) (c : ℕ) (rest : List ℕ) → x.up ≡ c ∷ rest → IsKeptTest memory t x → IsTurn t c →
+hearing_kept : (memory : List ℕ) (t : Tester) (x : Wire) (c : ℕ) (rest : List ℕ) → x.up ≡ c ∷ rest → IsKeptTest memory t x → IsPlain (turn_of t (Got c)) ⊎ IsWhole t c →
     IsKeptTest memory (ask t (Got c)).next (sent (heard x rest) (option_to_list (ask t (Got c)).key))
 hearing_kept memory t x c rest is k (inl plain) = plain_hearing memory t x c rest is k plain
-hearing_kept memory t x c rest is k (inr (inl whole)) = whole_hearing memory t x c rest is k whole
-hearing_kept memory t x c rest is k (inr (inr missing)) = missing_hearing memory t x c rest is k missing
+hearing_kept memory t x c rest is k (inr whole) = whole_hearing memory t x c rest is k whole
 
 gives_kept : (memory : List ℕ) (t : Tester) (what : Heard) (x y : Wire) → Gives x what y → IsKeptTest memory t x → IsKeptTest memory (ask t what).next (sent y (option_to_list (ask t what).key))
 gives_kept memory t (Got c) x y (rest, is, now) k =
@@ -613,27 +480,3 @@ dialogue_kept memory (what ∷ things) t x y (z, v, before, gives, passes) k =
     let key = (ask t what).key in
     dialogue_kept memory things (ask t what).next (sent v (option_to_list key)) y (passing_said Moves key (dialogue (ask t what).next things) v y passes)
     (gives_kept memory t what z v gives (moves_kept memory t x z before k))
-
--- ---- what is heard is no foreign character
-
-known : (memory : List ℕ) (t : Tester) (x : Wire) (c : ℕ) (rest : List ℕ) → x.up ≡ c ∷ rest → IsKeptTest memory t x → is_foreign t (Got c) ≡ false
-known memory t x c rest is k =
-    let core : Core = core_for memory t k.account in
-    sym (foreign_for memory t k.account c)
-    ∙ never_foreign x.machine core x.down c rest (calm k.account.lost) refl (subst (λ up. IsKept (scene x.machine core x.down up k.account.lost)) is k.kept)
-
-gives_known : (memory : List ℕ) (t : Tester) (what : Heard) (x y : Wire) → Gives x what y → IsKeptTest memory t x → is_foreign t what ≡ false
-gives_known memory t (Got c) x y (rest, is, now) k = known memory t x c rest is k
-gives_known memory t Silence x y gives k = refl
-
-none_more : (test : Bool) (n : ℕ) → test ≡ false → n ≡ 0 → (if test then 1 else 0) + n ≡ 0
-none_more true n e f = absurd (cc e)
-none_more false n e f = omega (arith, f)
-
-pub dialogue_known : (memory : List ℕ) (things : List Heard) (t : Tester) (x y : Wire) → Passes x (dialogue t things) y → IsKeptTest memory t x → foreign_count t things ≡ 0
-dialogue_known memory [] t x y moves k = refl
-dialogue_known memory (what ∷ things) t x y (z, v, before, gives, passes) k =
-    let key = (ask t what).key in
-    let there : IsKeptTest memory t z = moves_kept memory t x z before k in
-    none_more (is_foreign t what) (foreign_count (ask t what).next things) (gives_known memory t what z v gives there)
-    (dialogue_known memory things (ask t what).next (sent v (option_to_list key)) y (passing_said Moves key (dialogue (ask t what).next things) v y passes) (gives_kept memory t what z v gives there))

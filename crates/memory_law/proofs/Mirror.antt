@@ -1,6 +1,6 @@
 -- Between two deposits a testing host does step by step what a loading host does whose plan is the word under way.
 use Rattle.std.proofs.Common.{◌≡◌, ℕ, ◌+◌, ◌≤◌, Bool, true, false, ◌==◌, nat_lt, if◌then◌else◌, List, length, Some, inl, inr, refl, arith, ap, sym, subst, ◌∙◌}
-use Rattle.std.specs.Prelude.{◌⊎◌, not}
+use Rattle.std.specs.Prelude.{◌⊎◌}
 use borrow.Author.Tests.{eqb-true}
 use Rattle.octal.specs.Octal.{digit_of}
 use Rattle.tape_image.specs.Word.{WordValue}
@@ -11,8 +11,10 @@ use Rattle.host_core.specs.declared.phase.Try.TheVariants.{Only}
 use Rattle.host_core.specs.declared.phase.Visit.TheVariants.{Look as LoadLook, Check as LoadCheck}
 use Rattle.memory_core.specs.declared.phase.Visit.{Visit}
 use Rattle.memory_core.specs.declared.phase.Visit.TheVariants.{Look, Check}
-use Rattle.host_core.specs.declared.phase.Phase.TheVariants.{Settle as LoadSettle, Sync as LoadSync, Address as LoadAddress, Slash as LoadSlash, Before as LoadBefore, Deposit as LoadDeposit, Return as LoadReturn, Ended as LoadEnded}
+use Rattle.host_core.specs.declared.phase.Phase.{Phase as LoadPhase}
+use Rattle.host_core.specs.declared.phase.Phase.TheVariants.{Settle as LoadSettle, Sync as LoadSync, Address as LoadAddress, Slash as LoadSlash, Before as LoadBefore, Value as LoadValue, Deposit as LoadDeposit, Return as LoadReturn, Ended as LoadEnded}
 use Rattle.host_core.specs.declared.phase.Reason.TheVariants.{Store, Close as Closes}
+use Rattle.host_core.specs.declared.phase.End.{End as LoadEnd}
 use Rattle.host_core.specs.declared.phase.End.TheVariants.{Loaded, GaveUp as LoadGaveUp, NoWord as LoadNoWord}
 use Rattle.host_core.specs.declared.turn.Turn.{Turn as LoadTurn}
 use Rattle.host_core.specs.declared.turn.Turn.TheVariants.{Listen as LoadListen, Key as LoadKey, Revisit as LoadRevisit, Next as LoadNext, Stop as LoadStop, Stray as LoadStray, Timeout as LoadTimeout}
@@ -27,20 +29,37 @@ use Rattle.line_world.specs.Wire.{Wire}
 use Rattle.looking_law.proofs.Saying.{plan_for}
 use Rattle.memory_core.specs.declared.phase.Phase.{Phase}
 use Rattle.memory_core.specs.declared.phase.Phase.TheVariants.{Settle, Sync, Address, Slash, Before, Value, Deposit, Return, Close, Ended}
-use Rattle.memory_core.specs.declared.phase.End.TheVariants.{Complete, GaveUp}
+use Rattle.memory_core.specs.declared.phase.End.{End}
+use Rattle.memory_core.specs.declared.phase.End.TheVariants.{Complete, GaveUp, NoWord}
 use Rattle.memory_core.specs.declared.stage.Stage.{Stage}
 use Rattle.memory_core.specs.declared.seen.Seen.TheVariants.{Unsteady}
 use Rattle.memory_core.specs.declared.stage.Stage.TheVariants.{Unseen, Once, Turned, Returned}
 use Rattle.memory_core.specs.declared.turn.Turn.{Turn}
-use Rattle.memory_core.specs.declared.turn.Turn.TheVariants.{Listen, Key, LooksAgain, Deposits, Counts, ReadBack, Next, Missing, Stray, Timeout}
+use Rattle.memory_core.specs.declared.turn.Turn.TheVariants.{Listen, Key, LooksAgain, Deposits, Counts, ReadBack, Next, Stop, Stray, Timeout}
 use Rattle.memory_core.specs.MemoryTable.{TesterStep, ask, taken, turn_of, hears, waits, sends, listens, synced, addressed, read, reads, deposited, returned, closed}
 use Rattle.memory_core.specs.Stage.{number_of}
 use Rattle.memory_core.specs.Tester.{Tester, address_under_way}
 use Rattle.memory_law.proofs.Ahead.{ahead, more_words, under_way}
-use Rattle.memory_core.specs.Foreign.{is_foreign, phase_for, visit_for}
-use Rattle.host_core.specs.Foreign.{is_foreign as load_is_foreign, may_come}
+use Rattle.memory_law.proofs.Switches.{visit_for}
 
 -- ---- the same of the loading host
+
+abbrev pub end_for : End → LoadEnd
+end_for Complete = Loaded
+end_for GaveUp = LoadGaveUp
+end_for (NoWord a) = LoadNoWord a
+
+abbrev pub phase_for : Stage → Phase → LoadPhase
+phase_for stage Settle = LoadSettle
+phase_for stage (Sync place) = LoadSync place
+phase_for stage (Address visit place) = LoadAddress (visit_for (number_of stage) visit) place
+phase_for stage (Slash visit) = LoadSlash (visit_for (number_of stage) visit)
+phase_for stage (Before visit) = LoadBefore (visit_for (number_of stage) visit)
+phase_for stage (Value visit value place) = LoadValue (visit_for (number_of stage) visit) value place
+phase_for stage (Deposit place) = LoadDeposit Only (number_of stage) place
+phase_for stage (Return place) = LoadReturn (Store Only (number_of stage)) place
+phase_for stage (Close place) = LoadReturn Closes place
+phase_for stage (Ended end) = LoadEnded (end_for end)
 
 -- memory as it will be once the number is deposited
 abbrev pub given : List ℕ → ℕ → Stage → List ℕ
@@ -75,7 +94,7 @@ scene_for memory t a x = over (core_for memory t a) (record x { lost = a.lost })
 
 -- ---- a turn
 
--- the loading host's turn is the same, unless another number is to be deposited or the word is done; it ends where no memory answers
+-- the loading host's turn is the same, unless another number is to be deposited or the word is done
 abbrev Agrees : Stage → Turn → LoadTurn → Type 0
 Agrees stage (Listen phase) turn = turn ≡ LoadListen (phase_for stage phase)
 Agrees stage (Key key phase) turn = turn ≡ LoadKey key (phase_for stage phase)
@@ -84,7 +103,7 @@ Agrees stage (Deposits next) turn = Unit {0}
 Agrees stage (Counts word) turn = Unit {0}
 Agrees stage ReadBack turn = turn ≡ LoadRevisit (LoadCheck Only (number_of stage))
 Agrees stage Next turn = turn ≡ LoadNext
-Agrees stage (Missing address) turn = turn ≡ LoadStop (LoadNoWord address)
+Agrees stage (Stop end) turn = turn ≡ LoadStop (end_for end)
 Agrees stage Stray turn = turn ≡ LoadStray
 Agrees stage Timeout turn = turn ≡ LoadTimeout
 
@@ -163,7 +182,6 @@ abbrev pub IsPlain : Turn → Type 0
 IsPlain (LooksAgain first) = ⊥
 IsPlain (Deposits next) = ⊥
 IsPlain (Counts word) = ⊥
-IsPlain (Missing address) = ⊥
 IsPlain turn = Unit {0}
 
 -- after its step the loading host is the one for the tester after its own, and both send the same
@@ -174,7 +192,6 @@ pub record Follows (memory : List ℕ) (t : Tester) (a : Account) (m : Move) (s 
   pub lost : account.lost ≡ a.lost
   pub patience : account.patience ≡ a.patience
   pub spent : s.next.spent + a.spent ≡ t.spent + account.spent
-  pub doubt : s.next.doubt ≡ t.doubt
   pub stage : s.next.stage ≡ t.stage
   pub seen : s.next.seen ≡ t.seen
 
@@ -196,47 +213,41 @@ taken_follows : (memory : List ℕ) (t : Tester) (a : Account) (turn : Turn) (lo
     Follows memory t a (load_taken (core_for memory t a) load) (taken t turn)
 taken_follows memory t a (Listen phase) load plain agrees same =
     subst (λ l. Follows memory t a (load_taken (core_for memory t a) l) (taken t (Listen phase))) (sym agrees)
-    record { account = a; next = refl; key = refl; lost = refl; patience = refl; spent = refl; doubt = refl; stage = refl; seen = refl }
+    record { account = a; next = refl; key = refl; lost = refl; patience = refl; spent = refl; stage = refl; seen = refl }
 taken_follows memory t a (Key key phase) load plain agrees same =
     subst (λ l. Follows memory t a (load_taken (core_for memory t a) l) (taken t (Key key phase))) (sym agrees)
-    record { account = more_sent a; next = refl; key = refl; lost = refl; patience = refl; spent = refl; doubt = refl; stage = refl; seen = refl }
+    record { account = more_sent a; next = refl; key = refl; lost = refl; patience = refl; spent = refl; stage = refl; seen = refl }
 taken_follows memory t a (LooksAgain first) load plain agrees same = absurd plain
 taken_follows memory t a (Deposits next) load plain agrees same = absurd plain
 taken_follows memory t a (Counts word) load plain agrees same = absurd plain
 taken_follows memory t a ReadBack load plain agrees same =
     subst (λ l. Follows memory t a (load_taken (core_for memory t a) l) (taken t ReadBack)) (sym agrees)
-    record { account = more_sent a; next = refl; key = ap (λ address. Some (digit_of address 1)) (under_way (given memory (address_under_way t) t.stage) t); lost = refl; patience = refl; spent = refl; doubt = refl; stage = refl; seen = refl }
+    record { account = more_sent a; next = refl; key = ap (λ address. Some (digit_of address 1)) (under_way (given memory (address_under_way t) t.stage) t); lost = refl; patience = refl; spent = refl; stage = refl; seen = refl }
 taken_follows memory t a Next load plain agrees same =
     let core = core_for memory t a in
     subst (λ l. Follows memory t a (load_taken core l) (taken t Next)) (sym agrees)
     (both_tests memory t a (nat_lt 0 (length core.plan.words)) (nat_lt (length t.seen) (length t.addresses)) (load_sends core (digit_of (word_under_way core).address 1) (LoadAddress LoadLook 1)) (load_listens core (LoadEnded Loaded))
     (sends t (digit_of (address_under_way t) 1) (Address Look 1)) (listens t (Ended Complete))
     (more_words (given memory (address_under_way t) t.stage) (nat_lt (length t.seen) (length t.addresses)) (address_under_way t))
-    record { account = more_sent a; next = refl; key = ap (λ address. Some (digit_of address 1)) (under_way (given memory (address_under_way t) t.stage) t); lost = refl; patience = refl; spent = refl; doubt = refl; stage = refl; seen = refl }
-    record { account = a; next = refl; key = refl; lost = refl; patience = refl; spent = refl; doubt = refl; stage = refl; seen = refl })
-taken_follows memory t a (Missing address) load plain agrees same = absurd plain
+    record { account = more_sent a; next = refl; key = ap (λ address. Some (digit_of address 1)) (under_way (given memory (address_under_way t) t.stage) t); lost = refl; patience = refl; spent = refl; stage = refl; seen = refl }
+    record { account = a; next = refl; key = refl; lost = refl; patience = refl; spent = refl; stage = refl; seen = refl })
+taken_follows memory t a (Stop end) load plain agrees same =
+    subst (λ l. Follows memory t a (load_taken (core_for memory t a) l) (taken t (Stop end))) (sym agrees)
+    record { account = a; next = refl; key = refl; lost = refl; patience = refl; spent = refl; stage = refl; seen = refl }
 taken_follows memory t a Stray load plain agrees same =
     let core = core_for memory t a in
     subst (λ l. Follows memory t a (load_taken core l) (taken t Stray)) (sym agrees)
     (both_tests memory t a (nat_lt a.spent a.patience) (nat_lt t.spent t.patience) (load_listens (record core { spent = a.spent + 1 }) LoadSettle) (load_listens core (LoadEnded LoadGaveUp))
     (listens (record t { spent = t.spent + 1 }) Settle) (listens t (Ended GaveUp)) same
-    record { account = more_spent a; next = refl; key = refl; lost = refl; patience = refl; spent = one_more_each t.spent a.spent; doubt = refl; stage = refl; seen = refl }
-    record { account = a; next = refl; key = refl; lost = refl; patience = refl; spent = refl; doubt = refl; stage = refl; seen = refl })
+    record { account = more_spent a; next = refl; key = refl; lost = refl; patience = refl; spent = one_more_each t.spent a.spent; stage = refl; seen = refl }
+    record { account = a; next = refl; key = refl; lost = refl; patience = refl; spent = refl; stage = refl; seen = refl })
 taken_follows memory t a Timeout load plain agrees same =
     let core = core_for memory t a in
     subst (λ l. Follows memory t a (load_taken core l) (taken t Timeout)) (sym agrees)
     (both_tests memory t a (nat_lt a.spent a.patience) (nat_lt t.spent t.patience) (load_sends (record core { spent = a.spent + 1 }) 90 (LoadSync 0)) (load_listens core (LoadEnded LoadGaveUp))
     (sends (record t { spent = t.spent + 1 }) 90 (Sync 0)) (listens t (Ended GaveUp)) same
-    record { account = more_sent (more_spent a); next = refl; key = refl; lost = refl; patience = refl; spent = one_more_each t.spent a.spent; doubt = refl; stage = refl; seen = refl }
-    record { account = a; next = refl; key = refl; lost = refl; patience = refl; spent = refl; doubt = refl; stage = refl; seen = refl })
-
--- where no memory answers the loading host ends so
-pub missing_agrees : (memory : List ℕ) (t : Tester) (a : Account) (c address : ℕ) → turn_of t (Got c) ≡ Missing address → load_turn_of (core_for memory t a) (Got c) ≡ LoadStop (LoadNoWord address)
-missing_agrees memory t a c address missing = subst (λ turn. Agrees t.stage turn (load_turn_of (core_for memory t a) (Got c))) missing (turn_agrees memory t a (Got c))
-
--- the same characters are foreign to it
-pub foreign_for : (memory : List ℕ) (t : Tester) (a : Account) (c : ℕ) → load_is_foreign (core_for memory t a) (Got c) ≡ is_foreign t (Got c)
-foreign_for memory t a c = ap (λ address. not (may_come false address 0 (phase_for t.stage t.phase) c)) (under_way (given memory (address_under_way t) t.stage) t)
+    record { account = more_sent (more_spent a); next = refl; key = refl; lost = refl; patience = refl; spent = one_more_each t.spent a.spent; stage = refl; seen = refl }
+    record { account = a; next = refl; key = refl; lost = refl; patience = refl; spent = refl; stage = refl; seen = refl })
 
 pub follows : (memory : List ℕ) (t : Tester) (a : Account) (heard : Heard) → IsPlain (turn_of t heard) → nat_lt a.spent a.patience ≡ nat_lt t.spent t.patience →
     Follows memory t a (move (core_for memory t a) heard) (ask t heard)
@@ -252,13 +263,6 @@ pub record IsWhole (t : Tester) (c : ℕ) : Type 0 where
   pub blank : c ≡ 32
   pub turn : turn_of t (Got c) ≡ read t.stage visit value
 
--- the character that says that no memory answers at the address under way
-pub record IsMissing (t : Tester) (c : ℕ) : Type 0 where
-  pub turn : turn_of t (Got c) ≡ Missing (address_under_way t)
-
-abbrev pub IsTurn : Tester → ℕ → Type 0
-IsTurn t c = IsPlain (turn_of t (Got c)) ⊎ (IsWhole t c ⊎ IsMissing t c)
-
 plain_test : (test : Bool) (one other : Turn) → IsPlain one → IsPlain other → IsPlain (if test then one else other)
 plain_test test one other p q = on_test (λ v. IsPlain (if v then one else other)) test (λ _. p) (λ _. q)
 
@@ -268,10 +272,8 @@ plain_sync place c = resynchronise_walk (λ r. IsPlain (synced r)) place c tt (�
 plain_address : (address : ℕ) (visit : Visit) (place c : ℕ) → IsPlain (addressed visit place (digit_echo address place c))
 plain_address address visit place c = echo_walk (λ e. IsPlain (addressed visit place e)) address place c tt (λ _ _. tt) (λ _ _. tt)
 
--- the first character of a reading, or no memory answers
-before_goes_on : (address : ℕ) (stage : Stage) (visit : Visit) (c : ℕ) → IsPlain (reads address stage visit (reading_start c)) ⊎ (reads address stage visit (reading_start c) ≡ Missing address)
-before_goes_on address stage visit c =
-    start_walk (λ r. IsPlain (reads address stage visit r) ⊎ (reads address stage visit r ≡ Missing address)) c (inl tt) (inl tt) (inr refl) (λ _ _. inl tt)
+plain_before : (address : ℕ) (stage : Stage) (visit : Visit) (c : ℕ) → IsPlain (reads address stage visit (reading_start c))
+plain_before address stage visit c = start_walk (λ r. IsPlain (reads address stage visit r)) c tt tt tt (λ _ _. tt)
 
 plain_deposit : (number place c : ℕ) → IsPlain (deposited place (digit_echo number place c))
 plain_deposit number place c = echo_walk (λ e. IsPlain (deposited place e)) number place c tt (λ _ _. tt) (λ _ _. tt)
@@ -293,33 +295,28 @@ value_goes_on address stage visit value place c =
 
 whole_of : (t : Tester) (visit : Visit) (value place c : ℕ) → t.phase ≡ Value visit value place → place ≤ 6 →
     IsPlain (reads (address_under_way t) t.stage visit (reading_rest value place c)) ⊎ ((6 ≤ place) × (c ≡ 32) × (reads (address_under_way t) t.stage visit (reading_rest value place c) ≡ read t.stage visit value)) →
-    IsTurn t c
+    IsPlain (turn_of t (Got c)) ⊎ IsWhole t c
 whole_of t visit value place c is within (inl plain) = inl (subst (λ phase. IsPlain (hears (address_under_way t) t.stage phase c)) (sym is) plain)
-whole_of t visit value place c is within (inr (all, blank, turn)) = inr (inl (record {
+whole_of t visit value place c is within (inr (all, blank, turn)) = inr (record {
   visit = visit;
   value = value;
   phase = is ∙ ap (Value visit value) (six place all within);
   blank = blank;
   turn = ap (λ phase. hears (address_under_way t) t.stage phase c) is ∙ turn;
-}))
+})
   where
     six : (place : ℕ) → 6 ≤ place → place ≤ 6 → place ≡ 6
     six place low high = omega arith
 
-in_phase : (t : Tester) (phase : Phase) (c : ℕ) → t.phase ≡ phase → IsPlain (hears (address_under_way t) t.stage phase c) → IsTurn t c
+in_phase : (t : Tester) (phase : Phase) (c : ℕ) → t.phase ≡ phase → IsPlain (hears (address_under_way t) t.stage phase c) → IsPlain (turn_of t (Got c)) ⊎ IsWhole t c
 in_phase t phase c is plain = inl (subst (λ p. IsPlain (hears (address_under_way t) t.stage p c)) (sym is) plain)
 
-before_of : (t : Tester) (visit : Visit) (c : ℕ) → t.phase ≡ Before visit →
-    IsPlain (reads (address_under_way t) t.stage visit (reading_start c)) ⊎ (reads (address_under_way t) t.stage visit (reading_start c) ≡ Missing (address_under_way t)) → IsTurn t c
-before_of t visit c is (inl plain) = in_phase t (Before visit) c is plain
-before_of t visit c is (inr missing) = inr (inr (record { turn = ap (λ phase. hears (address_under_way t) t.stage phase c) is ∙ missing }))
-
-pub plain_or_whole : (t : Tester) (c : ℕ) (phase : Phase) → t.phase ≡ phase → ((visit : Visit) (value place : ℕ) → phase ≡ Value visit value place → place ≤ 6) → IsTurn t c
+pub plain_or_whole : (t : Tester) (c : ℕ) (phase : Phase) → t.phase ≡ phase → ((visit : Visit) (value place : ℕ) → phase ≡ Value visit value place → place ≤ 6) → IsPlain (turn_of t (Got c)) ⊎ IsWhole t c
 plain_or_whole t c Settle is within = in_phase t Settle c is tt
 plain_or_whole t c (Sync place) is within = in_phase t (Sync place) c is (plain_sync place c)
 plain_or_whole t c (Address visit place) is within = in_phase t (Address visit place) c is (plain_address (address_under_way t) visit place c)
 plain_or_whole t c (Slash visit) is within = in_phase t (Slash visit) c is (plain_test (c == 47) (Listen (Before visit)) Stray tt tt)
-plain_or_whole t c (Before visit) is within = before_of t visit c is (before_goes_on (address_under_way t) t.stage visit c)
+plain_or_whole t c (Before visit) is within = in_phase t (Before visit) c is (plain_before (address_under_way t) t.stage visit c)
 plain_or_whole t c (Value visit value place) is within = whole_of t visit value place c is (within visit value place refl) (value_goes_on (address_under_way t) t.stage visit value place c)
 plain_or_whole t c (Deposit place) is within = in_phase t (Deposit place) c is (plain_deposit (number_of t.stage) place c)
 plain_or_whole t c (Return place) is within = in_phase t (Return place) c is (plain_return place c)

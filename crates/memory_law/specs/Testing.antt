@@ -16,10 +16,9 @@ use Rattle.memory_core.specs.declared.phase.Phase.TheVariants.{Ended}
 use Rattle.memory_core.specs.declared.phase.End.{End}
 use Rattle.memory_core.specs.declared.phase.End.TheVariants.{GaveUp, NoWord}
 use Rattle.memory_core.specs.declared.seen.Readings.{Readings}
-use Rattle.memory_core.specs.declared.seen.Outcome.{Outcome}
+use Rattle.memory_core.specs.declared.seen.Seen.{Seen}
 use Rattle.memory_core.specs.declared.seen.Seen.TheVariants.{Tested}
 use Rattle.memory_core.specs.declared.stage.Borrowed.{Borrowed}
-use Rattle.memory_core.specs.Foreign.{foreign_count}
 use Rattle.memory_core.specs.Invariant.{IsTester}
 use Rattle.memory_core.specs.Laws.{led}
 use Rattle.memory_core.specs.MemoryTable.{ask}
@@ -43,12 +42,11 @@ IsAsItWas before None now = now ≡ before
 IsAsItWas before (Some word) now =
     (is_word before word.address ≡ true) × (word.old ≡ word_at before word.address) × (number : ℕ) × (now ≡ stored before word.address number)
 
--- memory has a word at the address, it was tested once and held what it was given, and what it is said to have held is what memory holds
--- there
-pub record IsTrueOf (memory : List ℕ) (address : ℕ) (word : Outcome) : Type 0 where
+-- memory has a word at the address, it was tested and held what it was given, and what it is said to have held is what memory holds there
+pub record IsTrueOf (memory : List ℕ) (address : ℕ) (word : Seen) : Type 0 where
   pub lies : is_word memory address ≡ true
   pub readings : Readings
-  pub tested : word ≡ record { last = Tested readings; failed = None }
+  pub tested : word ≡ Tested readings
   pub old : readings.old ≡ word_at memory address
   pub held : HeldBoth readings
 
@@ -67,7 +65,7 @@ HasCause phase memory patience lost = ⊤
 -- without its losses
 pub record IsTrueTest (before : List ℕ) (t : Tester) (now : List ℕ) (lost : ℕ) : Type 0 where
   pub memory : IsAsItWas before (borrowed t) now
-  pub words : (i : ℕ) (other : Outcome) → i < length t.seen → IsTrueOf before (get_or t.addresses i 0) (get_or t.seen i other)
+  pub words : (i : ℕ) (other : Seen) → i < length t.seen → IsTrueOf before (get_or t.addresses i 0) (get_or t.seen i other)
   pub spent : t.spent ≤ lost
   pub cause : HasCause t.phase before t.patience lost
 
@@ -87,12 +85,6 @@ abbrev pub UnsaidTestsAreTrue : Type 0
 UnsaidTestsAreTrue =
     (t : Tester) (things : List Heard) (items : List Item) (key : ℕ) → IsTester t → dialogue t things ≡ items ++ Sent key ∷ [] →
     IsBelievable t (led t things) items 1
-
--- over an honest line a testing host hears no character that no loss explains
-abbrev pub TestsHearNothingForeign : Type 0
-TestsHearNothingForeign =
-    (t : Tester) (things : List Heard) (machine machine' : Machine) (lost : ℕ) → IsTester t → MayTest t machine →
-    IsHonest machine (dialogue t things) lost machine' → foreign_count t things ≡ 0
 
 -- behind a test that heard an honest line the next host may begin
 abbrev pub TestsLeaveItReady : Type 0

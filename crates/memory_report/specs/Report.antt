@@ -17,7 +17,7 @@ use Rattle.memory_report.specs.declared.findings.Word.{Word}
 use Rattle.memory_report.specs.declared.verdict.Verdict.{Verdict}
 use Rattle.memory_report.specs.declared.verdict.Verdict.TheVariants.{Holds, ReadsZero, ReadsOne, Fails}
 use Rattle.memory_report.specs.Bus.{BusFound, bus_of, is_same, same_words}
-use Rattle.memory_report.specs.Words.{all_hold, bad_in, bank_of, column, count_bad, count_held, gap_in, is_bad, tested_in}
+use Rattle.memory_report.specs.Words.{all_hold, bad_in, bank_of, column, count_bad, gap_in, is_bad, tested_in}
 
 -- ---- the picture
 
@@ -107,19 +107,8 @@ more_lines bad = if nat_lt 8 bad then codes "and " ++ decimal (bad - 8) ++ line 
 abbrev pub count_lines : ℕ → ℕ → List ℕ
 count_lines tested bad = codes "tested " ++ decimal tested ++ codes " words, " ++ decimal bad ++ line (codes " do not hold")
 
-abbrev pub plural : ℕ → List ℕ
-plural count = if count == 1 then codes " word" else codes " words"
-
--- how many of them held the second time
-abbrev pub held_text : ℕ → List ℕ
-held_text held = decimal held ++ plural held ++ line (codes " held the second time: the line, or a chip that is so now and then")
-
-abbrev pub held_lines : ℕ → List ℕ
-held_lines held = if nat_lt 0 held then held_text held else []
-
 abbrev pub words_text : List Word → List ℕ
-words_text words =
-    bad_words_text words ++ more_lines (count_bad words) ++ count_lines (length words) (count_bad words) ++ held_lines (count_held words)
+words_text words = bad_words_text words ++ more_lines (count_bad words) ++ count_lines (length words) (count_bad words)
 
 -- ---- the bus
 
@@ -140,13 +129,8 @@ same_shown_also b shown other = if nat_lt shown 8 && is_same b other then shown 
 abbrev pub same_words_text : ℕ → BusFound → List ℕ
 same_words_text at b = flat_map (same_text at) (take 8 (same_words b))
 
--- why it was not tested: the word that it begins at does not hold, or the test did not come so far
-abbrev pub why_not : Option ℕ → List ℕ
-why_not (Some address) = octal_text address ++ line (codes " does not hold")
-why_not None = line (codes "the test ended before")
-
 abbrev pub bus_text_at : BusFound → Option ℕ → List ℕ
-bus_text_at b None = codes "the bus was not tested: " ++ why_not b.unfit
+bus_text_at b None = []
 bus_text_at b (Some at) =
     touch_text b.touches ++ same_words_text at b
     ++ codes "tested the bus at " ++ octal_text at ++ codes ", beside " ++ decimal b.looked_at ++ line (codes " words")

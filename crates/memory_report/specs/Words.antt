@@ -1,34 +1,20 @@
 -- What was seen of tested words, bank by bank (this project's own).
-use Rattle.std.specs.Prelude.{ℕ, zero, suc, ◌/◌, Bool, true, false, ◌==◌, ◌&&◌, ◌||◌, not, if◌then◌else◌, List, Option, Some, None, length}
+use Rattle.std.specs.Prelude.{ℕ, ◌/◌, Bool, true, ◌==◌, ◌&&◌, not, if◌then◌else◌, List, Option, Some, None, length}
 use Rattle.std.specs.List.{filter, fold}
+use Rattle.memory_core.specs.Stage.{complement}
 use Rattle.memory_core.specs.declared.seen.Seen.{Seen}
+use Rattle.memory_core.specs.declared.seen.Seen.TheVariants.{Unsteady, Tested}
 use Rattle.memory_report.specs.declared.findings.Word.{Word}
 use Rattle.memory_report.specs.declared.verdict.Verdict.{Verdict}
-use Rattle.memory_report.specs.Verdict.{and_then, both, is_bad_bit, verdict}
+use Rattle.memory_report.specs.Verdict.{and_then, verdict}
 
--- what one test of a word says of a bit, or two
-abbrev pub of_tests : Option Seen → Seen → ℕ → Option Verdict
-of_tests None last bit = verdict last bit
-of_tests (Some first) last bit = both (verdict first bit) (verdict last bit)
-
-abbrev pub word_verdict : Word → ℕ → Option Verdict
-word_verdict word bit = of_tests word.failed word.seen bit
-
--- one of so many bits is bad
-unfoldable pub fails_below : Word → ℕ → Bool
-fails_below word zero = false
-fails_below word (suc bits) = fails_below word bits || is_bad_bit (word_verdict word bits)
+-- the word did not hold both numbers that it was given, or its looks read two
+abbrev pub fails : Seen → Bool
+fails (Unsteady first second) = true
+fails (Tested r) = not (r.turned == complement r.old && r.back == r.old)
 
 abbrev pub is_bad : Word → Bool
-is_bad word = fails_below word 16
-
--- it did not hold once, and each bit that was bad then held the second time
-abbrev pub has_failed : Option Seen → Bool
-has_failed None = false
-has_failed (Some first) = true
-
-abbrev pub held_then : Word → Bool
-held_then word = has_failed word.failed && not (is_bad word)
+is_bad word = fails word.seen
 
 -- a bank has 4,096 words
 abbrev pub bank_of : ℕ → ℕ
@@ -45,7 +31,7 @@ seen_also (Some earlier) (Some next) = Some (and_then earlier next)
 
 -- words of other banks say nothing of this one
 abbrev pub join : ℕ → ℕ → Option Verdict → Word → Option Verdict
-join bank bit seen word = if is_in bank word then seen_also seen (word_verdict word bit) else seen
+join bank bit seen word = if is_in bank word then seen_also seen (verdict word.seen bit) else seen
 
 -- what was seen of a bit in all tested words of a bank
 abbrev pub column : List Word → ℕ → ℕ → Option Verdict
@@ -60,9 +46,6 @@ bad_in words bank = length (filter (λ word. is_in bank word && is_bad word) wor
 
 abbrev pub count_bad : List Word → ℕ
 count_bad words = length (filter is_bad words)
-
-abbrev pub count_held : List Word → ℕ
-count_held words = length (filter held_then words)
 
 abbrev pub all_hold : List Word → Bool
 all_hold words = count_bad words == 0

@@ -1,9 +1,9 @@
 //! The words that do not hold.
 ghost use Rattle.std.specs.Prelude.{◌≡◌, ◌+◌, ◌*◌, ◌≤◌, ◌++◌, length};
 ghost use Rattle.arrayvec.specs.ArrayVec.{array_vec_len};
-ghost use Rattle.memory_report.specs.Report.{bad_words_text, count_lines, held_lines, looks_text, more_lines, numbers_text, plural, readings_text, reads_text, shown_also, shown_text, word_text, words_text};
+ghost use Rattle.memory_report.specs.Report.{bad_words_text, count_lines, looks_text, more_lines, numbers_text, readings_text, reads_text, shown_also, shown_text, word_text, words_text};
 
-use crate::bank::{count_bad, count_held};
+use crate::bank::count_bad;
 use crate::findings::Word;
 use crate::report::Report;
 use byte_io::{push_bytes, push_decimal, push_octal};
@@ -12,17 +12,16 @@ use memory_core::{Readings, Seen};
 // How many of them are shown.
 const SHOWN: u64 = 8;
 
-/// Puts the first words that do not hold, how many more there are, how many were tested, and how many held the second time.
+/// Puts the first words that do not hold, how many more there are, and how many were tested.
 pub(crate) fn push_words(text: &mut Report, words: &[Word])
     requires room { array_vec_len text.old ≤ 1100 }
     ensures items { text.new.items ≡ text.old.items ++ words_text words.now }
-    ensures length { array_vec_len text.new ≤ array_vec_len text.old + 700 }
+    ensures length { array_vec_len text.new ≤ array_vec_len text.old + 602 }
 {
     let bad = count_bad(words);
     push_first(text, words);
     push_more(text, bad);
     push_count(text, words.len() as u64, bad);
-    push_held(text, count_held(words));
 }
 
 // Puts the first eight words that do not hold.
@@ -137,33 +136,4 @@ fn push_count(text: &mut Report, tested: u64, bad: u64)
     push_bytes(text, b" words, ");
     push_decimal(text, bad);
     push_bytes(text, b" do not hold\n");
-}
-
-// Puts whether it is one word or more.
-fn push_plural(text: &mut Report, count: u64)
-    requires room { array_vec_len text.old ≤ 1900 }
-    ensures items { text.new.items ≡ text.old.items ++ plural count }
-    ensures length { array_vec_len text.new ≤ array_vec_len text.old + 6 }
-{
-    if count == 1 {
-        push_bytes(text, b" word");
-    } else {
-        push_bytes(text, b" words");
-    }
-}
-
-// Puts how many words held the second time, where one did.
-fn push_held(text: &mut Report, held: u64)
-    requires room { array_vec_len text.old ≤ 1800 }
-    ensures items { text.new.items ≡ text.old.items ++ held_lines held }
-    ensures length { array_vec_len text.new ≤ array_vec_len text.old + 100 }
-{
-    if held > 0 {
-        push_decimal(text, held);
-        push_plural(text, held);
-        push_bytes(
-            text,
-            b" held the second time: the line, or a chip that is so now and then\n",
-        );
-    }
 }

@@ -1,6 +1,6 @@
 //! What was seen in a bank of 4,096 words.
 ghost use Rattle.std.specs.Prelude.{◌≡◌, ◌<◌};
-ghost use Rattle.memory_report.specs.Words.{bad_in, bank_of, column, count_bad, count_held, gap_in, join, tested_in};
+ghost use Rattle.memory_report.specs.Words.{bad_in, bank_of, column, count_bad, gap_in, join, tested_in};
 
 use crate::findings::Word;
 use crate::verdict::Verdict;
@@ -35,7 +35,7 @@ fn join(seen: Option<Verdict>, word: Word, bank: u16, bit: u8) -> Option<Verdict
     if bank_of(word.address) != bank {
         return seen;
     }
-    match (seen, word.verdict(bit)) {
+    match (seen, Verdict::of(word.seen, bit)) {
         (Some(earlier), Some(verdict)) => Some(earlier.and_then(verdict)),
         (None, verdict) => verdict,
         (Some(earlier), None) => Some(earlier),
@@ -75,19 +75,6 @@ pub(crate) fn count_bad(words: &[Word]) -> u64
     let mut count = 0;
     for word in words {
         if word.is_bad() {
-            count += 1;
-        }
-    }
-    count
-}
-
-/// How many words held the second time.
-pub(crate) fn count_held(words: &[Word]) -> u64
-    ensures value { result ≡ count_held words.now }
-{
-    let mut count = 0;
-    for word in words {
-        if word.held_then() {
             count += 1;
         }
     }

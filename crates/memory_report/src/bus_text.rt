@@ -1,8 +1,8 @@
 //! What was found of the bus.
-ghost use Rattle.std.specs.Prelude.{◌≡◌, ◌+◌, ◌*◌, ◌≤◌, ◌++◌, Some, codes, length};
+ghost use Rattle.std.specs.Prelude.{◌≡◌, ◌+◌, ◌*◌, ◌≤◌, ◌++◌, length};
 ghost use Rattle.arrayvec.specs.ArrayVec.{array_vec_len};
 ghost use Rattle.memory_report.specs.Bus.{bus_of, is_same, same_words};
-ghost use Rattle.memory_report.specs.Report.{bus_text, bus_text_at, same_shown_text, same_shown_also, same_text, same_words_text, touch_text, why_not};
+ghost use Rattle.memory_report.specs.Report.{bus_text, same_shown_text, same_shown_also, same_text, same_words_text, touch_text};
 
 use crate::findings::Bus;
 use crate::report::Report;
@@ -11,46 +11,20 @@ use byte_io::{push_bytes, push_decimal, push_octal};
 // How many words that are one with another are shown.
 const SHOWN: u64 = 8;
 
-/// Puts what was found of the bus, or why it was not tested.
+/// Puts what was found of the bus, where it was tested.
 pub(crate) fn push_bus(text: &mut Report, bus: &Bus)
     requires room { array_vec_len text.old ≤ 1800 }
     ensures items { text.new.items ≡ text.old.items ++ bus_text (bus_of bus.now) }
     ensures length { array_vec_len text.new ≤ array_vec_len text.old + 340 }
 {
-    match bus.at {
-        Some(at) => push_tested(text, at, bus),
-        None => push_untested(text, bus.unfit),
-    }
-}
-
-// Puts what was found of it at this word.
-fn push_tested(text: &mut Report, at: u16, bus: &Bus)
-    requires room { array_vec_len text.old ≤ 1800 }
-    ensures items { text.new.items ≡ text.old.items ++ bus_text_at (bus_of bus.now) (Some at) }
-    ensures length { array_vec_len text.new ≤ array_vec_len text.old + 340 }
-{
-    push_touch(text, bus.touches);
-    push_same_words(text, at, bus);
-    push_bytes(text, b"tested the bus at ");
-    push_octal(text, at);
-    push_bytes(text, b", beside ");
-    push_decimal(text, u64::from(bus.looked_at));
-    push_bytes(text, b" words\n");
-}
-
-// Puts why it was not tested.
-fn push_untested(text: &mut Report, unfit: Option<u16>)
-    requires room { array_vec_len text.old ≤ 1800 }
-    ensures items { text.new.items ≡ text.old.items ++ (codes "the bus was not tested: " ++ why_not unfit) }
-    ensures length { array_vec_len text.new ≤ array_vec_len text.old + 46 }
-{
-    push_bytes(text, b"the bus was not tested: ");
-    match unfit {
-        Some(address) => {
-            push_octal(text, address);
-            push_bytes(text, b" does not hold\n");
-        }
-        None => push_bytes(text, b"the test ended before\n"),
+    if let Some(at) = bus.at {
+        push_touch(text, bus.touches);
+        push_same_words(text, at, bus);
+        push_bytes(text, b"tested the bus at ");
+        push_octal(text, at);
+        push_bytes(text, b", beside ");
+        push_decimal(text, u64::from(bus.looked_at));
+        push_bytes(text, b" words\n");
     }
 }
 

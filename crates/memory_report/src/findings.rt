@@ -1,14 +1,12 @@
-ghost use Rattle.std.specs.Prelude.{◌≡◌, ◌<◌, ◌≤◌, ◌||◌, length};
+ghost use Rattle.std.specs.Prelude.{◌≡◌, ◌≤◌, length};
 ghost use Rattle.memory_report.specs.Bus.{bus_of, is_same, same_words};
 ghost use Rattle.memory_report.specs.Report.{found_of, is_good};
-ghost use Rattle.memory_report.specs.Verdict.{is_bad_bit};
-ghost use Rattle.memory_report.specs.Words.{all_hold, held_then, is_bad, word_verdict};
+ghost use Rattle.memory_report.specs.Words.{all_hold, is_bad};
 
 use crate::bank::count_bad;
 use crate::bus_text::count_same;
 use crate::test_end::TestEnd;
-use crate::verdict::{Verdict, both};
-use memory_core::{Borrowed, Seen};
+use memory_core::{Borrowed, Readings, Seen};
 
 /// A word that was tested, or that read differently with nothing deposited.
 #[derive(Clone, Copy)]
@@ -16,59 +14,21 @@ pub struct Word {
     /// Its address.
     pub address: u16,
 
-    /// What was read of it, in its last test.
+    /// What was read of it.
     pub seen: Seen,
-
-    /// And in the one before, if it did not hold there.
-    pub failed: Option<Seen>,
 }
 
 impl Word {
-    /// Whether a bit of it did not hold what it was given, each time it was tested.
+    /// Whether it did not hold what it was given.
     pub fn is_bad(self) -> bool
         ensures { result ≡ is_bad self }
     {
-        fails(self)
-    }
-
-    /// Whether it did not hold once, and each bit that was bad then held the second time.
-    pub fn held_then(self) -> bool
-        ensures { result ≡ held_then self }
-    {
-        self.failed.is_some() && !self.is_bad()
-    }
-
-    /// What its tests say of its bit number `bit`, counted from 0: it is bad where it was in each of them.
-    pub(crate) fn verdict(self, bit: u8) -> Option<Verdict>
-        requires { bit < 16 }
-        ensures { result ≡ word_verdict self bit }
-    {
-        let last = Verdict::of(self.seen, bit);
-        match self.failed {
-            Some(first) => both(Verdict::of(first, bit), last),
-            None => last,
+        match self.seen {
+            Seen::Unsteady(_, _) => true,
+            Seen::Tested(Readings { old, turned, back }) => {
+                turned != u16::MAX.saturating_sub(old) || back != old
+            }
         }
-    }
-}
-
-// Whether one of its bits is bad.
-fn fails(word: Word) -> bool
-    ensures { result ≡ is_bad word }
-{
-    let mut bad = false;
-    for bit in 0..16u8 {
-        bad = fails_also(bad, word.verdict(bit));
-    }
-    bad
-}
-
-// Whether one is, with one bit more.
-fn fails_also(bad: bool, verdict: Option<Verdict>) -> bool
-    ensures { result ≡ (bad || is_bad_bit verdict) }
-{
-    match verdict {
-        None | Some(Verdict::Holds) => bad,
-        Some(_) => true,
     }
 }
 
@@ -79,13 +39,7 @@ pub struct Bus {
     /// The word at which it was tested, if it was.
     pub at: Option<u16>,
 
-    /// Else the one that it was to be tested at, if that did not hold.
-    pub unfit: Option<u16>,
-
-    /// Whether a number would not stand there once, though each of its bits can, by itself.
-    pub doubted: bool,
-
-    /// Whether one would not the second time.
+    /// Whether a number would not stand there though each of its bits can, by itself.
     pub touches: bool,
 
     /// How many words were looked at while that word held a mark, each one address line away.
@@ -124,7 +78,7 @@ pub struct Findings {
 }
 
 impl Findings {
-    /// Whether each tested word holds what it was given, at least the second time, no data lines touch, and no two words are one.
+    /// Whether each tested word holds what it was given, no data lines touch, and no two words are one.
     pub fn is_good(&self) -> bool
         ensures { result ≡ is_good (found_of self.now) }
     {

@@ -18,7 +18,7 @@ const CLEARED: &str = "\r\x1b[K";
 // How many minutes are long.
 const LONG: u64 = 2;
 
-// More words than the first block of a new tape has: behind that a save goes on, and a load is worth a word of it.
+// More words than the first block of a new tape has: behind that a save goes on.
 const FIRST_BLOCK: u32 = 256;
 
 // That nothing is lost at a break, on a line of its own.
@@ -30,8 +30,8 @@ type LineText = ArrayString<160>;
 /// Shows, while a load or a reading goes on, how many words are done of all, the mishaps, and the time
 /// left at the pace so far: one line, at most ten times a second. A terminal that has fewer columns cuts
 /// it, so that it never wraps. Where it takes two minutes or more, a line above it says so once, as soon as
-/// the pace is known, and that a break costs nothing, where that is so; of more words than a block of a tape has, that
-/// stands there from the beginning. Where the line that is listened to is not silent for ten seconds, another says
+/// the pace is known, and that a break costs nothing, where that is so; of a reading of more words than a block of a tape
+/// has, that stands there from the beginning. Where the line that is listened to is not silent for ten seconds, another says
 /// what comes. What can't be written is left out.
 #[derive(Drop)]
 pub struct ProgressLine<'a, C: Clock, E: Print> {
@@ -153,10 +153,10 @@ impl<'a, C: Clock, E: Print> ProgressLine<'a, C, E> {
         }
     }
 
-    // Says once at the beginning that a break costs nothing, where that is so and the words are many.
+    // Says at the beginning that a break costs nothing, where a reading of so many words has several blocks. Of a load
+    // whoever names a record knows it.
     fn hint(&self, words: u32) {
-        let is_kept = self.kept_in != KeptIn::Nothing;
-        if is_kept && words > FIRST_BLOCK && !self.has_hinted.get() {
+        if self.kept_in == KeptIn::Part && words > FIRST_BLOCK {
             self.has_hinted.set(true);
             self.say(HINT);
         }
@@ -242,14 +242,14 @@ fn showing_line(showing: Showing) -> Option<LineText> {
     }
 }
 
-// What is written until the first key to show that it goes on behind words that were done before, and ahead of that, for a
-// narrow terminal, what is to be done where they are lost; none where that has no room.
+// What is written until the first key to show that it goes on behind words that were done before; none where that has no
+// room.
 fn going_on_line(done: u32, words: u32, kept_in: KeptIn) -> Option<LineText> {
     let mut line = LineText::new();
     let remedy = kept_in.remedy();
     match write!(
         line,
-        "\r\x1b[?7l{remedy}going on behind {done} of {words} words, listening\x1b[K\x1b[?7h"
+        "\r\x1b[?7lgoing on behind {done} of {words} words, listening{remedy}\x1b[K\x1b[?7h"
     ) {
         Ok(()) => Some(line),
         Err(_) => None,

@@ -31,14 +31,14 @@ impl KeptIn {
     pub(crate) fn remedy(self) -> &'static str {
         match self {
             KeptIn::Nothing => "",
-            KeptIn::Record => "power lost? use --recheck; ",
-            KeptIn::Part => "power lost? remove the .part file; ",
+            KeptIn::Record => "; power lost? use --recheck",
+            KeptIn::Part => "; power lost? remove the .part file",
         }
     }
 }
 
-/// How far it is, as it is shown: `12 of 28 words, 42%, 0:31 left, 1 mishap`, of which a terminal of 40 columns cuts no
-/// more than the mishaps, and before that the word that is tested: `testing 001000, it held 000123: `.
+/// How far it is, as it is shown: `12 of 28 words, 42%, 1 mishap, 0:31 left`, and before that the word that is
+/// tested, which a narrow terminal must not cut: `testing 001000, it held 000123: `.
 #[derive(Clone, Copy)]
 pub struct Showing {
     /// The word that is tested, where one is.
@@ -94,6 +94,15 @@ impl Showing {
         }
     }
 
+    // The mishaps, where there were any.
+    fn put_mishaps<W: fmt::Write>(&self, f: &mut fmt::Formatter<W>) -> fmt::Result {
+        match self.mishaps {
+            0 => Ok(()),
+            1 => f.write_str(", 1 mishap"),
+            mishaps => write!(f, ", {mishaps} mishaps"),
+        }
+    }
+
     // The time left, where it is known: minutes and seconds, and hours where there are any.
     fn put_time_left<W: fmt::Write>(&self, f: &mut fmt::Formatter<W>) -> fmt::Result {
         let Some(left) = self.seconds_left else {
@@ -106,22 +115,13 @@ impl Showing {
             write!(f, ", {hours}:{minutes:02}:{seconds:02} left")
         }
     }
-
-    // The mishaps, where there were any.
-    fn put_mishaps<W: fmt::Write>(&self, f: &mut fmt::Formatter<W>) -> fmt::Result {
-        match self.mishaps {
-            0 => Ok(()),
-            1 => f.write_str(", 1 mishap"),
-            mishaps => write!(f, ", {mishaps} mishaps"),
-        }
-    }
 }
 
 impl fmt::Display for Showing {
     fn fmt<W: fmt::Write>(&self, f: &mut fmt::Formatter<W>) -> fmt::Result {
         self.put_word(f)?;
         self.put_counts(f)?;
-        self.put_time_left(f)?;
-        self.put_mishaps(f)
+        self.put_mishaps(f)?;
+        self.put_time_left(f)
     }
 }

@@ -11,7 +11,7 @@ plural count = if count == 1 then codes " character" else codes " characters"
 -- the line that tells how many came changed
 abbrev pub changed_line : ℕ → List ℕ
 changed_line count =
-    codes "ldaodt: " ++ (decimal count ++ (plural count ++ codes " came changed, late for --quiet, or not from ODT: docs/REAL-MACHINE.md, step 7\n"))
+    codes "ldaodt: " ++ (decimal count ++ (plural count ++ codes " came changed, or not from ODT: docs/REAL-MACHINE.md, step 7\n"))
 
 -- standard error was told that so many came changed, where any did, of a request at a machine: that line and nothing else
 abbrev pub IsChangeTold : Request → ℕ → StandardError → StandardError → Type 0

@@ -44,7 +44,7 @@ fn changed_line(count: u32) -> Line
     push_bytes(&mut line, plural(count));
     push_bytes(
         &mut line,
-        b" came changed, late for --quiet, or not from ODT: docs/REAL-MACHINE.md, step 7\n",
+        b" came changed, or not from ODT: docs/REAL-MACHINE.md, step 7\n",
     );
     line
 }

@@ -29,8 +29,7 @@ use witness::Witness;
 /// of its parts has it; and behind all that, of a request at a machine, that characters came changed, by the witness's
 /// count. What can't be written there is not told. Nor is that standard output can't be written, where
 /// the request does nothing but print and nobody reads any more. A load of a machine and a look at it show
-/// on the terminal, where there is one, how far they are; and what a refused tape is
-/// instead, or what tape was made, is told there.
+/// on the terminal, where there is one, how far they are; and what a refused tape is instead is told there.
 ///
 /// Part by part, where the system tells: the files that are named are opened in their order; the console that is
 /// named is asked for once, and no other; its line is given back, with what was said on it and no more; the disk is
@@ -56,9 +55,7 @@ pub fn attempt<K: Kinds, R: Read, W: Output, E: FaultOutput, T: Print>(
             let outcome = print_answer(&mut system.inputs, alloc, request, streams);
             (system, outcome)
         }
-        Request::Tape(TapeRequest::Make(make)) => {
-            make_words(system, alloc, *make, streams, terminal)
-        }
+        Request::Tape(TapeRequest::Make(make)) => make_words(system, alloc, *make, streams),
         Request::Machine(MachineRequest::Load(names, load)) => {
             load_tapes(system, alloc, names, *load, streams, terminal, witness)
         }
@@ -79,7 +76,7 @@ pub fn attempt<K: Kinds, R: Read, W: Output, E: FaultOutput, T: Print>(
         }
         Request::Machine(MachineRequest::Probe(probe)) => {
             say_probing(alloc, terminal, probe.look);
-            let outcome = probe_console(&mut system, alloc, *probe, streams, terminal, witness);
+            let outcome = probe_console(&mut system, alloc, *probe, streams, witness);
             (system, outcome)
         }
         Request::Machine(MachineRequest::Memory(test)) => {

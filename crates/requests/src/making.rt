@@ -11,29 +11,27 @@ ghost use Rattle.requests.specs.Saving.{new_shelf};
 
 use crate::request_fault::RequestFault;
 use crate::system::{Kinds, System};
-use advice::say_made;
 use endings::{Failure, FaultOutput, Output, Status, Streams};
 use record_file::Disk;
 use request_values::Make;
 use std::alloc::Global;
-use std::io::{Print, Read};
+use std::io::Read;
 use tape_commands::tape_of_words;
 use tape_shelf::{NewFile, Shelf, ShelfFault};
 
 /// Makes a tape of octal words in a new file, in a system that comes back, and answers the exit status.
 ///
-/// Nothing is printed, and no console is asked for; the terminal, where there is one, is told what was made. The disk is asked once the bytes of the tape are there, so where the
+/// Nothing is printed, and no console is asked for. The disk is asked once the bytes of the tape are there, so where the
 /// words are refused nothing is asked of it, and what is told then is that.
 ///
 /// `CannotRead` names the words' file, or standard input, `WordsRefused` has the first line that is wrong. `FileIsThere`,
 /// `PartIsThere` and `CannotWriteFile` name the new file, which is then as it was. `NoMemory` comes only where a growth
 /// was refused, with no tape put there.
-pub(crate) fn make_words<'a, K: Kinds, R: Read, W: Output, E: FaultOutput, T: Print>(
+pub(crate) fn make_words<'a, K: Kinds, R: Read, W: Output, E: FaultOutput>(
     system: System<K>,
     alloc: Global,
     make: Make<'a>,
     streams: &mut Streams<R, W, E>,
-    terminal: Option<&T>,
 ) -> (System<K>, Result<Status, Failure<'a>>)
     ensures ok { IfOk result.1 (AreWordsMade make.entry (moment K.Disk.holds system streams.old ⇒ moment K.Disk.holds result.0 streams.new)) }
     ensures err { IfErr result.1 (AreWordsUnmade make.entry (moment K.Disk.holds system streams.old ⇒ moment K.Disk.holds result.0 streams.new)) }
@@ -48,7 +46,6 @@ pub(crate) fn make_words<'a, K: Kinds, R: Read, W: Output, E: FaultOutput, T: Pr
     match tape_of_words(&mut inputs, alloc, make, streams) {
         Ok(text) => {
             let (disk, put) = put_on(disk, alloc, make.file, &text);
-            say_put(alloc, terminal, &text, put.is_ok());
             let system = System::new(inputs, disk, consoles, clock);
             (system, put)
         }
@@ -56,13 +53,6 @@ pub(crate) fn make_words<'a, K: Kinds, R: Read, W: Output, E: FaultOutput, T: Pr
             let system = System::new(inputs, disk, consoles, clock);
             (system, Err(failure))
         }
-    }
-}
-
-// Tells the terminal what tape was put there, if one was.
-fn say_put<T: Print>(alloc: Global, terminal: Option<&T>, text: &[u8], is_put: bool) {
-    if is_put {
-        say_made(alloc, terminal, text);
     }
 }
 

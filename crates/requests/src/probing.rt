@@ -8,29 +8,27 @@ ghost use Rattle.requests.specs.Probing.{IsConsoleProbed, IsConsoleUnprobed, IsP
 use crate::ending::after_probe;
 use crate::request_fault::RequestFault;
 use crate::system::{Kinds, System};
-use advice::advise_probe;
 use console_lines::{Consoles, Dial};
 use endings::{Failure, FaultOutput, Output, Status, Streams};
 use machine_probe::{ProbeOptions, probe};
 use request_values::Probe;
 use std::alloc::Global;
-use std::io::{Print, Read, Write};
+use std::io::{Read, Write};
 use std::time::Clock;
 use witness::Witness;
 
 /// Probes a console, in a system, and answers the exit status.
 ///
 /// The report goes to standard output. No file is opened, and nothing is asked of the disk. The witness counts the changed
-/// characters. A terminal, where there is one, is told what helps.
+/// characters.
 ///
 /// `CannotConnect` comes before anything was sent. `LineFailed` comes behind the report. `CannotWrite` is a report
 /// that could not be written whole. `NoMemory` comes only where a growth was refused, with nothing reported.
-pub(crate) fn probe_console<'a, K: Kinds, R: Read, W: Output, E: FaultOutput, T: Print>(
+pub(crate) fn probe_console<'a, K: Kinds, R: Read, W: Output, E: FaultOutput>(
     system: &mut System<K>,
     alloc: Global,
     request: Probe<'a>,
     streams: &mut Streams<R, W, E>,
-    terminal: Option<&T>,
     witness: &Witness,
 ) -> Result<Status, Failure<'a>>
     ensures ok { IfOk result (IsConsoleProbed request.entry (moment K.Disk.holds system.old streams.old ⇒ moment K.Disk.holds system.new streams.new)) }
@@ -44,19 +42,17 @@ pub(crate) fn probe_console<'a, K: Kinds, R: Read, W: Output, E: FaultOutput, T:
         &mut system.consoles,
         out,
         &system.clock,
-        terminal,
         witness,
     )
 }
 
 // Probes one of these consoles.
-fn probe_over<'a, C: Consoles, W: Write, H: Clock, T: Print>(
+fn probe_over<'a, C: Consoles, W: Write, H: Clock>(
     alloc: Global,
     request: Probe<'a>,
     consoles: &mut C,
     out: &mut W,
     clock: &H,
-    terminal: Option<&T>,
     witness: &Witness,
 ) -> Result<Status, Failure<'a>>
     ensures ok { IfOk result (IsProbeOver request.entry
@@ -76,10 +72,7 @@ fn probe_over<'a, C: Consoles, W: Write, H: Clock, T: Print>(
         quiet_ms: look.quiet_ms,
     };
     match probe(alloc, options, consoles, dial, out, clock, witness) {
-        Ok(end) => {
-            advise_probe(terminal, end, witness.changed());
-            after_probe(end)
-        }
+        Ok(end) => after_probe(end),
         // There is no file, so that no fault names one.
         Err(fault) => Err(RequestFault::Probe(fault).failure(look.line, look.line)),
     }

@@ -29,6 +29,9 @@ impl FirstHeld for Brand {
 pub struct NotedOutput<W: Write, E: FirstHeld> {
     output: W,
     notes: ReportNotes,
+
+    // Whether the last line that was written has no end yet.
+    is_mid_line: bool,
     of: PhantomData<E>,
 }
 
@@ -51,8 +54,14 @@ impl<W: Write, E: FirstHeld> NotedOutput<W, E> {
         NotedOutput {
             output,
             notes: ReportNotes::new(),
+            is_mid_line: false,
             of: PhantomData,
         }
+    }
+
+    /// Whether the last line that was written has no end yet.
+    pub fn is_mid_line(&self) -> bool {
+        self.is_mid_line
     }
 
     /// What was noted of all that was written.
@@ -71,6 +80,9 @@ impl<W: Write, E: FirstHeld> Write for NotedOutput<W, E> {
         let answer = self.output.write(buf);
         if let Ok(count) = answer {
             self.notes.see(&buf[..count]);
+            if let Some(byte) = buf[..count].last() {
+                self.is_mid_line = *byte != b'\n';
+            }
         }
         answer
     }

@@ -9,12 +9,12 @@ use Rattle.input_files.specs.Inputs.{Known, AreOpened, FailsUnopened, means_inpu
 use Rattle.input_files.specs.Intake.{Intake}
 use Rattle.request_values.specs.declared.request.Make.{Make}
 
--- no tape with this start was made of the words of an input, which faults call by this name
-abbrev pub IsUnmade : ℕ → List ℕ → Known → Known → Failure → Type 0
-IsUnmade start name held rest (WordsRefused refusal) = IsNotMade start held rest (fault.Words refusal)
-IsUnmade start name held rest (CannotRead given) = (given.now ≡ name) × IsNotMade start held rest fault.Read
-IsUnmade start name held rest NoMemory = IsNotMade start held rest fault.Memory
-IsUnmade start name held rest other = ⊥
+-- no tape was made of the words of an input, which faults call by this name
+abbrev pub IsUnmade : List ℕ → Known → Known → Failure → Type 0
+IsUnmade name held rest (WordsRefused refusal) = IsNotMade held rest (fault.Words refusal)
+IsUnmade name held rest (CannotRead given) = (given.now ≡ name) × IsNotMade held rest fault.Read
+IsUnmade name held rest NoMemory = IsNotMade held rest fault.Memory
+IsUnmade name held rest other = ⊥
 
 -- this is so of standard input, and no file was opened
 pub record OfInput (before after : Intake) (P : List ℕ → Known → Known → Type 0) : Type 0 where
@@ -42,4 +42,4 @@ IsTapeMade make before after made = OfWords make.words before after (λ name hel
 abbrev pub IsTapeUnmade : Make → Intake → Intake → Failure → Type 0
 IsTapeUnmade make before after failure =
     ((means_input (make.words ∷ []) ≡ false) × FailsUnopened (make.words ∷ []) before after failure)
-    ⊎ OfWords make.words before after (λ name held rest. IsUnmade make.start name held rest failure)
+    ⊎ OfWords make.words before after (λ name held rest. IsUnmade name held rest failure)

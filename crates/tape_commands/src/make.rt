@@ -14,8 +14,7 @@ use tape_making::{MakeFault, make_tape};
 /// The bytes of the tape that octal words make: those of standard input where their name is `-`, else those in the
 /// file. Nothing is written.
 ///
-/// `CannotRead` names what can't be opened or read, `WordsRefused` has the first line that is wrong, or says that there is
-/// no word. `NoMemory` comes
+/// `CannotRead` names what can't be opened or read, `WordsRefused` has the first line that is wrong. `NoMemory` comes
 /// only where a growth was refused.
 pub fn tape_of_words<'a, F: InputFiles, R: Read, W: Output, E: FaultOutput>(
     inputs: &mut F,
@@ -45,7 +44,7 @@ fn made_of<'a, R: Read>(
     start: u16,
 ) -> Result<Vec<u8>, Failure<'a>>
     ensures ok { IfOk result (λ made. IsMade (R.remaining words.old) (R.remaining words.new) start made.items) }
-    ensures err { IfErr result (IsUnmade start name.entry.now (R.remaining words.old) (R.remaining words.new)) }
+    ensures err { IfErr result (IsUnmade name.entry.now (R.remaining words.old) (R.remaining words.new)) }
 {
     match make_tape(alloc, words, start) {
         Ok(made) => Ok(made),

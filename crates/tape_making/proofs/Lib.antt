@@ -5,8 +5,6 @@ mod Made
 mod Zips
 mod Numbers
 mod Lines
-mod Agreeing
-mod Typings
 mod Laying
 mod Readings
 mod OneReading

@@ -3,5 +3,4 @@ pub mod Making
 pub mod Words
 pub mod Refusal
 pub mod Sheet
-pub mod Typing
 pub mod Reading

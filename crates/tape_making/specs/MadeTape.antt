@@ -1,14 +1,10 @@
 -- The tape that is made of words (this project's own).
-use Rattle.std.specs.Prelude.{◌≡◌, ◌⊎◌, ℕ, ◌+◌, ◌%◌, ◌<◌, ◌≤◌, List, Option, Some, None, Err, ⊤, IsSome, length, slice_index, slice_index_or, All, AllPairs}
+use Rattle.std.specs.Prelude.{◌≡◌, ◌⊎◌, ℕ, ◌+◌, ◌<◌, ◌≤◌, List, Option, Some, None, IsSome, length, slice_index, slice_index_or, All, AllPairs}
 use Rattle.tape_values.specs.Block.{BlockValue}
 use Rattle.tape_values.specs.Tape.{TapeValue}
 use Rattle.tape_image.specs.Image.{byte_at, image_of}
 use Rattle.tape_image.specs.Plan.{plan_of, plan_with, program_start}
-use Rattle.tape_making.specs.declared.refusal.Refusal.{Refusal}
-use Rattle.tape_making.specs.declared.refusal.WordsWhy.TheVariants.{Empty}
-use Rattle.tape_making.specs.declared.refusal.WordsFault.{WordsFault}
-use Rattle.tape_making.specs.declared.refusal.WordsFault.TheVariants.{Refused, Memory}
-use Rattle.tape_making.specs.Words.{HasRows, IsReading}
+use Rattle.tape_making.specs.Words.{HasRows}
 
 -- the byte for an address, of a list that has one for each from 0 on, or none
 abbrev pub byte_on : List (Option ℕ) → ℕ → Option ℕ
@@ -47,31 +43,9 @@ pub record IsTapeOf (byte_for : ℕ → Option ℕ) (start : ℕ) (tape : TapeVa
   pub rising : AllPairs IsBefore tape.blocks
   pub start_is : tape.start ≡ start
 
--- the tape has the words that a text says, each where it says, and no others; so its plan, which `check` lists, has these words; without any it
--- starts something
+-- the tape has the words that a text says, each where it says, and no others; so its plan, which `check` lists, has these words
 pub record IsTapeSaid (text : List ℕ) (start : ℕ) (tape : TapeValue) : Type 0 where
   pub rows : List BlockValue
   pub are : HasRows text rows
   pub is_tape : IsTapeOf (byte_at rows) start tape
   pub plan : plan_of tape ≡ plan_with (image_of rows) (program_start start)
-  pub does : start % 2 ≡ 1 → (a : ℕ) × IsSome (byte_at rows a)
-
--- a text that has no word
-abbrev pub empty : Refusal
-empty = record { line = 0; why = Empty }
-
--- a tape of a text would be for nothing
-pub record IsForNothing (text : List ℕ) (start : ℕ) : Type 0 where
-  pub rows : List BlockValue
-  pub are : HasRows text rows
-  pub none : (a : ℕ) → byte_at rows a ≡ None
-  pub starts_nothing : start % 2 ≡ 1
-
--- why no tape is made of a text: it is refused, or the tape would be for nothing
-abbrev pub IsUntaped : List ℕ → ℕ → Refusal → Type 0
-IsUntaped text start refusal = IsReading text (Err refusal) ⊎ ((refusal ≡ empty) × IsForNothing text start)
-
--- the same, or memory was wanting
-abbrev pub IsTapeFault : List ℕ → ℕ → WordsFault → Type 0
-IsTapeFault text start (Refused refusal) = IsUntaped text start refusal
-IsTapeFault text start Memory = ⊤

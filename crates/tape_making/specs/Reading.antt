@@ -1,5 +1,5 @@
 -- What reading a line or a text comes to, where memory may be wanting.
-use Rattle.std.specs.Prelude.{◌≡◌, ℕ, List, ◌++◌, Bool, Option, Some, None, Result, Ok, Err, ⊤, All}
+use Rattle.std.specs.Prelude.{◌≡◌, ℕ, List, ◌++◌, Option, Some, None, Result, Ok, Err, ⊤}
 use Rattle.std.specs.Option.{option_to_list}
 use Rattle.tape_values.specs.Block.{BlockValue}
 use Rattle.tape_making.specs.declared.refusal.WordsWhy.{WordsWhy}
@@ -9,7 +9,7 @@ use Rattle.tape_making.specs.declared.refusal.RowFault.TheVariants.{Wrong, Memor
 use Rattle.tape_making.specs.declared.refusal.WordsFault.{WordsFault}
 use Rattle.tape_making.specs.declared.refusal.WordsFault.TheVariants as fault
 use Rattle.tape_making.specs.declared.sheet.Sheet.{Sheet}
-use Rattle.tape_making.specs.Words.{Agrees, HasRows, IsReading, IsWrong, Says}
+use Rattle.tape_making.specs.Words.{HasRows, IsReading, Says}
 use Rattle.tape_making.specs.Sheet.{HoldsRows}
 
 -- no numbers are such, or memory was wanting
@@ -23,16 +23,15 @@ said_by (Ok row) = Some (Ok row)
 said_by (Err (Wrong why)) = Some (Err why)
 said_by (Err Memory) = None
 
--- why a line was not laid on a sheet: it is wrong behind the sheet's rows, or memory was wanting
-abbrev pub IsRowFault : (ℕ → Bool) → List ℕ → Sheet → RowFault → Type 0
-IsRowFault typed line sheet (Wrong why) = (rows : List BlockValue) → HoldsRows rows sheet → IsWrong typed rows line why
-IsRowFault typed line sheet Memory = ⊤
+-- why a line was not read: it is wrong, or memory was wanting
+abbrev pub IsRowFault : List ℕ → RowFault → Type 0
+IsRowFault line (Wrong why) = Says line (Err why)
+IsRowFault line Memory = ⊤
 
 -- what a line says was laid over what a sheet had
-pub record LaysLine (typed : ℕ → Bool) (line : List ℕ) (old new : Sheet) : Type 0 where
+pub record LaysLine (line : List ℕ) (old new : Sheet) : Type 0 where
   pub row : Option BlockValue
-  pub says : Says typed line (Ok row)
-  pub agrees : (rows : List BlockValue) → HoldsRows rows old → All (Agrees rows) (option_to_list row)
+  pub says : Says line (Ok row)
   pub lays : (rows : List BlockValue) → HoldsRows rows old → HoldsRows (rows ++ option_to_list row) new
 
 -- why the text is not read where this is wrong with the line of this number

@@ -1,7 +1,7 @@
 -- What is said of words that are refused (this project's own).
 use Rattle.std.specs.Prelude.{ℕ, List, ◌++◌, codes, decimal}
 use Rattle.tape_making.specs.declared.refusal.WordsWhy.{WordsWhy}
-use Rattle.tape_making.specs.declared.refusal.WordsWhy.TheVariants.{BadNumber, NoWords, OddAddress, PastTop, Ambiguous, Twice, Empty, TooLong}
+use Rattle.tape_making.specs.declared.refusal.WordsWhy.TheVariants.{BadNumber, NoWords, OddAddress, PastTop, TooLong}
 use Rattle.tape_making.specs.declared.refusal.Refusal.{Refusal}
 
 -- the reason's name, as it is printed
@@ -10,9 +10,6 @@ why_text BadNumber = codes "BadNumber"
 why_text NoWords = codes "NoWords"
 why_text OddAddress = codes "OddAddress"
 why_text PastTop = codes "PastTop"
-why_text Ambiguous = codes "Ambiguous"
-why_text Twice = codes "Twice"
-why_text Empty = codes "Empty"
 why_text TooLong = codes "TooLong"
 
 -- the line and the reason

@@ -1,5 +1,5 @@
 -- A sheet of memory: a byte for each address, where there is one.
-use Rattle.std.specs.Prelude.{◌≡◌, ◌==◌, ℕ, ◌+◌, ◌≤◌, Bool, not, false, List, Option, Some, None, length, slice_index_or}
+use Rattle.std.specs.Prelude.{◌≡◌, ℕ, List, Option, None, length, slice_index_or}
 use Rattle.tape_values.specs.Block.{BlockValue, top}
 use Rattle.tape_image.specs.Image.{byte_at}
 use Rattle.tape_making.specs.declared.sheet.Sheet.{Sheet}
@@ -7,15 +7,6 @@ use Rattle.tape_making.specs.declared.sheet.Sheet.{Sheet}
 -- what a sheet has for each address, from 0 on
 abbrev pub bytes_on : Sheet → List (Option ℕ)
 bytes_on sheet = sheet.bytes.items
-
--- there was a byte, and another one
-abbrev pub differs : Option ℕ → ℕ → Bool
-differs None byte = false
-differs (Some was) byte = not (was == byte)
-
--- a row ends at or below 160000
-abbrev pub IsWithin : BlockValue → Type 0
-IsWithin row = row.address + length row.bytes ≤ top
 
 -- a sheet has for each address below 160000 the byte of the last row that has one, and no other bytes
 pub record HoldsRows (rows : List BlockValue) (sheet : Sheet) : Type 0 where

@@ -3,8 +3,6 @@
 //!
 //!     001000 012700 000377      an address, and the words from there on
 //!     001000/012700             as ODT shows a word
-//!     001000/000000 012700      and what was typed over it
-//!     001000: 012700            as SIMH shows a word
 //!     ; a remark                behind `;` or `#`
 //!
 //! `read_words` lays the words of a text on a `Sheet`, a byte for each address of memory, or answers the
@@ -22,7 +20,6 @@ mod refusal;
 mod sheet;
 mod tape;
 mod text;
-mod typing;
 
 pub use law::one_reading;
 pub use making::{MakeFault, make_tape};

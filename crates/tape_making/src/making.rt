@@ -68,11 +68,11 @@ impl From<AllocError> for MakeFault {
 /// The bytes of the tape that the words of an input make, with this start address; an odd one starts
 /// nothing. The input is read to its end, and at most 4,194,305 bytes are taken on any outcome.
 ///
-/// `Words` is the first line that is wrong, and why, or that without words nothing is started; `Read` a read that failed, whatever its error says:
+/// `Words` is the first line that is wrong, and why; `Read` a read that failed, whatever its error says:
 /// the input is not asked again; `Memory` comes only where a growth was refused.
 pub fn make_tape<R: Read>(alloc: Global, words: &mut R, start: u16) -> Result<Vec<u8>, MakeFault>
     ensures made { IfOk result (λ made. IsMade (R.remaining words.old) (R.remaining words.new) start made.items) }
-    ensures not_made { IfErr result (IsNotMade start (R.remaining words.old) (R.remaining words.new)) }
+    ensures not_made { IfErr result (IsNotMade (R.remaining words.old) (R.remaining words.new)) }
 {
     let text = read_up_to(alloc, words, INPUT_LIMIT)?;
     let tape = tape_from(alloc, &text, start)?;

@@ -36,11 +36,11 @@ fn fields_of(alloc: Global, text: &[u8]) -> Result<Vec<&[u8]>, AllocError>
         .collect(alloc)
 }
 
-// A space, a tab, the CR of a line that ends with CR LF, and ODT's prompt.
+// A space, a tab, and the CR of a line that ends with CR LF.
 fn is_blank(c: u8) -> bool
     ensures { result ≡ is_blank c }
 {
-    c == b' ' || c == b'\t' || c == b'\r' || c == b'@'
+    c == b' ' || c == b'\t' || c == b'\r'
 }
 
 // The number that one to six octal digits stand for.

@@ -3,8 +3,8 @@ use std::alloc::{AllocError, AllocFailed};
 /// Why a line of words is refused, or the whole text.
 #[derive(Clone, Copy)]
 pub enum WordsWhy {
-    /// Something on the line is no octal number of one to six digits, or is above 177777; a slash or a colon
-    /// stands elsewhere than behind the address; or more than two numbers stand behind a slash.
+    /// Something on the line is no octal number of one to six digits, or is above 177777, or a slash
+    /// stands elsewhere than behind the address.
     BadNumber,
 
     /// An address with no word.
@@ -15,15 +15,6 @@ pub enum WordsWhy {
 
     /// The address is 160000 (octal) or above, or a word of the line would be.
     PastTop,
-
-    /// Two numbers behind a slash may be two words from there on, or what stood there and what was typed.
-    Ambiguous,
-
-    /// An address is given again with another value than on a line before.
-    Twice,
-
-    /// The text has no word, and nothing is to be started: at line 0.
-    Empty,
 
     /// The text has more than 4,194,304 bytes (this project's choice): at line 0.
     TooLong,
@@ -43,9 +34,6 @@ impl WordsWhy {
             WordsWhy::NoWords => "NoWords",
             WordsWhy::OddAddress => "OddAddress",
             WordsWhy::PastTop => "PastTop",
-            WordsWhy::Ambiguous => "Ambiguous",
-            WordsWhy::Twice => "Twice",
-            WordsWhy::Empty => "Empty",
             WordsWhy::TooLong => "TooLong",
         }
     }
@@ -54,7 +42,7 @@ impl WordsWhy {
 /// Which line of words is refused, and why.
 #[derive(Clone, Copy)]
 pub struct Refusal {
-    /// The line's number, from 1; 0 is the text as a whole.
+    /// The line's number, from 1; 0 is a text that is too long.
     pub line: usize,
 
     /// The reason.

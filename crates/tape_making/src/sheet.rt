@@ -1,8 +1,7 @@
 //! A sheet of memory.
-ghost use Rattle.std.specs.Prelude.{◌≡◌, ℕ, [], ◌∷◌, ◌++◌, List, None, true, false, length, slice_index_or, IfOk};
-ghost use Rattle.tape_values.specs.Block.{BlockValue, top};
-ghost use Rattle.tape_making.specs.Words.{Agrees};
-ghost use Rattle.tape_making.specs.Sheet.{HoldsRows, IsWithin, bytes_on, differs};
+ghost use Rattle.std.specs.Prelude.{◌≡◌, ℕ, [], ◌∷◌, ◌++◌, List, None, length, slice_index_or, IfOk};
+ghost use Rattle.tape_values.specs.Block.{BlockValue, IsBlock, top};
+ghost use Rattle.tape_making.specs.Sheet.{HoldsRows, bytes_on};
 
 use std::alloc::{AllocError, Global};
 use tape_values::{Block, TOP};
@@ -23,26 +22,10 @@ impl Sheet {
         })
     }
 
-    /// Whether the sheet has no other byte for an address of a row.
-    pub(crate) fn agrees(&self, row: &Block) -> bool
-        requires size { length (bytes_on self.now) ≡ top }
-        requires within { IsWithin row.now }
-        ensures same { result ≡ true → (rows : List BlockValue) → HoldsRows rows self.now → Agrees rows row.now }
-        ensures another { result ≡ false → (rows : List BlockValue) → HoldsRows rows self.now → Agrees rows row.now → ⊥ }
-    {
-        let first = usize::from(row.address);
-        for (offset, byte) in row.bytes.iter().enumerate() {
-            if differs(self.bytes[first + offset], *byte) {
-                return false;
-            }
-        }
-        true
-    }
-
     /// Lays a row over what the sheet has.
     pub(crate) fn lay(&mut self, row: &Block)
         requires size { length (bytes_on self.old) ≡ top }
-        requires within { IsWithin row.now }
+        requires within { IsBlock row.now }
         ensures { (rows : List BlockValue) → HoldsRows rows self.old → HoldsRows (rows ++ row.now ∷ []) self.new }
     {
         let first = usize::from(row.address);
@@ -56,16 +39,6 @@ impl Sheet {
         ensures { result.now ≡ bytes_on self.now }
     {
         &self.bytes
-    }
-}
-
-// Whether there was a byte, and another one.
-fn differs(was: Option<u8>, byte: u8) -> bool
-    ensures { result ≡ differs was byte }
-{
-    match was {
-        Some(was) => was != byte,
-        None => false,
     }
 }
 

@@ -1,21 +1,19 @@
 //! Whole texts of words.
 ghost use Rattle.std.specs.Prelude.{◌≡◌, map, length, IfOk, MatchResult};
 ghost use Rattle.tape_values.specs.Block.{top};
-ghost use Rattle.tape_making.specs.Words.{IsTyped, lines};
-ghost use Rattle.tape_making.specs.Typing.{IsWhole, typed_at};
+ghost use Rattle.tape_making.specs.Words.{lines};
 ghost use Rattle.tape_making.specs.Sheet.{bytes_on};
 ghost use Rattle.tape_making.specs.Reading.{HoldsText, IsRowFault, IsWordsFault, LaysLine, fault_at};
 
-use crate::line::{note_line, read_line};
+use crate::line::read_line;
 use crate::refusal::{Refusal, RowFault, WordsFault, WordsWhy};
 use crate::sheet::Sheet;
-use crate::typing::Typing;
 use std::alloc::{AllocError, Global};
 
 /// The most bytes that a text of words may have (this project's choice).
 pub const WORDS_LIMIT: usize = 4_194_304;
 
-/// The sheet of what a text says, where every line has a form and no address has two values.
+/// The sheet of what a text says, where every line has a form; later words at an address count.
 ///
 /// `Refused` is the first line that is wrong and why, or a text of more than 4,194,304 bytes: at line 0.
 /// `Memory` comes only where a growth was refused.
@@ -26,10 +24,9 @@ pub fn read_words(alloc: Global, text: &[u8]) -> Result<Sheet, WordsFault>
         return Err(fault_at(0, RowFault::Wrong(WordsWhy::TooLong)));
     }
     let lines = lines_of(alloc, text)?;
-    let typing = typing_of(alloc, &lines)?;
     let mut sheet = Sheet::new(alloc)?;
     for (index, line) in lines.iter().enumerate() {
-        match lay_line(alloc, line, &typing, &mut sheet) {
+        match lay_line(alloc, line, &mut sheet) {
             Ok(()) => {}
             Err(fault) => return Err(fault_at(index + 1, fault)),
         }
@@ -44,31 +41,14 @@ fn lines_of(alloc: Global, text: &[u8]) -> Result<Vec<&[u8]>, AllocError>
     text.split(|c| *c == b'\n').collect(alloc)
 }
 
-// At which addresses lines show that words were typed.
-fn typing_of(alloc: Global, lines: &[&[u8]]) -> Result<Typing, AllocError>
-    ensures whole { IfOk result IsWhole }
-    ensures typed { IfOk result (λ typing. IsTyped (map (λ line. line.now) lines.now) (typed_at typing)) }
+// Lays what a line says on a sheet.
+fn lay_line(alloc: Global, line: &[u8], sheet: &mut Sheet) -> Result<(), RowFault>
+    requires { length (bytes_on sheet.old) ≡ top }
+    ensures { MatchResult result (λ _. LaysLine line.now sheet.old sheet.new) (IsRowFault line.now) }
 {
-    let mut typing = Typing::new(alloc)?;
-    for line in lines {
-        note_line(alloc, line, &mut typing)?;
-    }
-    Ok(typing)
-}
-
-// Lays what a line says on a sheet that has no other value for an address of it.
-fn lay_line(alloc: Global, line: &[u8], typing: &Typing, sheet: &mut Sheet) -> Result<(), RowFault>
-    requires whole { IsWhole typing.now }
-    requires size { length (bytes_on sheet.old) ≡ top }
-    ensures { MatchResult result (λ _. LaysLine (typed_at typing.now) line.now sheet.old sheet.new)
-        (IsRowFault (typed_at typing.now) line.now sheet.old) }
-{
-    let said = read_line(alloc, line, typing)?;
+    let said = read_line(alloc, line)?;
     match said {
         Some(row) => {
-            if !sheet.agrees(&row) {
-                return Err(RowFault::Wrong(WordsWhy::Twice));
-            }
             sheet.lay(&row);
             Ok(())
         }

@@ -17,5 +17,5 @@ mod seen;
 mod watched;
 
 pub use file::WatchedFile;
-pub use seen::{BLOCK, END_LENGTH, End, FRONT_LENGTH, Front, Witness};
+pub use seen::{END_LENGTH, End, FRONT_LENGTH, Front, Witness};
 pub use watched::Watched;

@@ -16,11 +16,8 @@ pub const END_LENGTH: usize = 6;
 /// The last bytes that were read of a file, and 000 before its beginning.
 pub type End = [u8; END_LENGTH];
 
-/// What each block of a tape begins with.
-pub const BLOCK: [u8; 2] = [1, 0];
-
 /// What was seen of a system: how it failed last, since it opened something, and with which bytes the file begins that was
-/// begun to be read last, where a block may begin in it, and which were read of it last; and how many characters of a line no loss explains.
+/// begun to be read last, and which were read of it last; and how many characters of a line no loss explains.
 ///
 /// Nothing is kept of a failure that says no more than the program's own words do: that a name is taken already, that a
 /// call was interrupted, which is then made again, or that nothing has a name which was asked after before it is made.
@@ -31,7 +28,6 @@ pub struct Witness {
     // How a read failed first. A file that is read ahead is told of once its turn comes, when others were opened.
     unread: Cell<Option<io::Error>>,
     front: Cell<Front>,
-    block: Cell<Option<usize>>,
     end: Cell<End>,
 
     // Whether files may have been read ahead of their turn.
@@ -47,7 +43,6 @@ impl Witness {
             error: Cell::new(None),
             unread: Cell::new(None),
             front: Cell::new([0; FRONT_LENGTH]),
-            block: Cell::new(None),
             end: Cell::new([0; END_LENGTH]),
             is_ahead: Cell::new(false),
             changed: Cell::new(0),
@@ -68,16 +63,6 @@ impl Witness {
             None
         } else {
             Some(self.front.get())
-        }
-    }
-
-    /// At which byte of the same file, from 0, a block may begin first, where that is among those that were read at once. None
-    /// as for its first.
-    pub fn block(&self) -> Option<usize> {
-        if self.is_ahead.get() {
-            None
-        } else {
-            self.block.get()
         }
     }
 
@@ -144,16 +129,12 @@ impl Witness {
         answer
     }
 
-    /// Keeps the first bytes of a file, of which these were read at once.
+    /// Keeps the first bytes of a file.
     pub(crate) fn see_front(&self, bytes: &[u8]) {
         let mut front = [0; FRONT_LENGTH];
         let count = bytes.len().min(FRONT_LENGTH);
         front[..count].copy_from_slice(&bytes[..count]);
         self.front.set(front);
-        let block = bytes
-            .windows(BLOCK.len())
-            .position(|pair| pair.starts_with(&BLOCK));
-        self.block.set(block);
         self.end.set([0; END_LENGTH]);
     }
 

@@ -1,8 +1,8 @@
 use Rattle.std.proofs.Common.{◌∙◌, arith, ap, length, refl, subst, sym}
 use Rattle.reading_core.specs.Reader.{Reader}
 use Rattle.machine_memory.specs.BusRuns.{IsReady}
-use Rattle.machine_memory.specs.Course.{AreWords, IsWithin, Standing}
-use Rattle.machine_memory.proofs.BusLeads.{back_is, look_led, look_or_named, look_ready, look_step, look_within, look_words, looked_or, named_step, restored}
+use Rattle.machine_memory.specs.Course.{AreWords, Standing}
+use Rattle.machine_memory.proofs.BusLeads.{back_is, look_led, look_or_named, look_ready, look_step, look_words, looked_or, named_step, restored}
 use Rattle.machine_memory.proofs.Leads.{map_err, map_ok}
 use Rattle.machine_memory.proofs.bus_steps.look_around.Goals as goal
 
@@ -49,8 +49,3 @@ returns-in-Err-clause-cut g c =
 pub returns-in-Ok-clause-words : goal.returns-in-Ok-clause-words
 returns-in-Ok-clause-words g c =
     subst AreWords (sym (ap (λ (s : Standing). s.words) c.behind_look.ensures ∙ look_words c.args.course c.args.word c.inquire-core.result.0 c.inquire-core.result.1)) c.requires.words
-
-pub returns-in-Ok-clause-within : goal.returns-in-Ok-clause-within
-returns-in-Ok-clause-within g c =
-    subst (λ (s : Standing). IsWithin c.args.options.to s.place) (sym c.behind_look.ensures)
-    (look_within c.args.options.to c.args.course c.args.word c.inquire-core.result.0 c.inquire-core.result.1 c.requires.word)

@@ -1,6 +1,5 @@
-use Rattle.std.proofs.Common.{◌∙◌, subst, sym}
-use Rattle.machine_memory.specs.Course.{IsWithin, Standing}
-use Rattle.machine_memory.proofs.BusLeads.{back_is, mark_step, mark_within, marked_or, named_step, or_named, restored}
+use Rattle.std.proofs.Common.{◌∙◌, sym}
+use Rattle.machine_memory.proofs.BusLeads.{back_is, mark_step, marked_or, named_step, or_named, restored}
 use Rattle.machine_memory.proofs.Leads.{map_err, map_ok}
 use Rattle.machine_memory.proofs.bus_steps.mark_word.Goals as goal
 
@@ -31,7 +30,3 @@ returns-in-Ok-clause-made g c =
     marked_or c.args.options c.args.word c.args.place c.args.course c.behind_mark.result (told c.args.line.now) (told led.new.line)
     (mark_step c.args.options c.args.word c.args.place number c.args.course c.behind_mark.result led.result (told c.args.line.now) (told led.new.line)
     c.number_at-number.ensures (led.ensures c.args.options c.args.word.address number c.in-Ok.ensures) c.behind_mark.ensures)
-
-pub returns-in-Ok-clause-within : goal.returns-in-Ok-clause-within
-returns-in-Ok-clause-within g c =
-    subst (λ (s : Standing). IsWithin c.args.options.to s.place) (sym c.behind_mark.ensures) (mark_within c.args.options.to c.args.place c.args.course c.args.word c.lead_deposit-stop.result c.requires.within)

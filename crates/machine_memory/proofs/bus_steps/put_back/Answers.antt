@@ -11,7 +11,7 @@ returns-clause-made g c options has =
     put_back_step options c.args.word c.args.course c.behind_put_back.result led.result (told c.args.line.now) (told led.new.line) (led.ensures options c.args.word.address c.args.word.old has) c.behind_put_back.ensures
 
 pub returns-clause-within : goal.returns-clause-within
-returns-clause-within g c to range = subst (λ (s : Standing). IsWithin to s.place) (sym c.behind_put_back.ensures) (put_back_within to c.args.course c.args.word c.lead_deposit-stop.result range)
+returns-clause-within g c to = subst (λ (s : Standing). IsWithin to s.place) (sym c.behind_put_back.ensures) (put_back_within to c.args.course c.args.word c.lead_deposit-stop.result)
 
 pub returns-clause-ready : goal.returns-clause-ready
 returns-clause-ready g c = subst (λ (s : Standing). IsUnlent s.place) (sym c.behind_put_back.ensures) (put_back_ready c.args.course c.args.word c.lead_deposit-stop.result)

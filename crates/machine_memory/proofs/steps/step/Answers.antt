@@ -2,7 +2,7 @@ use Rattle.std.proofs.Common.{◌≡◌, IfOk, OnErr, ap, subst, sym, ◌∙◌}
 use Rattle.machine_probe.specs.Runs.{OnLine}
 use Rattle.machine_memory.specs.declared.course.Place.{Place}
 use Rattle.machine_memory.specs.declared.course.Place.TheVariants.{Marking, PuttingBack, Trying}
-use Rattle.machine_memory.specs.Course.{IsWithin, Standing}
+use Rattle.machine_memory.specs.Course.{Standing}
 use Rattle.machine_memory.specs.BusRuns.{HasBack, IsReady}
 use Rattle.machine_memory.specs.Runs.{IsCutStep, IsStepAt}
 use Rattle.machine_memory.proofs.steps.step.Goals as goal
@@ -27,6 +27,4 @@ returns-in-PuttingBack-clause-made g c =
     subst (λ (place : Place). OnLine (IsStepAt c.args.options place c.args.course c.put_back.result) (told c.args.line.now) (told c.put_back.new.line)) (sym is) (c.put_back.ensures.made c.args.options has)
 
 pub returns-in-PuttingBack-clause-within : goal.returns-in-PuttingBack-clause-within
-returns-in-PuttingBack-clause-within g c =
-    let is : c.args.course.place ≡ PuttingBack c.in-PuttingBack.word = sym (ap (λ (s : Standing). s.place) c.course.view_is) ∙ c.in-PuttingBack.is in
-    c.put_back.ensures.within c.args.options.to (subst (IsWithin c.args.options.to) is c.requires.within)
+returns-in-PuttingBack-clause-within g c = c.put_back.ensures.within c.args.options.to

@@ -11,6 +11,6 @@ gathered a b d e f first second third third' fourth p q r s is t =
 
 pub returns : goal.returns
 returns c =
-    gathered _ _ _ _ _ (codes "ldaodt: ") (decimal c.args.count) (plural c.args.count) _ (codes " came changed, late for --quiet, or not from ODT: docs/REAL-MACHINE.md, step 7\n")
+    gathered _ _ _ _ _ (codes "ldaodt: ") (decimal c.args.count) (plural c.args.count) _ (codes " came changed, or not from ODT: docs/REAL-MACHINE.md, step 7\n")
     c.new-line.ensures c.push_bytes.ensures.items
     (subst (λ n. c.push_decimal.new.text.items ≡ c.push_bytes.new.text.items ++ decimal n) c.from.ensures c.push_decimal.ensures.items) c.push_bytes-2.ensures.items c.plural.ensures.text c.push_bytes-3.ensures.items

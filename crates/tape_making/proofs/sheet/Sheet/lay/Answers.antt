@@ -1,8 +1,7 @@
 use Rattle.std.proofs.Common.{◌≡◌, ◌+◌, ◌<◌, length, get_or, arith, ap, sym, refl, ◌∙◌, None, length-set, subst}
 use Rattle.std.specs.Option.{option_or}
-use Rattle.tape_values.specs.Block.{BlockValue, block_at}
+use Rattle.tape_values.specs.Block.{BlockValue, IsBlock, block_at}
 use Rattle.tape_image.proofs.Laying.{byte_in-nothing}
-use Rattle.tape_making.specs.Sheet.{IsWithin}
 use Rattle.tape_making.proofs.Laying.{laid_more, rows_more}
 use Rattle.tape_making.proofs.sheet.Sheet.lay.Goals as goal
 
@@ -17,8 +16,8 @@ loop-offset-preserved c =
     let place = c.from-first.ensures in
     let bytes = c.deref-byte-items.ensures.value in
     let row : ◌≡◌ {A = BlockValue} (block_at c.from-first.result c.deref-byte-items.result.now) c.args.row.now = (λ i. record { address = place i; bytes = bytes i }) ∙ c.row.view_is in
-    let within : IsWithin (block_at c.from-first.result c.deref-byte-items.result.now) = subst IsWithin (sym row) c.requires.within in
-    let room : c.from-first.result + c.loop-offset.offset < length c.loop-offset.self.bytes.items = omega (arith, c.loop-offset.invariant.size, within) in
+    let within : IsBlock (block_at c.from-first.result c.deref-byte-items.result.now) = subst IsBlock (sym row) c.requires.within in
+    let room : c.from-first.result + c.loop-offset.offset < length c.loop-offset.self.bytes.items = omega (arith, c.loop-offset.invariant.size, within.below_top) in
     record {
       size = length-set c.loop-offset.self.bytes.items (c.from-first.result + c.loop-offset.offset) _ ∙ c.loop-offset.invariant.size;
       laid = laid_more c.from-first.result c.loop-offset.offset c.deref-byte-items.result.now c.args.self.now.bytes.items c.loop-offset.self.bytes.items c.loop-offset-test.true room c.loop-offset.invariant.laid;

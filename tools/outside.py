@@ -1,4 +1,4 @@
-"""The built program, run from outside: what the tests and tools/hostile share."""
+"""The built program, run from outside: what tests/ and tools/hostile share."""
 import collections
 import errno
 import glob
@@ -10,11 +10,14 @@ import signal
 import subprocess
 import sys
 import tempfile
+import threading
+import time
 
 TOP = os.path.dirname(os.path.dirname(os.path.realpath(__file__)))
 PROGRAM = f"{TOP}/ldaodt"
 FIRST = f"{TOP}/examples/first.lda"
 HELLO = f"{TOP}/examples/hello.lda"
+BAD_TAPE = f"{TOP}/examples/refused/bad-sum.lda"
 LOST_DIGIT = f"{TOP}/examples/losses/third-digit-lost.script"
 NO_OUTPUT = "ldaodt: cannot write output\n"
 
@@ -32,7 +35,7 @@ HINTS = {
     errno.EINVAL: ": LINE is HOST:PORT or a path with a slash",
 }
 NO_TERMINAL, IN_USE = "no terminal", "in use by another program: 'fuser -v' shows which"
-NO_PORT = f"invalid port value{HINTS[errno.EINVAL]}"
+NO_ADDRESS, NO_PORT = (f"invalid {it}{HINTS[errno.EINVAL]}" for it in ("socket address", "port value"))
 
 
 def fault(text, why=None):
@@ -51,7 +54,7 @@ def line_failed(why):
 def came_changed(count):
     """The line that tells of so many characters which no loss explains; none where there are none."""
     many = "1 character" if count == 1 else f"{count} characters"
-    return f"ldaodt: {many} came changed, late for --quiet, or not from ODT: docs/REAL-MACHINE.md, step 7\n" if count else ""
+    return f"ldaodt: {many} came changed, or not from ODT: docs/REAL-MACHINE.md, step 7\n" if count else ""
 
 
 def beside_changes(given):
@@ -174,6 +177,24 @@ def kept_in(path):
         address, *values = torn.split(" ")
         words.extend((int(address, 8) + 2 * i, 0o177777, int(it, 8)) for i, it in enumerate(values) if len(it) == 6)
     return words, mark
+
+
+# ---------------------------------------------------------------- a busy computer
+
+class HeldUp(threading.Thread):
+    """A watch that looks at the clock every few milliseconds, and knows for how long this process did not run at most:
+    so long an answer of its machines may have been late."""
+
+    def __init__(self, pause=0.005):
+        super().__init__(daemon=True)
+        self.pause, self.longest, self.is_over = pause, 0.0, False
+
+    def run(self):
+        last = time.monotonic()
+        while not self.is_over:
+            time.sleep(self.pause)
+            now = time.monotonic()
+            self.longest, last = max(self.longest, now - last - self.pause), now
 
 
 # ---------------------------------------------------------------- want of memory

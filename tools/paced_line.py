@@ -1,22 +1,28 @@
+#!/usr/bin/env python3
 """A load in simulated time: the program, which is run, over a line whose characters take the time that they would take, however busy
 this computer is.
 
-The machine is an LSI-11 that runs what is started.
+    tools/paced_line.py [--baud N] [--latency MS] [--instruction US] WORD..
+
+Runs ./ldaodt with these words, in which LINE stands for the line, at an LSI-11 that runs what is started, and prints what that took.
 
 The clocks of the two ends may differ. What comes to the host comes later by the line's latency, as behind an adapter that holds
 characters back. Where nothing more is to come, the host is left alone until it types or ends, and a quiet time of two seconds counts as
 passed. The program is given each character alone, and each only once it waits for one: so what it types is known to be its answer, and
 goes onto the line at the time at which it heard what it answers.
 """
+import argparse
 import os
 import re
+import resource
 import select
 import socket
 import subprocess
+import sys
 import time
 from collections import deque
 
-import cases  # finds tools/
+sys.dont_write_bytecode = True
 import lsi11
 import odt_peer
 from outside import PROGRAM, Answer, text_of
@@ -175,3 +181,23 @@ class PacedLine:
 
 def is_there(end, seconds):
     return bool(select.select([end], [], [], seconds)[0])
+
+
+def main():
+    words = argparse.ArgumentParser(description=__doc__, formatter_class=argparse.RawDescriptionHelpFormatter)
+    words.add_argument("--baud", type=int, default=9600)
+    words.add_argument("--latency", type=float, default=0, help="in milliseconds: %(default)s")
+    words.add_argument("--instruction", type=float, default=INSTRUCTION * 1e6, help="in microseconds: %(default)s")
+    words.add_argument("words", metavar="WORD", nargs=argparse.REMAINDER)
+    asked = words.parse_args()
+    line = PacedLine(PacedMachine(), asked.baud, asked.instruction / 1e6, latency=asked.latency / 1000)
+    given = line.load(asked.words)
+    used = resource.getrusage(resource.RUSAGE_CHILDREN)
+    print(given.out + given.err, end="")
+    print(f"characters {line.passed} seconds {line.seconds:.1f} character times {line.time / line.character_time:.0f} "
+          f"microseconds of a processor for each {(used.ru_utime + used.ru_stime) * 1e6 / line.passed:.1f}")
+    return given.status
+
+
+if __name__ == "__main__":
+    sys.exit(main())
